@@ -1,0 +1,20 @@
+-- The listed cases hold, by computation from the bytes of the images.
+-- Assumes nothing.
+use mathlib.Core.Path.{_≡_, refl}
+use mathlib.Core.Bool.{true}
+use Rattle.model.specs.Tests.{all}
+use Rattle.model.specs.Ward.{holds, starred, settled}
+use Rattle.model.specs.Refusals.{isJudged, judgedImages}
+use Rattle.model.proofs.Computing.{computing}
+
+pub starred-hold : all holds starred ≡ true
+unfolding computing
+starred-hold = refl
+
+pub settled-hold : all holds settled ≡ true
+unfolding computing
+settled-hold = refl
+
+pub judged-so : all isJudged judgedImages ≡ true
+unfolding computing
+judged-so = refl

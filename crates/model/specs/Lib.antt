@@ -1,0 +1,11 @@
+pub mod Tests
+pub mod Sets
+pub mod Image
+pub mod Policy
+pub mod Bytes
+pub mod Line
+pub mod Choice
+pub mod Session
+pub mod Run
+pub mod Ward
+pub mod Refusals

@@ -1,0 +1,202 @@
+-- What the words of an accepted image mean: the policy, four tables read off its entries, and what it means for one user.
+-- Assumes nothing.
+use mathlib.Core.Path.{_≡_}
+use mathlib.Core.Bool.{Bool, true, false, _&&_}
+use mathlib.Core.List.{List, [], _∷_, _++_, map}
+use Prim.Native.Nat.{ℕ, zero, suc, _+_, _^_}
+use lib.Dec.{eqb, ltb}
+use lib.ListN.{getD, set, take}
+use Rattle.model.specs.declared.User.{User}
+use Rattle.model.specs.declared.Role.{Role}
+use Rattle.model.specs.declared.Permission.{Permission}
+use Rattle.model.specs.declared.Head.{Head}
+use Rattle.model.specs.declared.Kind.{Kind}
+use Rattle.model.specs.declared.Kind.the-variants.{SsDmer, MsDmer, SsHmer, MsHmer}
+use Rattle.model.specs.declared.Exclusion.{Exclusion}
+use Rattle.model.specs.declared.Entry.{Entry}
+use Rattle.model.specs.declared.Entry.the-variants.{Assignment, Grant, Senior, Exclude, Member, End, Unknown}
+use Rattle.model.specs.declared.Word.{Word}
+use Rattle.model.specs.Tests.{pick, any, all}
+use Rattle.model.specs.Sets.{has, union, inter, with, count, unionAt}
+use Rattle.model.specs.Image.{wordAt, behindHead, decode, assigning, headOf, emptyRows}
+
+-- ---- the entries of an image
+
+unfoldable pub entryAt : List ℕ → ℕ → Entry
+entryAt s place = decode (wordAt s place) .entry
+
+-- those of n words from the place on
+unfoldable pub entriesFrom : List ℕ → ℕ → ℕ → List Entry
+entriesFrom s zero place = []
+entriesFrom s (suc n) place = entryAt s place ∷ entriesFrom s n (place + 1)
+
+-- those of the words behind the head, in image order
+unfoldable pub entriesOf : List ℕ → List Entry
+entriesOf s = entriesFrom s (behindHead s) 1
+
+-- ---- tables: each entry changes the row it names
+
+-- row r: the permissions granted to role r
+unfoldable pub granting : List ℕ → Entry → List ℕ
+granting rows (Assignment u r) = rows
+granting rows (Grant r p) = set rows (r .0) (with (getD rows (r .0) 0) (p .0))
+granting rows (Senior a b) = rows
+granting rows (Exclude x m) = rows
+granting rows (Member r) = rows
+granting rows End = rows
+granting rows Unknown = rows
+
+-- row a: the direct juniors of role a, those that a senior word places it over
+unfoldable pub ordering : List ℕ → Entry → List ℕ
+ordering rows (Assignment u r) = rows
+ordering rows (Grant r p) = rows
+ordering rows (Senior a b) = set rows (a .0) (with (getD rows (a .0) 0) (b .0))
+ordering rows (Exclude x m) = rows
+ordering rows (Member r) = rows
+ordering rows End = rows
+ordering rows Unknown = rows
+
+-- the entries, each taken into a by the step
+unfoldable pub fold : {A : Type 0} → (A → Entry → A) → A → List Entry → A
+fold step a [] = a
+fold step a (e ∷ es) = fold step (step a e) es
+
+-- ---- exclusions: an exclusion word and the m member words behind it
+
+unfoldable pub joining : ℕ → Entry → ℕ
+joining s (Assignment u r) = s
+joining s (Grant r p) = s
+joining s (Senior a b) = s
+joining s (Exclude x m) = s
+joining s (Member r) = with s (r .0)
+joining s End = s
+joining s Unknown = s
+
+-- the exclusion with the members that the entries name
+unfoldable pub withMembers : Exclusion → List Entry → Exclusion
+withMembers x es = record { kind = x .kind; limit = x .limit; members = fold joining (x .members) es }
+
+unfoldable pub exclusionsOf : List Entry → List Exclusion
+exclusionsOf [] = []
+exclusionsOf (Assignment u r ∷ es) = exclusionsOf es
+exclusionsOf (Grant r p ∷ es) = exclusionsOf es
+exclusionsOf (Senior a b ∷ es) = exclusionsOf es
+exclusionsOf (Exclude x m ∷ es) = withMembers x (take m es) ∷ exclusionsOf es
+exclusionsOf (Member r ∷ es) = exclusionsOf es
+exclusionsOf (End ∷ es) = exclusionsOf es
+exclusionsOf (Unknown ∷ es) = exclusionsOf es
+
+-- ---- the policy
+
+pub record Policy : Type 0 where
+  pub head : Head
+  pub assigned : List ℕ
+  pub granted : List ℕ
+  pub juniors : List ℕ
+  pub exclusions : List Exclusion
+
+-- the policy of an image; of an accepted one, what its words mean
+unfoldable pub policyOf : List ℕ → Policy
+policyOf s =
+    record {
+      head = headOf (wordAt s 0);
+      assigned = fold assigning emptyRows (entriesOf s);
+      granted = fold granting emptyRows (entriesOf s);
+      juniors = fold ordering emptyRows (entriesOf s);
+      exclusions = exclusionsOf (entriesOf s);
+    }
+
+-- ---- what a role carries: the grants of the roles reached by a chain of senior words, its own among them (001: π)
+
+-- a row that has k takes in the other row
+unfoldable pub taking : ℕ → ℕ → ℕ → ℕ
+taking k other row = pick (has row k) (union row other) row
+
+-- each row that has k takes in row k
+unfoldable pub through : ℕ → List ℕ → List ℕ
+through k rows = map (taking k (getD rows k 0)) rows
+
+-- Warshall's closure, by the roles below n
+unfoldable pub closed : ℕ → List ℕ → List ℕ
+closed zero rows = rows
+closed (suc n) rows = through n (closed n rows)
+
+-- the list of f at 0, 1, .. below n
+unfoldable pub tableOf : ℕ → (ℕ → ℕ) → List ℕ
+tableOf zero f = []
+tableOf (suc n) f = tableOf n f ++ (f n ∷ [])
+
+-- row a: role a and its direct juniors
+unfoldable pub selfAndJuniors : List ℕ → List ℕ
+selfAndJuniors juniors = tableOf 64 (λ a. with (getD juniors a 0) a)
+
+-- row a: the roles reached from role a by a chain of senior words, itself among them
+unfoldable pub reached : Policy → List ℕ
+reached p = closed (p .head .roles) (selfAndJuniors (p .juniors))
+
+-- row r: the permissions that role r carries
+unfoldable pub carriedTable : Policy → List ℕ
+carriedTable p = map (unionAt (p .granted)) (reached p)
+
+-- ---- what a policy means for one user
+
+-- the roles that a user may activate (01: may switch on): those assigned
+unfoldable pub authorized : Policy → ℕ → ℕ
+authorized p u = getD (p .assigned) u 0
+
+-- the exclusion is met where kind k counts the roles `counted k`
+unfoldable pub met : (Kind → ℕ) → Exclusion → Bool
+met counted x = ltb (count 64 (inter (x .members) (counted (x .kind)))) (x .limit)
+
+-- what the session rules see of a policy: the numbers of roles and permissions, the roles that the user may activate, what each role
+-- carries, and whether every exclusion is met where kind k counts the roles `counted k`
+pub record Meaning : Type 0 where
+  pub roles : ℕ
+  pub permissions : ℕ
+  pub authorized : ℕ
+  pub carried : List ℕ
+  pub allMet : (Kind → ℕ) → Bool
+
+unfoldable pub meaning : Policy → ℕ → Meaning
+meaning p u =
+    record {
+      roles = p .head .roles;
+      permissions = p .head .permissions;
+      authorized = authorized p u;
+      carried = carriedTable p;
+      allMet = λ counted. all (met counted) (p .exclusions);
+    }
+
+-- ---- policies that agree for one user
+
+-- the policy without other users' assignments
+unfoldable pub onlyFor : ℕ → Policy → Policy
+onlyFor u p =
+    record {
+      head = p .head;
+      assigned = tableOf 64 (λ v. pick (eqb v u) (getD (p .assigned) v 0) 0);
+      granted = p .granted;
+      juniors = p .juniors;
+      exclusions = p .exclusions;
+    }
+
+unfoldable pub kindNumber : Kind → ℕ
+kindNumber SsDmer = 0
+kindNumber MsDmer = 1
+kindNumber SsHmer = 2
+kindNumber MsHmer = 3
+
+unfoldable pub sameExclusion : Exclusion → Exclusion → Bool
+sameExclusion x y = eqb (kindNumber (x .kind)) (kindNumber (y .kind)) && eqb (x .limit) (y .limit) && eqb (x .members) (y .members)
+
+-- the exclusion is one of the policy's
+unfoldable pub excludes : Policy → Exclusion → Bool
+excludes p x = any (λ y. sameExclusion y x) (p .exclusions)
+
+-- the policies agree in all but other users' assignments, order and repeats of their entries aside: a table's row is a set
+pub record Agree (u : ℕ) (p q : Policy) : Type 0 where
+  pub heads : p .head ≡ q .head
+  pub own : getD (p .assigned) u 0 ≡ getD (q .assigned) u 0
+  pub grants : p .granted ≡ q .granted
+  pub seniors : p .juniors ≡ q .juniors
+  pub exclusions : (x : Exclusion) → excludes p x ≡ excludes q x

@@ -1,0 +1,132 @@
+-- Images and how they are judged: image A with words replaced, put in or left out, each with the number and the place of its refusal
+-- (0, 0: accepted). Each clause of the register's lines 1 to 8 has a case, and so has each tie.
+-- Assumes nothing.
+use mathlib.Core.Bool.{Bool}
+use mathlib.Core.List.{List, [], _∷_, _++_}
+use Prim.Native.Nat.{ℕ, zero, suc, _+_, _*_, _^_}
+use lib.ListN.{take, drop, replicate}
+use Rattle.model.specs.declared.Checked.{Checked}
+use Rattle.model.specs.declared.Checked.the-variants.{Accepted, Refused}
+use Rattle.model.specs.Image.{judge}
+use Rattle.model.specs.Ward.{imageBytes, ended, imageA, sameList}
+
+unfoldable pub verdict : Checked → List ℕ
+verdict (Accepted h) = 0 ∷ 0 ∷ []
+verdict (Refused n place) = n ∷ place ∷ []
+
+-- image A without its end word
+unfoldable pub bodyA : List ℕ
+bodyA = take 12 imageA
+
+-- image A with the word at place i replaced by ws, balanced
+unfoldable pub edited : ℕ → List ℕ → List ℕ
+edited i ws = imageBytes (ended (take i bodyA ++ (ws ++ drop (suc i) bodyA)))
+
+-- the same with an end word that does not balance it
+unfoldable pub unbalanced : ℕ → List ℕ → List ℕ
+unbalanced i ws = imageBytes (take i bodyA ++ (ws ++ drop (suc i) bodyA) ++ (0xF0000001 ∷ []))
+
+-- user 0 assigned to the roles 0 to n - 1
+unfoldable pub assignments : ℕ → List ℕ
+assignments zero = []
+assignments (suc n) = assignments n ++ ((0x20000000 + n * 2 ^ 16) ∷ [])
+
+-- n times image A's exclusion
+unfoldable pub exclusionWords : ℕ → List ℕ
+exclusionWords zero = []
+exclusionWords (suc n) = 0x54102000 ∷ 0x60000000 ∷ 0x60400000 ∷ exclusionWords n
+
+-- one user, 17 roles
+unfoldable pub wide : List ℕ → List ℕ
+wide ws = 0x102440A0 ∷ ws
+
+pub record Judged : Type 0 where
+  pub image : List ℕ
+  pub verdict : List ℕ
+
+unfoldable pub isJudged : Judged → Bool
+isJudged j = sameList (verdict (judge (j .image))) (j .verdict)
+
+unfoldable pub judged : List ℕ → ℕ → ℕ → Judged
+judged image n place = record { image = image; verdict = n ∷ place ∷ [] }
+
+unfoldable pub judgedImages : List Judged
+judgedImages =
+    judged (imageBytes imageA) 0 0
+    -- 1, length: empty, not a multiple of 4, below 8, above 16,384
+    ∷ judged [] 1 0
+    ∷ judged (0 ∷ imageBytes imageA) 1 0
+    ∷ judged (take 51 (imageBytes imageA)) 1 0
+    ∷ judged (take 4 (imageBytes imageA)) 1 0
+    ∷ judged (replicate 16388 0) 1 0
+    -- 2, head: kind, U, R and P too small and too large, spare bits
+    ∷ judged (edited 0 (0x202080A0 ∷ [])) 2 0
+    ∷ judged (edited 0 (0x100080A0 ∷ [])) 2 0
+    ∷ judged (edited 0 (0x182080A0 ∷ [])) 2 0
+    ∷ judged (edited 0 (0x102000A0 ∷ [])) 2 0
+    ∷ judged (edited 0 (0x103040A0 ∷ [])) 2 0
+    ∷ judged (edited 0 (0x10208000 ∷ [])) 2 0
+    ∷ judged (edited 0 (0x1020A020 ∷ [])) 2 0
+    ∷ judged (edited 0 (0x102080A1 ∷ [])) 2 0
+    ∷ judged (edited 0 (0x102080B0 ∷ [])) 2 0
+    -- the largest head
+    ∷ judged (edited 0 (0x18102000 ∷ [])) 0 0
+    -- 3, kind: 0, 1, 7 and 14, a member not due, no member where due, an end before the end, a last word that is no end
+    ∷ judged (edited 3 (0x00000000 ∷ [])) 3 3
+    ∷ judged (edited 3 (0x102080A0 ∷ [])) 3 3
+    ∷ judged (edited 3 (0x70000000 ∷ [])) 3 3
+    ∷ judged (edited 3 (0xE0000000 ∷ [])) 3 3
+    ∷ judged (edited 3 (0x60000000 ∷ [])) 3 3
+    ∷ judged (edited 10 (0x20000000 ∷ [])) 3 10
+    ∷ judged (edited 10 (0x54102000 ∷ [])) 3 10
+    ∷ judged (edited 11 []) 3 11
+    ∷ judged (edited 3 (0xF0000000 ∷ [])) 3 3
+    ∷ judged (imageBytes bodyA) 3 11
+    ∷ judged (imageBytes (take 9 bodyA)) 3 8
+    -- 4, spare: one bit in each of the kinds 2 to 6, and the highest
+    ∷ judged (edited 1 (0x20000001 ∷ [])) 4 1
+    ∷ judged (edited 1 (0x20008000 ∷ [])) 4 1
+    ∷ judged (edited 3 (0x30002000 ∷ [])) 4 3
+    ∷ judged (edited 1 (0x40018000 ∷ [])) 4 1
+    ∷ judged (edited 9 (0x54102800 ∷ [])) 4 9
+    ∷ judged (edited 10 (0x60200000 ∷ [])) 4 10
+    -- 5, range: user, role, permission, senior, junior, m of 0 and above R, n of 0 and above m, member
+    ∷ judged (edited 1 (0x20400000 ∷ [])) 5 1
+    ∷ judged (edited 1 (0x20020000 ∷ [])) 5 1
+    ∷ judged (edited 3 (0x30800000 ∷ [])) 5 3
+    ∷ judged (edited 3 (0x30014000 ∷ [])) 5 3
+    ∷ judged (edited 1 (0x40800000 ∷ [])) 5 1
+    ∷ judged (edited 1 (0x40020000 ∷ [])) 5 1
+    ∷ judged (edited 9 (0x54080000 ∷ [])) 5 9
+    ∷ judged (edited 9 (0x54103000 ∷ [])) 5 9
+    ∷ judged (edited 9 (0x54002000 ∷ [])) 5 9
+    ∷ judged (edited 9 (0x54182000 ∷ [])) 5 9
+    ∷ judged (edited 10 (0x60800000 ∷ [])) 5 10
+    -- 6, repeat: a member again, a senior over itself; not a repeat: a loop, and an entry said twice
+    ∷ judged (edited 11 (0x60000000 ∷ [])) 6 11
+    ∷ judged (edited 1 (0x40000000 ∷ [])) 6 1
+    ∷ judged (edited 1 (0x40010000 ∷ 0x40400000 ∷ 0x40010000 ∷ [])) 0 0
+    ∷ judged (edited 1 (0x20000000 ∷ 0x20000000 ∷ 0x30000000 ∷ [])) 0 0
+    -- 7, crowd: a 17th role, the same 16 twice being none; a 33rd exclusion
+    ∷ judged (imageBytes (ended (wide (assignments 16)))) 0 0
+    ∷ judged (imageBytes (ended (wide (assignments 16 ++ assignments 16)))) 0 0
+    ∷ judged (imageBytes (ended (wide (assignments 17)))) 7 17
+    ∷ judged (imageBytes (ended (0x102080A0 ∷ exclusionWords 32))) 0 0
+    ∷ judged (imageBytes (ended (0x102080A0 ∷ exclusionWords 33))) 7 97
+    -- 8, balance, at the last word; a sum that drops its carries
+    ∷ judged (imageBytes (bodyA ++ (0xFB0B9F61 ∷ []))) 8 12
+    ∷ judged (imageBytes (bodyA ++ (0xF30B9F60 ∷ []))) 8 12
+    ∷ judged (imageBytes (ended (0x102080A0 ∷ exclusionWords 30))) 0 0
+    -- two faults of one word: the lower number
+    ∷ judged (edited 10 (0x20400001 ∷ [])) 3 10
+    ∷ judged (edited 1 (0x20400001 ∷ [])) 4 1
+    ∷ judged (edited 1 (0x40820000 ∷ [])) 5 1
+    ∷ judged (edited 11 (0x60000001 ∷ [])) 4 11
+    ∷ judged (imageBytes (ended (0x102080A0 ∷ (exclusionWords 32 ++ (0x54182000 ∷ []))))) 5 97
+    -- two bad words: the earlier, whatever the numbers; 8 last
+    ∷ judged (edited 1 (0x40000000 ∷ 0x20000001 ∷ [])) 6 1
+    ∷ judged (edited 1 (0x20400000 ∷ 0x70000000 ∷ [])) 5 1
+    ∷ judged (unbalanced 1 (0x20400000 ∷ [])) 5 1
+    ∷ judged (imageBytes (wide (assignments 17) ++ (0xF0000001 ∷ []))) 7 17
+    ∷ judged (take 4 (imageBytes (0 ∷ [])) ++ imageBytes (drop 1 imageA)) 2 0
+    ∷ []

@@ -1,0 +1,53 @@
+-- Sets of roles, permissions or sessions, as numbers: k is a member of s where binary digit k of s is 1 (01: role r counts 2 to the
+-- power r). Every definition computes on numerals.
+-- Assumes nothing.
+use mathlib.Core.Bool.{Bool, true, false}
+use mathlib.Core.List.{List, [], _∷_, _++_, map}
+use Prim.Native.Nat.{ℕ, zero, suc, _+_, _/_, _%_, _^_}
+use lib.Dec.{eqb}
+use lib.Bits.{bitAnd, bitOr}
+use lib.ListN.{getD}
+use Rattle.model.specs.Tests.{pick}
+
+-- k is a member of s
+unfoldable pub has : ℕ → ℕ → Bool
+has s k = eqb (s / 2 ^ k % 2) 1
+
+abbrev pub union : ℕ → ℕ → ℕ
+union s t = bitOr s t
+
+abbrev pub inter : ℕ → ℕ → ℕ
+inter s t = bitAnd s t
+
+-- s and the member k
+abbrev pub with : ℕ → ℕ → ℕ
+with s k = bitOr s (2 ^ k)
+
+-- every member of s is one of t
+unfoldable pub within : ℕ → ℕ → Bool
+within s t = eqb (bitAnd s t) s
+
+-- how many numbers below d pass the test
+unfoldable pub countTo : (ℕ → Bool) → ℕ → ℕ
+countTo f zero = 0
+countTo f (suc d) = pick (f d) 1 0 + countTo f d
+
+-- how many members below d the set s has
+unfoldable pub count : ℕ → ℕ → ℕ
+unfolding countTo
+count d s = countTo (has s) d
+
+-- the union of the sets `row k` of the members k of s below d
+unfoldable pub unionTo : (ℕ → ℕ) → ℕ → ℕ → ℕ
+unionTo row s zero = 0
+unionTo row s (suc d) = union (unionTo row s d) (pick (has s d) (row d) 0)
+
+-- the union of a table's rows at the members of s, of at most 64
+unfoldable pub unionAt : List ℕ → ℕ → ℕ
+unfolding unionTo
+unionAt rows s = unionTo (λ r. getD rows r 0) s 64
+
+-- the subsets of the members of s below d
+unfoldable pub subsets : ℕ → ℕ → List ℕ
+subsets zero s = 0 ∷ []
+subsets (suc d) s = let t = subsets d s in pick (has s d) (t ++ map (λ x. x + 2 ^ d) t) t

@@ -1,0 +1,31 @@
+-- Choices by a test, and tests of the members of a list.
+-- Assumes nothing.
+use mathlib.Core.Bool.{Bool, true, false, _&&_, _||_}
+use mathlib.Core.Option.{Option, none, some}
+use mathlib.Core.List.{List, [], _∷_}
+use Prim.Native.Nat.{ℕ}
+use lib.Dec.{leb}
+
+-- the first where the test holds, else the second
+unfoldable pub pick {ℓ} : {X : Type ℓ} → Bool → X → X → X
+pick true x y = x
+pick false x y = y
+
+-- n is one of the numbers from a to b
+abbrev pub between : ℕ → ℕ → ℕ → Bool
+between a n b = leb a n && leb n b
+
+-- some member passes the test
+unfoldable pub any {ℓ} : {A : Type ℓ} → (A → Bool) → List A → Bool
+any f [] = false
+any f (x ∷ xs) = f x || any f xs
+
+-- every member passes the test
+unfoldable pub all {ℓ} : {A : Type ℓ} → (A → Bool) → List A → Bool
+all f [] = true
+all f (x ∷ xs) = f x && all f xs
+
+-- the first member that passes the test
+unfoldable pub first {ℓ} : {A : Type ℓ} → (A → Bool) → List A → Option A
+first f [] = none
+first f (x ∷ xs) = elim (f x) [ true ↦ some x | false ↦ first f xs ]

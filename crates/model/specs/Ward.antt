@@ -1,0 +1,194 @@
+-- The ward examples: images, first ledgers and calls with the answers that 01 gives them. `starred` are 01's starred cases, `settled`
+-- further ones on what 01 says in words.
+-- Assumes nothing.
+use mathlib.Core.Bool.{Bool, true, false, _&&_}
+use mathlib.Core.List.{List, [], _∷_, _++_, map}
+use Prim.Native.Nat.{ℕ, _+_, _-_, _*_, _%_, _^_}
+use lib.Dec.{eqb}
+use lib.ListN.{replicate, take, drop}
+use Rattle.model.specs.Tests.{all}
+use Rattle.model.specs.Bytes.{number, bytesOf}
+use Rattle.model.specs.Session.{Reply}
+use Rattle.model.specs.Run.{Call, Event, run, openBy, closeBy, askBy, shortAskBy, showBy}
+
+-- ---- images as words
+
+unfoldable pub imageBytes : List ℕ → List ℕ
+imageBytes [] = []
+imageBytes (w ∷ ws) = bytesOf 4 w ++ imageBytes ws
+
+unfoldable pub sumOf : List ℕ → ℕ
+sumOf [] = 0
+sumOf (w ∷ ws) = w + sumOf ws
+
+-- the words, and the end word that balances them
+unfoldable pub ended : List ℕ → List ℕ
+ended ws = ws ++ ((15 * 2 ^ 28 + (2 ^ 28 - sumOf ws % 2 ^ 28) % 2 ^ 28) ∷ [])
+
+-- image A: Doctor carries 0 to 3, Data_Manager 1 and 4; one user has both, and no two may be active in any of her sessions
+unfoldable pub imageA : List ℕ
+imageA =
+    0x102080A0 ∷ 0x20000000 ∷ 0x20010000 ∷ 0x30000000 ∷ 0x30004000 ∷ 0x30008000 ∷ 0x3000C000 ∷ 0x30404000 ∷ 0x30410000 ∷ 0x54102000
+    ∷ 0x60000000 ∷ 0x60400000 ∷ 0xFB0B9F60 ∷ []
+
+-- image A with another exclusion word
+unfoldable pub imageWith : ℕ → List ℕ
+imageWith x = ended (take 9 imageA ++ (x ∷ 0x60000000 ∷ 0x60400000 ∷ []))
+
+-- image A with kind k, and with n of 1
+unfoldable pub imageOfKind : ℕ → List ℕ
+imageOfKind k = imageWith (0x50102000 + k * 2 ^ 26)
+
+unfoldable pub imageOfOne : List ℕ
+imageOfOne = imageWith 0x54082000
+
+-- image A for two users, the second with the same roles
+unfoldable pub imageOfTwo : List ℕ
+imageOfTwo = ended (0x104080A0 ∷ 0x20400000 ∷ 0x20410000 ∷ drop 1 (take 12 imageA))
+
+-- 003's three roles, which carry 0 and 2, 1 and 3, 1 and 2
+unfoldable pub threeRoles : List ℕ
+threeRoles =
+    ended
+    (0x1020C080 ∷ 0x20000000 ∷ 0x20010000 ∷ 0x20020000 ∷ 0x30000000 ∷ 0x30008000 ∷ 0x30404000 ∷ 0x3040C000 ∷ 0x30804000 ∷ 0x30808000 ∷ [])
+
+-- role 0 over 1 over 2, role r granted permission r; the user has role 0 alone
+unfoldable pub hierarchy : List ℕ
+hierarchy = ended (0x1020C060 ∷ 0x20000000 ∷ 0x30000000 ∷ 0x30404000 ∷ 0x30808000 ∷ 0x40010000 ∷ 0x40420000 ∷ [])
+
+-- the same with role 2 over 0, a loop; the user has roles 1 and 2
+unfoldable pub loop : List ℕ
+loop = ended (0x1020C060 ∷ 0x20010000 ∷ 0x20020000 ∷ 0x30000000 ∷ 0x30404000 ∷ 0x30808000 ∷ 0x40010000 ∷ 0x40420000 ∷ 0x40800000 ∷ [])
+
+-- ---- calls by user 0, with the bounds as set numbers
+
+unfoldable pub opens : Call
+opens = openBy 0
+
+unfoldable pub closes : ℕ → Call
+closes k = closeBy 0 k
+
+unfoldable pub asks : ℕ → ℕ → ℕ → ℕ → ℕ → Call
+asks k lower upper a b = askBy 0 k (bytesOf 32 lower) (bytesOf 32 upper) a b 40
+
+unfoldable pub asksShort : ℕ → ℕ → ℕ → Call
+asksShort k lower upper = shortAskBy 0 k (bytesOf 32 lower) (bytesOf 32 upper) 40
+
+unfoldable pub shows : ℕ → Call
+shows k = showBy 0 k 40
+
+-- ---- cases
+
+-- an answer as the program prints it: number, extra, roles, permissions
+unfoldable pub printed : Event → List ℕ
+printed e = e .reply .number ∷ e .reply .extra ∷ number (take 8 (e .reply .filled)) ∷ number (drop 8 (e .reply .filled)) ∷ []
+
+pub record Case : Type 0 where
+  pub image : List ℕ
+  pub ledger : List ℕ
+  pub calls : List Call
+  pub answers : List (List ℕ)
+
+unfoldable pub sameList : List ℕ → List ℕ → Bool
+sameList [] [] = true
+sameList [] (y ∷ ys) = false
+sameList (x ∷ xs) [] = false
+sameList (x ∷ xs) (y ∷ ys) = eqb x y && sameList xs ys
+
+unfoldable pub sameLists : List (List ℕ) → List (List ℕ) → Bool
+sameLists [] [] = true
+sameLists [] (y ∷ ys) = false
+sameLists (x ∷ xs) [] = false
+sameLists (x ∷ xs) (y ∷ ys) = sameList x y && sameLists xs ys
+
+unfoldable pub holds : Case → Bool
+holds c = sameLists (map printed (run 4 (imageBytes (c .image)) (c .ledger) (c .calls))) (c .answers)
+
+-- a case of one user, from the zero ledger
+unfoldable pub case : List ℕ → List Call → List (List ℕ) → Case
+case image calls answers = record { image = image; ledger = replicate 80 0; calls = calls; answers = answers }
+
+-- the six lines of 01's example, and their answers
+unfoldable pub lines : List Call
+lines = opens ∷ asks 0 0x3 0x1f 1 0 ∷ opens ∷ asks 1 0x12 0x1f 1 0 ∷ closes 0 ∷ asks 1 0x12 0x1f 1 0 ∷ []
+
+unfoldable pub opened : ℕ → List ℕ
+opened k = 0 ∷ k ∷ 0 ∷ 0 ∷ []
+
+unfoldable pub chose : ℕ → ℕ → List ℕ
+chose roles permissions = 0 ∷ 0 ∷ roles ∷ permissions ∷ []
+
+unfoldable pub refused : ℕ → List ℕ
+refused n = n ∷ 0 ∷ 0 ∷ 0 ∷ []
+
+-- two asks of one session: lower 3, then lower 12
+unfoldable pub twoAsks : List Call
+twoAsks = opens ∷ asksShort 0 0x3 0x1f ∷ asksShort 0 0x12 0x1f ∷ []
+
+unfoldable pub starred : List Case
+starred =
+    case imageA (take 1 lines) (opened 0 ∷ [])
+    ∷ case imageA (take 2 lines) (opened 0 ∷ chose 1 0xf ∷ [])
+    ∷ case imageA (take 4 lines) (opened 0 ∷ chose 1 0xf ∷ opened 1 ∷ refused 20 ∷ [])
+    ∷ case imageA lines (opened 0 ∷ chose 1 0xf ∷ opened 1 ∷ refused 20 ∷ opened 0 ∷ chose 2 0x12 ∷ [])
+    ∷ case (imageOfKind 3) lines (opened 0 ∷ chose 1 0xf ∷ opened 1 ∷ refused 20 ∷ opened 0 ∷ refused 20 ∷ [])
+    ∷ case (imageOfKind 2) twoAsks (opened 0 ∷ chose 1 0xf ∷ refused 20 ∷ [])
+    ∷ case (imageOfKind 2) (twoAsks ++ (opens ∷ asksShort 1 0x12 0x1f ∷ [])) (opened 0 ∷ chose 1 0xf ∷ refused 20 ∷ opened 1 ∷ chose 2 0x12 ∷ [])
+    ∷ case imageA (opens ∷ asksShort 0 0x3 0x3 ∷ []) (opened 0 ∷ refused 20 ∷ [])
+    ∷ case imageA (opens ∷ asks 0 0 0 1 0 ∷ []) (opened 0 ∷ chose 0 0 ∷ [])
+    ∷ case imageOfOne (opens ∷ asksShort 0 0x3 0x1f ∷ []) (opened 0 ∷ refused 20 ∷ [])
+    ∷ case imageOfOne (opens ∷ asksShort 0 0 0 ∷ []) (opened 0 ∷ chose 0 0 ∷ [])
+    ∷ case imageA (opens ∷ opens ∷ opens ∷ opens ∷ opens ∷ []) (opened 0 ∷ opened 1 ∷ opened 2 ∷ opened 3 ∷ refused 14 ∷ [])
+    ∷ case threeRoles (opens ∷ asks 0 0x1 0xf 2 0 ∷ []) (opened 0 ∷ chose 3 0xf ∷ [])
+    ∷ case threeRoles (opens ∷ asks 0 0x1 0xf 2 2 ∷ []) (opened 0 ∷ chose 7 0xf ∷ [])
+    ∷ case threeRoles (opens ∷ asks 0 0x1 0xf 1 2 ∷ []) (opened 0 ∷ chose 1 0x5 ∷ [])
+    ∷ []
+
+-- a line that is not sound, of 80 bytes
+unfoldable pub damaged : List ℕ
+damaged = replicate 80 255
+
+unfoldable pub settled : List Case
+settled =
+    -- the replaced set does not count, in kinds 0 and 1
+    case (imageOfKind 0) twoAsks (opened 0 ∷ chose 1 0xf ∷ chose 2 0x12 ∷ [])
+    ∷ case (imageOfKind 1) twoAsks (opened 0 ∷ chose 1 0xf ∷ chose 2 0x12 ∷ [])
+    -- kind 0 counts this session alone
+    ∷ case (imageOfKind 0) (take 4 lines) (opened 0 ∷ chose 1 0xf ∷ opened 1 ∷ chose 2 0x12 ∷ [])
+    -- a closed session's roles still count in kind 3, and no longer in kind 2, where a session begins anew
+    ∷ case (imageOfKind 3) (opens ∷ asksShort 0 0x3 0x1f ∷ closes 0 ∷ opens ∷ asksShort 0 0x12 0x1f ∷ [])
+      (opened 0 ∷ chose 1 0xf ∷ opened 0 ∷ opened 0 ∷ refused 20 ∷ [])
+    ∷ case (imageOfKind 2) (opens ∷ asksShort 0 0x3 0x1f ∷ closes 0 ∷ opens ∷ asksShort 0 0x12 0x1f ∷ [])
+      (opened 0 ∷ chose 1 0xf ∷ opened 0 ∷ opened 0 ∷ chose 2 0x12 ∷ [])
+    -- a member that two sessions hold counts once
+    ∷ case imageA (opens ∷ asksShort 0 0x3 0x1f ∷ opens ∷ asksShort 1 0x3 0x1f ∷ []) (opened 0 ∷ chose 1 0xf ∷ opened 1 ∷ chose 1 0xf ∷ [])
+    -- a replaced set stays in the session's history and in the user's, and the session goes on
+    ∷ case imageA (twoAsks ++ (shows 0 ∷ opens ∷ asksShort 1 0x3 0x1f ∷ shows 1 ∷ closes 0 ∷ asksShort 1 0x3 0x1f ∷ shows 0 ∷ []))
+      (opened 0 ∷ chose 1 0xf ∷ chose 2 0x12 ∷ chose 2 0x12 ∷ opened 1 ∷ refused 20 ∷ chose 0 0 ∷ opened 0 ∷ chose 1 0xf ∷ refused 13 ∷ [])
+    -- seniority passes permissions, through every step of a chain, and no right to activate a junior
+    ∷ case hierarchy (opens ∷ asks 0 0x4 0x7 1 1 ∷ asks 0 0x4 0x6 1 1 ∷ []) (opened 0 ∷ chose 1 0x7 ∷ refused 20 ∷ [])
+    -- the roles of a loop carry the same
+    ∷ case loop (opens ∷ asks 0 0x1 0x7 1 1 ∷ asks 0 0x1 0x7 0 2 ∷ []) (opened 0 ∷ chose 2 0x7 ∷ chose 6 0x7 ∷ [])
+    -- another user's damaged line does not refuse this one's calls
+    ∷ record {
+      image = imageOfTwo;
+      ledger = replicate 80 0 ++ damaged;
+      calls = opens ∷ asksShort 0 0x3 0x1f ∷ openBy 1 ∷ openBy 2 ∷ shows 0 ∷ [];
+      answers = opened 0 ∷ chose 1 0xf ∷ refused 11 ∷ refused 10 ∷ chose 1 0xf ∷ [];
+    }
+    ∷ record {
+      image = imageOfTwo;
+      ledger = damaged ++ replicate 80 0;
+      calls = opens ∷ openBy 1 ∷ [];
+      answers = refused 11 ∷ opened 0 ∷ [];
+    }
+    -- tests run in number order
+    ∷ record { image = imageA; ledger = replicate 79 0; calls = openBy 1 ∷ []; answers = refused 9 ∷ [] }
+    ∷ case imageA (openBy 1 ∷ closes 4 ∷ closes 0 ∷ showBy 0 0 39 ∷ opens ∷ showBy 0 0 39 ∷ [])
+      (refused 10 ∷ refused 12 ∷ refused 13 ∷ refused 13 ∷ opened 0 ∷ refused 19 ∷ [])
+    ∷ case imageA
+      (opens ∷ askBy 0 0 (bytesOf 31 0) (bytesOf 32 0x20) 3 3 0 ∷ askBy 0 0 (bytesOf 32 0) (bytesOf 33 0) 3 3 0 ∷ asks 0 0x3f 0x3 3 3
+      ∷ asks 0 0 0x20 3 3 ∷ asks 0 0x3 0x1 3 3 ∷ askBy 0 0 (bytesOf 32 0) (bytesOf 32 0) 3 0 39 ∷ askBy 0 0 (bytesOf 32 0) (bytesOf 32 0) 0 3 39
+      ∷ askBy 0 0 (bytesOf 32 0x3) (bytesOf 32 0x3) 0 0 39 ∷ shortAskBy 0 0 (bytesOf 32 0x3) (bytesOf 32 0x3) 41 ∷ asksShort 0 0x3 0x3 ∷ [])
+      (opened 0 ∷ refused 15 ∷ refused 15 ∷ refused 16 ∷ refused 16 ∷ refused 17 ∷ refused 18 ∷ refused 18 ∷ refused 19 ∷ refused 19 ∷ refused 20 ∷ [])
+    ∷ []
