@@ -1,2 +1,5 @@
+-- The laws of the definitions and the theorems over them.
+pub mod Bools
+pub mod SetLaws
 pub mod Computing
 pub mod Cases

@@ -184,9 +184,9 @@ judge s =
     elim (lengthRight (length s)) [
       | false ↦ Refused 1 0
       | true ↦ elim (headRight (wordAt s 0)) [
-          | false ↦ Refused 2 0
-          | true ↦ scan s (headOf (wordAt s 0)) (behindHead s) 1 emptyRows start (wordAt s 0)
-        ]
+        | false ↦ Refused 2 0
+        | true ↦ scan s (headOf (wordAt s 0)) (behindHead s) 1 emptyRows start (wordAt s 0)
+      ]
     ]
 
 -- the number that a check returns: 0, or the refusal's number plus 256 times its place

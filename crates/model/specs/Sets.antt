@@ -27,10 +27,15 @@ with s k = bitOr s (2 ^ k)
 unfoldable pub within : ℕ → ℕ → Bool
 within s t = eqb (bitAnd s t) s
 
+-- 1 where the test holds
+abbrev pub one : Bool → ℕ
+one true = 1
+one false = 0
+
 -- how many numbers below d pass the test
 unfoldable pub countTo : (ℕ → Bool) → ℕ → ℕ
 countTo f zero = 0
-countTo f (suc d) = pick (f d) 1 0 + countTo f d
+countTo f (suc d) = one (f d) + countTo f d
 
 -- how many members below d the set s has
 unfoldable pub count : ℕ → ℕ → ℕ

@@ -157,14 +157,14 @@ settled =
     ∷ case (imageOfKind 0) (take 4 lines) (opened 0 ∷ chose 1 0xf ∷ opened 1 ∷ chose 2 0x12 ∷ [])
     -- a closed session's roles still count in kind 3, and no longer in kind 2, where a session begins anew
     ∷ case (imageOfKind 3) (opens ∷ asksShort 0 0x3 0x1f ∷ closes 0 ∷ opens ∷ asksShort 0 0x12 0x1f ∷ [])
-      (opened 0 ∷ chose 1 0xf ∷ opened 0 ∷ opened 0 ∷ refused 20 ∷ [])
+    (opened 0 ∷ chose 1 0xf ∷ opened 0 ∷ opened 0 ∷ refused 20 ∷ [])
     ∷ case (imageOfKind 2) (opens ∷ asksShort 0 0x3 0x1f ∷ closes 0 ∷ opens ∷ asksShort 0 0x12 0x1f ∷ [])
-      (opened 0 ∷ chose 1 0xf ∷ opened 0 ∷ opened 0 ∷ chose 2 0x12 ∷ [])
+    (opened 0 ∷ chose 1 0xf ∷ opened 0 ∷ opened 0 ∷ chose 2 0x12 ∷ [])
     -- a member that two sessions hold counts once
     ∷ case imageA (opens ∷ asksShort 0 0x3 0x1f ∷ opens ∷ asksShort 1 0x3 0x1f ∷ []) (opened 0 ∷ chose 1 0xf ∷ opened 1 ∷ chose 1 0xf ∷ [])
     -- a replaced set stays in the session's history and in the user's, and the session goes on
     ∷ case imageA (twoAsks ++ (shows 0 ∷ opens ∷ asksShort 1 0x3 0x1f ∷ shows 1 ∷ closes 0 ∷ asksShort 1 0x3 0x1f ∷ shows 0 ∷ []))
-      (opened 0 ∷ chose 1 0xf ∷ chose 2 0x12 ∷ chose 2 0x12 ∷ opened 1 ∷ refused 20 ∷ chose 0 0 ∷ opened 0 ∷ chose 1 0xf ∷ refused 13 ∷ [])
+    (opened 0 ∷ chose 1 0xf ∷ chose 2 0x12 ∷ chose 2 0x12 ∷ opened 1 ∷ refused 20 ∷ chose 0 0 ∷ opened 0 ∷ chose 1 0xf ∷ refused 13 ∷ [])
     -- seniority passes permissions, through every step of a chain, and no right to activate a junior
     ∷ case hierarchy (opens ∷ asks 0 0x4 0x7 1 1 ∷ asks 0 0x4 0x6 1 1 ∷ []) (opened 0 ∷ chose 1 0x7 ∷ refused 20 ∷ [])
     -- the roles of a loop carry the same
@@ -185,10 +185,10 @@ settled =
     -- tests run in number order
     ∷ record { image = imageA; ledger = replicate 79 0; calls = openBy 1 ∷ []; answers = refused 9 ∷ [] }
     ∷ case imageA (openBy 1 ∷ closes 4 ∷ closes 0 ∷ showBy 0 0 39 ∷ opens ∷ showBy 0 0 39 ∷ [])
-      (refused 10 ∷ refused 12 ∷ refused 13 ∷ refused 13 ∷ opened 0 ∷ refused 19 ∷ [])
+    (refused 10 ∷ refused 12 ∷ refused 13 ∷ refused 13 ∷ opened 0 ∷ refused 19 ∷ [])
     ∷ case imageA
-      (opens ∷ askBy 0 0 (bytesOf 31 0) (bytesOf 32 0x20) 3 3 0 ∷ askBy 0 0 (bytesOf 32 0) (bytesOf 33 0) 3 3 0 ∷ asks 0 0x3f 0x3 3 3
-      ∷ asks 0 0 0x20 3 3 ∷ asks 0 0x3 0x1 3 3 ∷ askBy 0 0 (bytesOf 32 0) (bytesOf 32 0) 3 0 39 ∷ askBy 0 0 (bytesOf 32 0) (bytesOf 32 0) 0 3 39
-      ∷ askBy 0 0 (bytesOf 32 0x3) (bytesOf 32 0x3) 0 0 39 ∷ shortAskBy 0 0 (bytesOf 32 0x3) (bytesOf 32 0x3) 41 ∷ asksShort 0 0x3 0x3 ∷ [])
-      (opened 0 ∷ refused 15 ∷ refused 15 ∷ refused 16 ∷ refused 16 ∷ refused 17 ∷ refused 18 ∷ refused 18 ∷ refused 19 ∷ refused 19 ∷ refused 20 ∷ [])
+    (opens ∷ askBy 0 0 (bytesOf 31 0) (bytesOf 32 0x20) 3 3 0 ∷ askBy 0 0 (bytesOf 32 0) (bytesOf 33 0) 3 3 0 ∷ asks 0 0x3f 0x3 3 3
+    ∷ asks 0 0 0x20 3 3 ∷ asks 0 0x3 0x1 3 3 ∷ askBy 0 0 (bytesOf 32 0) (bytesOf 32 0) 3 0 39 ∷ askBy 0 0 (bytesOf 32 0) (bytesOf 32 0) 0 3 39
+    ∷ askBy 0 0 (bytesOf 32 0x3) (bytesOf 32 0x3) 0 0 39 ∷ shortAskBy 0 0 (bytesOf 32 0x3) (bytesOf 32 0x3) 41 ∷ asksShort 0 0x3 0x3 ∷ [])
+    (opened 0 ∷ refused 15 ∷ refused 15 ∷ refused 16 ∷ refused 16 ∷ refused 17 ∷ refused 18 ∷ refused 18 ∷ refused 19 ∷ refused 19 ∷ refused 20 ∷ [])
     ∷ []

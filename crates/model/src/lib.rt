@@ -37,6 +37,12 @@ pub struct Exclusion {
     pub members: u64,
 }
 
+// A policy's exclusions, in image order: the first `count` of the list.
+pub struct Exclusions {
+    pub list: [Exclusion; 32],
+    pub count: usize,
+}
+
 // What a word behind the head says. An exclusion word comes with the number of its member words (01: m), and has no member yet.
 pub enum Entry {
     Assignment(User, Role),
