@@ -3,3 +3,5 @@ pub mod Bools
 pub mod SetLaws
 pub mod Computing
 pub mod Cases
+pub mod UnionLaws
+pub mod Closure
