@@ -5,3 +5,4 @@ pub mod Computing
 pub mod Cases
 pub mod UnionLaws
 pub mod Closure
+pub mod Tables
