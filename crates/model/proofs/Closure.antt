@@ -22,11 +22,13 @@ use Rattle.model.proofs.SetLaws.{has-union, has-with}
 use Rattle.model.proofs.UnionLaws.{has-none, has-below, below-or-last, has-unionAt, unionAt-none}
 
 -- ---- a table made row by row
+-- its number of rows
 pub length-tableOf : (n : ℕ) (f : ℕ → ℕ) → length (tableOf n f) ≡ n
 unfolding tableOf
 length-tableOf zero f = refl
 length-tableOf (suc n) f = length-append (tableOf n f) (f n ∷ []) ∙ omega (arith, length-tableOf n f)
 
+-- its row i
 pub getD-tableOf : (n : ℕ) (f : ℕ → ℕ) (i : ℕ) → i < n → getD (tableOf n f) i 0 ≡ f i
 unfolding tableOf
 getD-tableOf zero f i h = absurd (omega arith)
@@ -37,6 +39,7 @@ getD-tableOf (suc n) f i h = go (below-or-last i n h) (getD-tableOf n f i)
     go (inr k) ih = getD-at (tableOf n f) (f n) [] 0 i (length-tableOf n f ∙ sym k) ∙ ap f (sym k)
 
 -- ---- one pass of the closure: row i takes in row k where it has k
+-- a row that takes in another where it has k
 has-taking : (k other row j : ℕ) → has (taking k other row) j ≡ (has row j || (has row k && has other j))
 unfolding taking pick
 has-taking k other row j = go (has row k)
@@ -45,10 +48,12 @@ has-taking k other row j = go (has row k)
     go true = has-union row other j
     go false = sym (or-false (has row j))
 
+-- the empty row takes in nothing
 taking-none : (k other : ℕ) → taking k other 0 ≡ 0
 unfolding taking pick
 taking-none k other = ap (λ (b : Bool). pick b (union 0 other) 0) (has-none k)
 
+-- every row of the table after the pass
 has-through : (k : ℕ) (rows : List ℕ) (i j : ℕ)
     → has (getD (through k rows) i 0) j ≡ (has (getD rows i 0) j || (has (getD rows i 0) k && has (getD rows k 0) j))
 unfolding through
@@ -63,6 +68,7 @@ module _ (rows : List ℕ) where
   at : ℕ → ℕ → ℕ → Bool
   at k i j = has (getD (closed k rows) i 0) j
 
+  -- pass k
   at-suc : (k i j : ℕ) → at (suc k) i j ≡ (at k i j || (at k i k && at k k j))
   unfolding at closed
   at-suc k i j = has-through k (closed k rows) i j
@@ -73,9 +79,11 @@ module _ (rows : List ℕ) where
       elim (or-cases (at k i j) (at k i k && at k k j) (sym (at-suc k i j) ∙ e))
       [ inl h ↦ inl h | inr h ↦ inr (and-l (at k i k) (at k k j) h, and-r (at k i k) (at k k j) h) ]
 
+  -- what was there stays
   at-old : (k i j : ℕ) → at k i j ≡ true → at (suc k) i j ≡ true
   at-old k i j e = at-suc k i j ∙ or-l (at k i j) (at k i k && at k k j) e
 
+  -- what goes by k comes in
   at-new : (k i j : ℕ) → at k i k ≡ true → at k k j ≡ true → at (suc k) i j ≡ true
   at-new k i j e f = at-suc k i j ∙ or-r (at k i j) (at k i k && at k k j) (both (at k i k) (at k k j) e f)
 
@@ -86,6 +94,7 @@ module _ (rows : List ℕ) where
   from-pass : (k j : ℕ) → at (suc k) k j ≡ true → at k k j ≡ true
   from-pass k j e = elim (at-cases k k j e) [ inl h ↦ h | inr h ↦ h .1 ]
 
+  -- two steps by a role below k are one
   at-trans : (k i m j : ℕ) → m < k → at k i m ≡ true → at k m j ≡ true → at k i j ≡ true
   at-trans zero i m j h e f = absurd (omega arith)
   at-trans (suc k) i m j h e f = go (below-or-last m k h) (λ a b c. at-trans k a m b c)
@@ -102,6 +111,7 @@ module _ (rows : List ℕ) where
       go (inr q) ih =
           at-new k i j (to-pass k i (subst (λ (x : ℕ). at (suc k) i x ≡ true) q e)) (from-pass k j (subst (λ (x : ℕ). at (suc k) x j ≡ true) q f))
 
+  -- what the table held at first stays
   at-first : (k i j : ℕ) → at zero i j ≡ true → at k i j ≡ true
   at-first zero i j e = e
   at-first (suc k) i j e = at-old k i j (at-first k i j e)
@@ -126,12 +136,14 @@ module _ (p : Policy) (few : p .head .roles ≤ 64)
   first-at i j h =
       ap (λ (x : ℕ). has x j) (getD-tableOf 64 (λ a. with (getD (p .juniors) a 0) a) i h) ∙ has-with (getD (p .juniors) i 0) i j
 
+  -- beyond the 64 rows there is nothing
   first-none : (i j : ℕ) → 64 ≤ i → at (selfAndJuniors (p .juniors)) zero i j ≡ false
   unfolding at closed selfAndJuniors
   first-none i j h =
       ap (λ (x : ℕ). has x j)
       (List·getD-eq-default (selfAndJuniors (p .juniors)) 0 (rw length-tableOf h)) ∙ has-none j
 
+  -- what a row holds at first is reached by a chain of at most one senior word
   first-chain : (i j : ℕ) → at (selfAndJuniors (p .juniors)) zero i j ≡ true → Chain p i j
   first-chain i j e =
       elim (decLt i 64) [
@@ -141,12 +153,14 @@ module _ (p : Policy) (few : p .head .roles ≤ 64)
         | no h ↦ not-both (at (selfAndJuniors (p .juniors)) zero i j) e (first-none i j (omega arith))
       ]
 
+  -- what a row holds after the passes below k is reached by a chain
   at-chain : (k i j : ℕ) → at (selfAndJuniors (p .juniors)) k i j ≡ true → Chain p i j
   at-chain zero i j e = first-chain i j e
   at-chain (suc k) i j e =
       elim (at-cases (selfAndJuniors (p .juniors)) k i j e)
       [ inl h ↦ at-chain k i j h | inr h ↦ join (at-chain k i k (h .0)) (at-chain k k j (h .1)) ]
 
+  -- what a chain reaches is held after the passes below R
   chain-at : {i j : ℕ} → i < 64 → Chain p i j → at (selfAndJuniors (p .juniors)) (p .head .roles) i j ≡ true
   chain-at {i} h here =
       at-first (selfAndJuniors (p .juniors)) (p .head .roles) i i (first-at i i h ∙ or-r (over p i i) (eqb i i) (eq-eqb i i refl))

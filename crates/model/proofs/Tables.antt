@@ -5,7 +5,7 @@ use mathlib.Core.Path.{_≡_, refl, sym, ap, ap₂, _∙_, subst}
 use mathlib.Core.Logic.{_⊎_, inl, inr, _↔_}
 use mathlib.Core.Bool.{Bool, true, false, _&&_, _||_, or-false}
 use mathlib.Core.List.{List, [], _∷_, _++_, List·Memᴰ, List·Memᴰ·head, List·Memᴰ·tail, List·Memᴰ·not-nil, List·Memᴰ·cases-cons}
-use Prim.Native.Nat.{ℕ, zero, suc, _+_, _/_, _%_, _^_, _≤_, _<_}
+use Prim.Native.Nat.{ℕ, zero, suc, _+_, _/_, _^_, _≤_, _<_}
 use native.Mathlib.Nat.{mod-lt, le-refl}
 use native.Mathlib.Decide.{decLt, ℕ-discrete}
 use native.Mathlib.Omega.{arith}
@@ -171,7 +171,7 @@ ordering-length rows (Member r) = refl
 ordering-length rows End = refl
 ordering-length rows Unknown = refl
 
--- bit r of row u is set after an entry exactly if it was, or the entry names it
+-- ---- bit r of row u is set after an entry exactly if it was, or the entry names it
 module _ (u r : ℕ) where
   assigning-one : (rows : List ℕ) (e : Entry) → u < length rows
       → (has (getD (assigning rows e) u 0) r ≡ true) ↔ ((has (getD rows u 0) r ≡ true) ⊎ (Assignment (user u) (role r) ≡ e))
@@ -212,7 +212,7 @@ module _ (u r : ℕ) where
   ordering-one rows End h = kept refl
   ordering-one rows Unknown h = kept refl
 
--- ---- empty rows
+-- ---- empty rows: there are 64, and no bit is set
 empty-length : length emptyRows ≡ 64
 unfolding emptyRows
 empty-length = length-replicate {A = ℕ} 64 0
@@ -306,11 +306,12 @@ module _ (P : Entry → Type 0)
     × P (Senior (role (field w 22 6)) (role (field w 16 6)))
     × P (Exclude (record { kind = kindOf (field w 26 2); limit = field w 19 7; members = 0 }) (field w 12 7))
     × P (Member (role (field w 22 6))) × P End × P Unknown) where
+  -- the fact of a word's entry
   of-word : Word → Type 0
   of-word d = P (d .entry)
 
   -- what holds of each kind of word holds of every word
-  decoded : (w : ℕ) → P (decode w .entry)
+  pub decoded : (w : ℕ) → P (decode w .entry)
   unfolding decode of-word
   decoded w =
       pick-case of-word (isKind w 2) _ _ (λ e. by-kind w .0)
@@ -321,7 +322,7 @@ module _ (P : Entry → Type 0)
       (λ e. pick-case of-word (isKind w 15) _ _ (λ e. by-kind w .5) (λ e. by-kind w .6))))))
 
   -- and of every entry of an image
-  of-entry : (s : List ℕ) (e : Entry) → List·Memᴰ e (entriesOf s) → P e
+  pub of-entry : (s : List ℕ) (e : Entry) → List·Memᴰ e (entriesOf s) → P e
   unfolding entryAt
   of-entry s e m = let w = entries-said s e .0 m in subst P (w .says) (decoded (wordAt s (w .place)))
 

@@ -36,6 +36,7 @@ pub record Held (row : ℕ → ℕ) (s d m : ℕ) : Type 0 where
   pub chosen : has s member ≡ true
   pub holds : has (row member) m ≡ true
 
+-- the members of a row taken or not
 has-picked : (b : Bool) (row m : ℕ) → has (pick b row 0) m ≡ (b && has row m)
 unfolding pick
 has-picked true row m = refl
@@ -49,6 +50,7 @@ module _ (row : ℕ → ℕ) (s m : ℕ) where
       has-union (unionTo row s d) (pick (has s d) (row d) 0) m
       ∙ ap (λ (b : Bool). has (unionTo row s d) m || b) (has-picked (has s d) (row d) m)
 
+  -- a member of the union comes from some row
   unionTo-held : (d : ℕ) → has (unionTo row s d) m ≡ true → Held row s d m
   unfolding unionTo
   unionTo-held zero e = not-both (has 0 m) e (has-none m)
@@ -64,6 +66,7 @@ module _ (row : ℕ → ℕ) (s m : ℕ) where
             }
       ]
 
+  -- a member of a row that s names is one of the union
   held-unionTo : (d : ℕ) → Held row s d m → has (unionTo row s d) m ≡ true
   held-unionTo zero w = absurd (omega arith)
   held-unionTo (suc d) w = has-unionTo-next d ∙ go (below-or-last (w .member) d (w .below)) (held-unionTo d)
@@ -103,6 +106,7 @@ unionTo-none row zero = refl
 unionTo-none row (suc d) =
     ap₂ (λ (x : ℕ) (b : Bool). bitOr x (pick b (row d) 0)) (unionTo-none row d) (has-none d)
 
+-- and no row of a table
 pub unionAt-none : (rows : List ℕ) → unionAt rows 0 ≡ 0
 unfolding unionAt
 unionAt-none rows = unionTo-none (λ r. getD rows r 0) 64
