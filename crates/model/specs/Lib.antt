@@ -9,3 +9,4 @@ pub mod Session
 pub mod Run
 pub mod Ward
 pub mod Refusals
+pub mod Chosen
