@@ -6,3 +6,6 @@ pub mod Cases
 pub mod Ranks
 pub mod Subsets
 pub mod Choices
+pub mod AnyWidth
+pub mod Every
+pub mod ConditionsProof

@@ -10,3 +10,4 @@ pub mod Run
 pub mod Ward
 pub mod Refusals
 pub mod Chosen
+pub mod Conditions
