@@ -1,11 +1,11 @@
 -- A set is admissible exactly if it meets the conditions of 001.
 -- Assumes nothing.
 use mathlib.Core.Path.{_≡_, refl, sym, ap, _∙_, subst}
-use mathlib.Core.Logic.{_↔_, _≢_}
+use mathlib.Core.Logic.{_↔_}
 use mathlib.Core.Bool.{Bool, true, false, _&&_}
-use mathlib.Core.List.{List, [], _∷_, _++_, List·Memᴰ}
+use mathlib.Core.List.{List·Memᴰ}
 use Prim.Native.Nat.{ℕ, suc, _<_}
-use lib.Dec.{eqb, ltb}
+use lib.Dec.{eqb}
 use lib.ListN.{length, getD, take, drop, set, length-set}
 use lib.Seq.{getD-set-same, getD-set-other, set-split}
 use borrow.Author.Tests.{eqb-true, eqb-false, ltb-true, lt-ltb}
@@ -15,13 +15,14 @@ use Rattle.model.specs.declared.Exclusion.{Exclusion}
 use Rattle.model.specs.declared.Session.{Session}
 use Rattle.model.specs.declared.Line.{Line}
 use Rattle.model.specs.Tests.{pick, all}
-use Rattle.model.specs.Sets.{has, union, inter, within, count}
+use Rattle.model.specs.Sets.{union, inter, within, count}
 use Rattle.model.specs.Policy.{Policy, authorized, met, meaning}
 use Rattle.model.specs.Line.{emptySession, sessionAt, activeIn, counted, exclusionsMet, putIn}
 use Rattle.model.specs.Choice.{carriedBy, admissible}
 use Rattle.model.specs.Conditions.{others, countedAfter, MetAfter, Conditions, Solution}
 use Rattle.model.proofs.Bools.{and-l, and-r, both}
-use Rattle.model.proofs.AnyWidth.{within-iff, union-swap}
+use Rattle.model.proofs.AnyWidth.{within-iff}
+use Rattle.model.proofs.Actives.{active-middle}
 use Rattle.model.proofs.Every.{all-mem, mem-all, all-at, at-all}
 
 -- ---- the exclusions of a line
@@ -49,13 +50,6 @@ exclusionsMet-iff p u l = (
     at-session s = all (met (counted l s)) (p .exclusions)
 
 -- ---- what each kind counts once a set is put in
-
--- a session's active roles may be taken first in the union of all
-pub active-middle : (xs : List Session) (a : Session) (ys : List Session) → activeIn (xs ++ a ∷ ys) ≡ union (a .active) (activeIn (xs ++ ys))
-unfolding activeIn
-active-middle [] a ys = refl
-active-middle (x ∷ xs) a ys =
-    ap (λ (t : ℕ). union (x .active) t) (active-middle xs a ys) ∙ union-swap (x .active) (a .active) (activeIn (xs ++ ys))
 
 module _ (l : Line) (k s : ℕ) (h : k < length (l .sessions)) where
   -- session k as it is then

@@ -8,4 +8,5 @@ pub mod Subsets
 pub mod Choices
 pub mod AnyWidth
 pub mod Every
+pub mod Actives
 pub mod ConditionsProof

@@ -2,6 +2,7 @@
 -- counted by 001's table 1: for the roles s as the active ones of session k, in place of the old ones.
 -- Assumes nothing.
 use mathlib.Core.Path.{_≡_}
+use mathlib.Core.Logic.{_≢_}
 use mathlib.Core.Bool.{true}
 use mathlib.Core.List.{List, _++_, List·Memᴰ}
 use Prim.Native.Nat.{ℕ, suc, _<_}
@@ -21,6 +22,10 @@ use Rattle.model.specs.Choice.{carriedBy}
 -- the sessions other than session k
 unfoldable pub others : ℕ → List Session → List Session
 others k ss = take k ss ++ drop (suc k) ss
+
+-- role r is active in a session other than session k
+abbrev pub ActiveElsewhere : Line → ℕ → ℕ → Type 0
+ActiveElsewhere l k r = (i : ℕ) × (i < length (l .sessions)) × (i ≢ k) × (has (sessionAt l i .active) r ≡ true)
 
 -- what each kind counts at session j once s is put in for session k: the roles active in session j, where the replaced ones do not count;
 -- s and the roles active in the other sessions; session j's history, with s where it is session k; the user's history with s
