@@ -6,3 +6,10 @@ pub mod Cases
 pub mod UnionLaws
 pub mod Closure
 pub mod Tables
+pub mod Ranks
+pub mod Subsets
+pub mod Choices
+pub mod AnyWidth
+pub mod Every
+pub mod Actives
+pub mod ConditionsProof

@@ -11,3 +11,5 @@ pub mod Ward
 pub mod Refusals
 pub mod Chains
 pub mod Read
+pub mod Chosen
+pub mod Conditions
