@@ -13,3 +13,9 @@ pub mod AnyWidth
 pub mod Every
 pub mod Actives
 pub mod ConditionsProof
+pub mod TableOf
+pub mod LineLaws
+pub mod LedgerLaws
+pub mod HeadLaws
+pub mod Meanings
+pub mod IndependenceProof

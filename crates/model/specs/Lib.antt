@@ -7,6 +7,7 @@ pub mod Line
 pub mod Choice
 pub mod Session
 pub mod Run
+pub mod Independence
 pub mod Ward
 pub mod Refusals
 pub mod Chains
