@@ -16,6 +16,8 @@ pub mod ConditionsProof
 pub mod TableOf
 pub mod LineLaws
 pub mod LedgerLaws
+pub mod RoundTrip
 pub mod HeadLaws
 pub mod Meanings
 pub mod IndependenceProof
+pub mod FramesProof

@@ -8,6 +8,7 @@ pub mod Choice
 pub mod Session
 pub mod Run
 pub mod Independence
+pub mod Frames
 pub mod Ward
 pub mod Refusals
 pub mod Chains
