@@ -1,19 +1,15 @@
 -- What calls leave alone, proved: of a ledger all but the user's line, of a line all but the session that the call names.
 -- Assumes nothing.
-use mathlib.Core.Path.{_≡_, refl, sym, ap, ap₂, _∙_, subst}
+use mathlib.Core.Path.{_≡_, refl, sym, ap, ap₂, _∙_}
 use mathlib.Core.Logic.{_⊎_, inl, inr}
 use mathlib.Core.Bool.{Bool, true, false, not}
 use mathlib.Core.Option.{Option, none, some}
-use mathlib.Core.List.{List, [], _∷_, _++_, append-assoc}
-use Prim.Native.Nat.{ℕ, zero, suc, _+_, _-_, _*_, _≤_, _<_}
-use native.Mathlib.Nat.{mul-suc}
-use native.Mathlib.Omega.{arith}
+use mathlib.Core.List.{List, []}
+use Prim.Native.Nat.{ℕ, _+_, _*_, _<_}
 use lib.Dec.{eqb, ltb}
-use lib.ListN.{length, getD, take, drop, set, length-append, take-append-drop, List·getD-append}
+use lib.ListN.{length, take, drop, length-append}
 use lib.Pow.{areBytes}
-use lib.Seq.{drop-drop, take-at, drop-at, getD-take, getD-drop, length-take-le}
 use borrow.Author.Tests.{eqb-true, ltb-true}
-use Rattle.model.specs.declared.Session.{Session}
 use Rattle.model.specs.declared.Line.{Line}
 use Rattle.model.specs.declared.Checked.{Checked}
 use Rattle.model.specs.declared.Checked.the-variants.{Accepted, Refused}
@@ -21,35 +17,13 @@ use Rattle.model.specs.Tests.{pick}
 use Rattle.model.specs.Bytes.{bytesOf}
 use Rattle.model.specs.Image.{judge}
 use Rattle.model.specs.Policy.{Policy, Meaning, policyOf, meaning}
-use Rattle.model.specs.Line.{lineSize, readLine, writeSessions, writeLine, opening, closing, putIn}
-use Rattle.model.specs.Session.{Operation, open-session, close-session, ask, short-ask, show, sessionOf, Reply, refuse, done, given, Refusal, Result, asked, perform, unless, rule}
-use Rattle.model.specs.Run.{Call, Event, lineAt, withLine, ruled, stepOn, stepBy, step, showBy}
-use Rattle.model.specs.Frames.{Outside, Frame, StepFrame, ShowKeeps, sessionBytes, SessionFrame, SessionFrames}
-use Rattle.model.proofs.LineLaws.{length-bytesOf}
-use Rattle.model.proofs.LedgerLaws.{patch-behind, apart, lineAt-length, withLine-length, new-length}
-use Rattle.model.proofs.RoundTrip.{write-read, behind-numbers}
-
--- ---- bytes outside a line
-
--- an element outside the replaced ones
-module _ {A : Type 0} (a z : ℕ) (bs l : List A) (hz : length bs ≡ z) (hl : a + z ≤ length l) where
-  patch-outside : (i : ℕ) (d : A) → (i < a) ⊎ (a + z ≤ i) → getD (take a l ++ (bs ++ drop (a + z) l)) i d ≡ getD l i d
-  patch-outside i d (inl h) =
-      let k : length (take a l) ≡ a = length-take-le a l (omega arith) in
-      List·getD-append (take a l) (bs ++ drop (a + z) l) d i (omega arith) ∙ getD-take a l i d h
-  patch-outside i d (inr h) =
-      let e : i ≡ a + z + 0 + (i - (a + z)) = omega arith in
-      let all = take a l ++ (bs ++ drop (a + z) l) in
-      subst (λ (j : ℕ). getD all j d ≡ getD l j d) (sym e)
-      (sym (getD-drop (a + z + 0) all (i - (a + z)) d) ∙ ap (λ (x : List A). getD x (i - (a + z)) d) (patch-behind a z bs l hz hl 0)
-      ∙ getD-drop (a + z + 0) l (i - (a + z)) d)
-
--- a line put back where it was
-own-line : (z u : ℕ) (l : List ℕ) → withLine z u (lineAt z u l) l ≡ l
-unfolding withLine lineAt
-own-line z u l =
-    ap (λ (x : List ℕ). take (z * u) l ++ (take z (drop (z * u) l) ++ x)) (sym (drop-drop z (z * u) l))
-    ∙ ap (λ (x : List ℕ). take (z * u) l ++ x) (take-append-drop z (drop (z * u) l)) ∙ take-append-drop (z * u) l
+use Rattle.model.specs.Line.{lineSize, readLine, writeLine, opening, closing, putIn}
+use Rattle.model.specs.Session.{Operation, open-session, close-session, ask, short-ask, show, sessionOf, refuse, done, given, Refusal, Result, asked, perform, unless, rule}
+use Rattle.model.specs.Run.{Call, lineAt, withLine, ruled, stepOn, stepBy, step, showBy}
+use Rattle.model.specs.Frames.{Frame, StepFrame, ShowKeeps, sessionBytes, SessionFrames}
+use Rattle.model.proofs.LineLaws.{length-bytesOf, blockAt, block-set, block-line, behind-opened, history-part}
+use Rattle.model.proofs.LedgerLaws.{patch-outside, apart, withLine-length, own-line, new-length}
+use Rattle.model.proofs.RoundTrip.{write-read}
 
 -- ---- what the session rules answer
 
@@ -98,6 +72,12 @@ module _ (W : ℕ) (m : Meaning) (bs : List ℕ) where
   rule-quiet : (op : Operation) → Quiet bs (rule W m bs op)
   unfolding rule
   rule-quiet op = unless-quiet _ _ (perform-quiet (readLine W bs) op)
+
+-- what the work done keeps of a line, the call keeps
+unless-part : (bs : List ℕ) (part : List ℕ → List ℕ) (o : Option Refusal) (r : Result) → part (r .line) ≡ part bs → part (unless o bs r .line) ≡ part bs
+unfolding unless
+unless-part bs part none r h = h
+unless-part bs part (some f) r h = refl
 
 -- ---- a call on a ledger
 
@@ -161,53 +141,59 @@ module _ (W : ℕ) (p : Policy) (l : List ℕ) (c : Call) (keeps : (m : Meaning)
   stepBy-keeps (Accepted h) = stepOn-keeps
   stepBy-keeps (Refused n place) = refl
 
-unless-keeps : (o : Option Refusal) (bs : List ℕ) (r : Result) → r .line ≡ bs → unless o bs r .line ≡ bs
-unfolding unless
-unless-keeps none bs r h = h
-unless-keeps (some f) bs r h = refl
-
 -- A show changes no byte of the ledger.
 pub show-keeps : (W : ℕ) → ShowKeeps W
 unfolding step rule perform showBy
 show-keeps W image ledger u k room =
-    stepBy-keeps W (policyOf image) ledger (showBy u k room) (λ m bs. unless-keeps _ bs _ refl) (judge image)
+    stepBy-keeps W (policyOf image) ledger (showBy u k room) (λ m bs. unless-part bs (λ (x : List ℕ). x) _ _ refl) (judge image)
 
--- ---- the sessions of a line
+-- ---- a call on a line of bytes
+module _ (W : ℕ) (m : Meaning) (bs : List ℕ) (hb : areBytes bs ≡ true) (hn : length bs ≡ lineSize W) where
+  -- the line read, with other sessions written back
+  sessions-kept : (l : Line) (j : ℕ) → blockAt j (l .sessions) ≡ blockAt j (readLine W bs .sessions) → sessionBytes j (writeLine l) ≡ sessionBytes j bs
+  sessions-kept l j e =
+      block-line l j ∙ e ∙ sym (block-line (readLine W bs) j) ∙ ap (sessionBytes j) (write-read W bs hb hn)
 
--- sixteen bytes before the rest
-module _ (a b : ℕ) (rest : List ℕ) where
-  first-sixteen : take 16 (bytesOf 8 a ++ (bytesOf 8 b ++ rest)) ≡ bytesOf 8 a ++ bytesOf 8 b
-  first-sixteen =
-      ap (λ (x : List ℕ). take 16 x) (sym (append-assoc (bytesOf 8 a) (bytesOf 8 b) rest))
-      ∙ take-at (bytesOf 8 a ++ bytesOf 8 b) rest 16
-      (length-append (bytesOf 8 a) (bytesOf 8 b) ∙ ap₂ _+_ (length-bytesOf 8 a) (length-bytesOf 8 b))
+  asked-others : (k j : ℕ) (o : Option ℕ) → ¬ (j ≡ k) → sessionBytes j (asked m (readLine W bs) bs k o .line) ≡ sessionBytes j bs
+  unfolding asked
+  asked-others k j none h = refl
+  asked-others k j (some s) h = sessions-kept (putIn k s (readLine W bs)) j (unfold putIn in block-set (readLine W bs .sessions) k j _ h)
 
-  skip-sixteen : (n : ℕ) → drop (16 + n) (bytesOf 8 a ++ (bytesOf 8 b ++ rest)) ≡ drop n rest
-  skip-sixteen n =
-      sym (drop-drop n 16 (bytesOf 8 a ++ (bytesOf 8 b ++ rest))) ∙ ap (λ (x : List ℕ). drop n x) (behind-numbers a b rest)
+  perform-others : (op : Operation) (j : ℕ) → ¬ (j ≡ sessionOf op) → sessionBytes j (perform W m (readLine W bs) bs op .line) ≡ sessionBytes j bs
+  unfolding perform sessionOf
+  perform-others open-session j h = sessions-kept (opening _ (readLine W bs)) j (unfold opening in refl)
+  perform-others (close-session k) j h =
+      sessions-kept (closing k (readLine W bs)) j (unfold closing in block-set (readLine W bs .sessions) k j _ h)
+  perform-others (ask k q) j h = asked-others k j _ h
+  perform-others (short-ask k lower upper room) j h = asked-others k j _ h
+  perform-others (show k room) j h = refl
 
--- session j of those written
-blockAt : ℕ → List Session → List ℕ
-blockAt j ss = take 16 (drop (16 * j) (writeSessions ss))
+  rule-others : (op : Operation) (j : ℕ) → ¬ (j ≡ sessionOf op) → sessionBytes j (rule W m bs op .line) ≡ sessionBytes j bs
+  unfolding rule
+  rule-others op j h = unless-part bs (sessionBytes j) _ _ (perform-others op j h)
 
-block-suc : (j : ℕ) (s : Session) (ss : List Session) → blockAt (suc j) (s ∷ ss) ≡ blockAt j ss
-unfolding blockAt writeSessions
-block-suc j s ss =
-    let e : 16 * suc j ≡ 16 + 16 * j = omega (arith, mul-suc 16 j) in
-    ap (λ (n : ℕ). take 16 (drop n (writeSessions (s ∷ ss)))) e
-    ∙ ap (λ (x : List ℕ). take 16 x) (skip-sixteen (s .active) (s .history) (writeSessions ss) (16 * j))
+  open-rest : drop 8 (rule W m bs open-session .line) ≡ drop 8 bs
+  unfolding rule perform opening
+  open-rest =
+      unless-part bs (drop 8) _ _
+      (behind-opened (opening _ (readLine W bs)) ∙ sym (behind-opened (readLine W bs)) ∙ ap (drop 8) (write-read W bs hb hn))
 
--- a session replaced leaves the others
-block-set : (ss : List Session) (k j : ℕ) (x : Session) → ¬ (j ≡ k) → blockAt j (set ss k x) ≡ blockAt j ss
-block-set [] k j x h = refl
-block-set (s ∷ ss) zero zero x h = absurd (h refl)
-block-set (s ∷ ss) zero (suc j) x h = block-suc j x ss ∙ sym (block-suc j s ss)
-block-set (s ∷ ss) (suc k) zero x h =
-    unfold blockAt writeSessions in
-    (first-sixteen (s .active) (s .history) (writeSessions (set ss k x)) ∙ sym (first-sixteen (s .active) (s .history) (writeSessions ss)))
-block-set (s ∷ ss) (suc k) (suc j) x h =
-    block-suc j s (set ss k x) ∙ block-set ss k j x (λ e. h (ap suc e)) ∙ sym (block-suc j s ss)
+  close-history : (k : ℕ) → take 8 (drop 8 (rule W m bs (close-session k) .line)) ≡ take 8 (drop 8 bs)
+  unfolding rule perform closing
+  close-history k =
+      unless-part bs (λ (x : List ℕ). take 8 (drop 8 x)) _ _
+      (history-part (closing k (readLine W bs)) ∙ sym (history-part (readLine W bs)) ∙ ap (λ (x : List ℕ). take 8 (drop 8 x)) (write-read W bs hb hn))
 
-block-line : (l : Line) (j : ℕ) → sessionBytes j (writeLine l) ≡ blockAt j (l .sessions)
-unfolding sessionBytes writeLine blockAt
-block-line l j = ap (λ (x : List ℕ). take 16 x) (skip-sixteen (l .opened) (l .history) (writeSessions (l .sessions)) (16 * j))
+  by-open : (j : ℕ) → sessionBytes j (rule W m bs open-session .line) ≡ sessionBytes j bs
+  unfolding rule perform opening
+  by-open j = unless-part bs (sessionBytes j) _ _ (sessions-kept (opening _ (readLine W bs)) j refl)
+
+-- A call changes no byte of a session other than the one that it names.
+pub session-frame : (W : ℕ) → SessionFrames W
+session-frame W m bs hb hn =
+    record {
+      others = rule-others W m bs hb hn;
+      by-open = by-open W m bs hb hn;
+      open-rest = open-rest W m bs hb hn;
+      close-history = close-history W m bs hb hn;
+    }

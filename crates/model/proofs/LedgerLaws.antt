@@ -9,8 +9,8 @@ use native.Mathlib.Nat.{mul-suc, mul-le-mul-left}
 use native.Mathlib.Omega.{arith}
 use native.Mathlib.Decide.{decLt}
 use lib.Dec.{eqb, ltb}
-use lib.ListN.{length, take, drop, length-append, length-take, length-drop, take-append-drop}
-use lib.Seq.{take-at, drop-at, drop-append-le, take-append-le, drop-append-add, drop-drop, length-take-le}
+use lib.ListN.{length, getD, take, drop, length-append, length-take, length-drop, take-append-drop, List·getD-append}
+use lib.Seq.{take-at, drop-at, drop-append-le, take-append-le, drop-append-add, drop-drop, getD-take, getD-drop, length-take-le}
 use borrow.Author.Tests.{eqb-true, eqb-false, eq-eqb, lt-ltb, ltb-true}
 use Rattle.model.specs.Tests.{pick}
 use Rattle.model.specs.Policy.{Policy, meaning}
@@ -58,6 +58,18 @@ module _ {A : Type 0} (a z : ℕ) (bs l : List A) (hz : length bs ≡ z) (hl : a
       ap (λ (x : List A). take z x)
       (subst (λ (x : ℕ). drop x (take a l ++ (bs ++ drop (a + z) l)) ≡ drop x l) (sym e) (patch-behind (b - (a + z))))
 
+  -- an element outside the replaced ones stays
+  pub patch-outside : (i : ℕ) (d : A) → (i < a) ⊎ (a + z ≤ i) → getD (take a l ++ (bs ++ drop (a + z) l)) i d ≡ getD l i d
+  patch-outside i d (inl h) =
+      let k : length (take a l) ≡ a = length-take-le a l (omega arith) in
+      List·getD-append (take a l) (bs ++ drop (a + z) l) d i (omega arith) ∙ getD-take a l i d h
+  patch-outside i d (inr h) =
+      let e : i ≡ a + z + 0 + (i - (a + z)) = omega arith in
+      let all = take a l ++ (bs ++ drop (a + z) l) in
+      subst (λ (j : ℕ). getD all j d ≡ getD l j d) (sym e)
+      (sym (getD-drop (a + z + 0) all (i - (a + z)) d) ∙ ap (λ (x : List A). getD x (i - (a + z)) d) (patch-behind 0)
+      ∙ getD-drop (a + z + 0) l (i - (a + z)) d)
+
 -- ---- lines of z bytes
 
 -- u's line ends before v's begins
@@ -92,6 +104,13 @@ module _ (z u n : ℕ) (bs l : List ℕ) (hz : length bs ≡ z) (hn : length l �
       go : (v < u) ⊎ (u < v) → take z (drop (z * v) (take (z * u) l ++ (bs ++ drop (z * u + z) l))) ≡ take z (drop (z * v) l)
       go (inl k) = patch-before (z * u) z bs l hz inside (z * v) (apart z v u k)
       go (inr k) = patch-after (z * u) z bs l hz inside (z * v) (apart z u v k)
+
+-- a line put back where it was
+pub own-line : (z u : ℕ) (l : List ℕ) → withLine z u (lineAt z u l) l ≡ l
+unfolding withLine lineAt
+own-line z u l =
+    ap (λ (x : List ℕ). take (z * u) l ++ (take z (drop (z * u) l) ++ x)) (sym (drop-drop z (z * u) l))
+    ∙ ap (λ (x : List ℕ). take (z * u) l ++ x) (take-append-drop z (drop (z * u) l)) ∙ take-append-drop (z * u) l
 
 -- ---- one call under an accepted policy, on a ledger of the fitting length
 module _ (W : ℕ) (p : Policy) (l : List ℕ) (hl : length l ≡ lineSize W * p .head .users) (c : Call) where

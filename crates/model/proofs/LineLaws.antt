@@ -1,17 +1,19 @@
--- The bytes of a line: their number, and that the session rules keep it.
+-- The bytes of a line: their number, which the session rules keep, and where those of each session stand.
 -- Assumes nothing.
-use mathlib.Core.Path.{_≡_, refl, ap, _∙_}
+use mathlib.Core.Path.{_≡_, refl, sym, ap, ap₂, _∙_}
 use mathlib.Core.Option.{Option, none, some}
-use mathlib.Core.List.{List, [], _∷_}
-use Prim.Native.Nat.{ℕ, zero, suc, _*_}
+use mathlib.Core.List.{List, [], _∷_, _++_, append-assoc}
+use Prim.Native.Nat.{ℕ, zero, suc, _+_, _*_}
 use native.Mathlib.Nat.{mul-suc}
 use native.Mathlib.Omega.{arith}
-use lib.ListN.{length, drop, length-append, length-set}
+use lib.ListN.{length, take, drop, set, length-append, length-set}
+use lib.Seq.{drop-drop, take-at, drop-at}
 use Rattle.model.specs.declared.Session.{Session}
 use Rattle.model.specs.declared.Line.{Line}
 use Rattle.model.specs.Bytes.{bytesOf}
 use Rattle.model.specs.Policy.{Meaning}
 use Rattle.model.specs.Line.{readSessions, readLine, writeSessions, writeLine, lineSize, putIn, opening, closing}
+use Rattle.model.specs.Frames.{sessionBytes}
 use Rattle.model.specs.Session.{Operation, open-session, close-session, ask, short-ask, show, Refusal, Result, asked, perform, unless, rule}
 
 -- ---- lengths
@@ -37,6 +39,62 @@ length-writeSessions (s ∷ ss) =
 pub length-writeLine : (l : Line) → length (writeLine l) ≡ lineSize (length (l .sessions))
 unfolding writeLine lineSize
 length-writeLine l = simp (length-append, length-bytesOf, length-writeSessions) (omega arith)
+
+-- ---- the sessions of a line
+
+-- sixteen bytes before the rest
+module _ (a b : ℕ) (rest : List ℕ) where
+  pub first-sixteen : take 16 (bytesOf 8 a ++ (bytesOf 8 b ++ rest)) ≡ bytesOf 8 a ++ bytesOf 8 b
+  first-sixteen =
+      ap (λ (x : List ℕ). take 16 x) (sym (append-assoc (bytesOf 8 a) (bytesOf 8 b) rest))
+      ∙ take-at (bytesOf 8 a ++ bytesOf 8 b) rest 16
+      (length-append (bytesOf 8 a) (bytesOf 8 b) ∙ ap₂ _+_ (length-bytesOf 8 a) (length-bytesOf 8 b))
+
+  pub behind-sixteen : drop 16 (bytesOf 8 a ++ (bytesOf 8 b ++ rest)) ≡ rest
+  behind-sixteen =
+      sym (drop-drop 8 8 (bytesOf 8 a ++ (bytesOf 8 b ++ rest)))
+      ∙ ap (λ (x : List ℕ). drop 8 x) (drop-at (bytesOf 8 a) (bytesOf 8 b ++ rest) 8 (length-bytesOf 8 a))
+      ∙ drop-at (bytesOf 8 b) rest 8 (length-bytesOf 8 b)
+
+  pub skip-sixteen : (n : ℕ) → drop (16 + n) (bytesOf 8 a ++ (bytesOf 8 b ++ rest)) ≡ drop n rest
+  skip-sixteen n =
+      sym (drop-drop n 16 (bytesOf 8 a ++ (bytesOf 8 b ++ rest))) ∙ ap (λ (x : List ℕ). drop n x) behind-sixteen
+
+-- the bytes of session j, in those of the sessions alone
+unfoldable pub blockAt : ℕ → List Session → List ℕ
+blockAt j ss = take 16 (drop (16 * j) (writeSessions ss))
+
+pub block-suc : (j : ℕ) (s : Session) (ss : List Session) → blockAt (suc j) (s ∷ ss) ≡ blockAt j ss
+unfolding blockAt writeSessions
+block-suc j s ss =
+    let e : 16 * suc j ≡ 16 + 16 * j = omega (arith, mul-suc 16 j) in
+    ap (λ (n : ℕ). take 16 (drop n (writeSessions (s ∷ ss)))) e
+    ∙ ap (λ (x : List ℕ). take 16 x) (skip-sixteen (s .active) (s .history) (writeSessions ss) (16 * j))
+
+-- a session replaced leaves the others
+pub block-set : (ss : List Session) (k j : ℕ) (x : Session) → ¬ (j ≡ k) → blockAt j (set ss k x) ≡ blockAt j ss
+block-set [] k j x h = refl
+block-set (s ∷ ss) zero zero x h = absurd (h refl)
+block-set (s ∷ ss) zero (suc j) x h = block-suc j x ss ∙ sym (block-suc j s ss)
+block-set (s ∷ ss) (suc k) zero x h =
+    unfold blockAt writeSessions in
+    (first-sixteen (s .active) (s .history) (writeSessions (set ss k x)) ∙ sym (first-sixteen (s .active) (s .history) (writeSessions ss)))
+block-set (s ∷ ss) (suc k) (suc j) x h =
+    block-suc j s (set ss k x) ∙ block-set ss k j x (λ e. h (ap suc e)) ∙ sym (block-suc j s ss)
+
+-- the same bytes, in those of the line
+pub block-line : (l : Line) (j : ℕ) → sessionBytes j (writeLine l) ≡ blockAt j (l .sessions)
+unfolding sessionBytes writeLine blockAt
+block-line l j = ap (λ (x : List ℕ). take 16 x) (skip-sixteen (l .opened) (l .history) (writeSessions (l .sessions)) (16 * j))
+
+-- what stands behind the first eight bytes of a line that is written
+pub behind-opened : (l : Line) → drop 8 (writeLine l) ≡ bytesOf 8 (l .history) ++ writeSessions (l .sessions)
+unfolding writeLine
+behind-opened l = drop-at (bytesOf 8 (l .opened)) _ 8 (length-bytesOf 8 (l .opened))
+
+-- the eight bytes of the user's history
+pub history-part : (l : Line) → take 8 (drop 8 (writeLine l)) ≡ bytesOf 8 (l .history)
+history-part l = ap (λ (x : List ℕ). take 8 x) (behind-opened l) ∙ take-at (bytesOf 8 (l .history)) _ 8 (length-bytesOf 8 (l .history))
 
 -- ---- a line under the session rules
 module _ (W : ℕ) (m : Meaning) (bs : List ℕ) (h : length bs ≡ lineSize W) where

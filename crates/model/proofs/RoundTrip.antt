@@ -19,7 +19,7 @@ use Rattle.model.specs.Bytes.{number, bytesOf}
 use Rattle.model.specs.Line.{readSessions, readLine, writeSessions, writeLine, lineSize}
 use Rattle.model.specs.Frames.{fitsSession, fitsLine, LineBytes}
 use Rattle.model.proofs.Bools.{and-l, and-r, both}
-use Rattle.model.proofs.LineLaws.{length-bytesOf}
+use Rattle.model.proofs.LineLaws.{length-bytesOf, behind-sixteen}
 
 -- ---- numbers
 
@@ -99,23 +99,17 @@ module _ (a b : ℕ) (rest : List ℕ) where
       ap (λ (x : List ℕ). number (take 8 x)) (drop-at (bytesOf 8 a) (bytesOf 8 b ++ rest) 8 (length-bytesOf 8 a))
       ∙ ap number (take-at (bytesOf 8 b) rest 8 (length-bytesOf 8 b)) ∙ number-bytes 8 b h
 
-  pub behind-numbers : drop 16 (bytesOf 8 a ++ (bytesOf 8 b ++ rest)) ≡ rest
-  behind-numbers =
-      sym (drop-drop 8 8 (bytesOf 8 a ++ (bytesOf 8 b ++ rest)))
-      ∙ ap (λ (x : List ℕ). drop 8 x) (drop-at (bytesOf 8 a) (bytesOf 8 b ++ rest) 8 (length-bytesOf 8 a))
-      ∙ drop-at (bytesOf 8 b) rest 8 (length-bytesOf 8 b)
-
 sessions-read : (ss : List Session) → all fitsSession ss ≡ true → readSessions (length ss) (writeSessions ss) ≡ ss
 unfolding readSessions writeSessions all fitsSession
 sessions-read [] h = refl
-sessions-read (s ∷ ss) h = 
+sessions-read (s ∷ ss) h =
     let f = and-l (fitsSession s) (all fitsSession ss) h in
     ap₂ {C = List Session} (λ (x : Session) (xs : List Session). x ∷ xs)
     (λ i. record {
       active = first-number (s .active) (s .history) (writeSessions ss) (ltb-true _ _ (and-l _ _ f)) i;
       history = second-number (s .active) (s .history) (writeSessions ss) (ltb-true _ _ (and-r (ltb (s .active) (2 ^ 64)) _ f)) i;
     })
-    (ap (readSessions (length ss)) (behind-numbers (s .active) (s .history) (writeSessions ss))
+    (ap (readSessions (length ss)) (behind-sixteen (s .active) (s .history) (writeSessions ss))
     ∙ sessions-read ss (and-r (fitsSession s) (all fitsSession ss) h))
 
 pub read-write : (W : ℕ) (l : Line) → length (l .sessions) ≡ W → fitsLine l ≡ true → readLine W (writeLine l) ≡ l
@@ -127,7 +121,7 @@ read-write W l n h =
       opened = first-number (l .opened) (l .history) (writeSessions (l .sessions)) o i;
       history = second-number (l .opened) (l .history) (writeSessions (l .sessions)) p i;
       sessions =
-          (ap (readSessions W) (behind-numbers (l .opened) (l .history) (writeSessions (l .sessions)))
+          (ap (readSessions W) (behind-sixteen (l .opened) (l .history) (writeSessions (l .sessions)))
           ∙ ap (λ (x : ℕ). readSessions x (writeSessions (l .sessions))) (sym n)
           ∙ sessions-read (l .sessions) (and-r (ltb (l .opened) (2 ^ 64) && ltb (l .history) (2 ^ 64)) _ h)) i;
     }
