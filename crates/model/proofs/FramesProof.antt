@@ -1,14 +1,13 @@
--- What calls leave alone, proved: of a ledger all but the user's line, of a line all but the session that the call names.
+-- What a call leaves alone of a ledger: all but its user's line, and all of it where the call is refused or a show.
 -- Assumes nothing.
-use mathlib.Core.Path.{_≡_, refl, sym, ap, ap₂, _∙_}
+use mathlib.Core.Path.{_≡_, refl, ap, ap₂, _∙_}
 use mathlib.Core.Logic.{_⊎_, inl, inr}
 use mathlib.Core.Bool.{Bool, true, false, not}
 use mathlib.Core.Option.{Option, none, some}
 use mathlib.Core.List.{List, []}
 use Prim.Native.Nat.{ℕ, _+_, _*_, _<_}
 use lib.Dec.{eqb, ltb}
-use lib.ListN.{length, take, drop, length-append}
-use lib.Pow.{areBytes}
+use lib.ListN.{length, length-append}
 use borrow.Author.Tests.{eqb-true, ltb-true}
 use Rattle.model.specs.declared.Line.{Line}
 use Rattle.model.specs.declared.Checked.{Checked}
@@ -17,13 +16,12 @@ use Rattle.model.specs.Tests.{pick}
 use Rattle.model.specs.Bytes.{bytesOf}
 use Rattle.model.specs.Image.{judge}
 use Rattle.model.specs.Policy.{Policy, Meaning, policyOf, meaning}
-use Rattle.model.specs.Line.{lineSize, readLine, writeLine, opening, closing, putIn}
-use Rattle.model.specs.Session.{Operation, open-session, close-session, ask, short-ask, show, sessionOf, refuse, done, given, Refusal, Result, asked, perform, unless, rule}
+use Rattle.model.specs.Line.{lineSize, readLine}
+use Rattle.model.specs.Session.{Operation, open-session, close-session, ask, short-ask, show, refuse, done, given, Refusal, Result, asked, perform, unless, rule}
 use Rattle.model.specs.Run.{Call, lineAt, withLine, ruled, stepOn, stepBy, step, showBy}
-use Rattle.model.specs.Frames.{Frame, StepFrame, ShowKeeps, sessionBytes, SessionFrames}
-use Rattle.model.proofs.LineLaws.{length-bytesOf, blockAt, block-set, block-line, behind-opened, history-part}
+use Rattle.model.specs.Frames.{Frame, StepFrame, ShowKeeps}
+use Rattle.model.proofs.LineLaws.{unless-part, length-bytesOf}
 use Rattle.model.proofs.LedgerLaws.{patch-outside, apart, withLine-length, own-line, new-length}
-use Rattle.model.proofs.RoundTrip.{write-read}
 
 -- ---- what the session rules answer
 
@@ -33,6 +31,7 @@ record Quiet (bs : List ℕ) (r : Result) : Type 0 where
   filled : ¬ (r .reply .number ≡ 0) → r .reply .filled ≡ []
   room : (r .reply .filled ≡ []) ⊎ (length (r .reply .filled) ≡ 40)
 
+-- the three sorts of answer: done, refused, done with roles and permissions
 done-quiet : (bs after : List ℕ) (x : ℕ) → Quiet bs (record { reply = done x; line = after })
 unfolding done
 done-quiet bs after x = record { line = λ h. absurd (h refl); filled = λ h. absurd (h refl); room = inl refl }
@@ -50,6 +49,7 @@ given-quiet bs after roles permissions =
       room = inr (length-append (bytesOf 8 roles) (bytesOf 32 permissions) ∙ ap₂ _+_ (length-bytesOf 8 roles) (length-bytesOf 32 permissions));
     }
 
+-- an ask, any call that nothing refuses, and any call
 module _ (W : ℕ) (m : Meaning) (bs : List ℕ) where
   asked-quiet : (l : Line) (k : ℕ) (o : Option ℕ) → Quiet bs (asked m l bs k o)
   unfolding asked
@@ -73,19 +73,15 @@ module _ (W : ℕ) (m : Meaning) (bs : List ℕ) where
   unfolding rule
   rule-quiet op = unless-quiet _ _ (perform-quiet (readLine W bs) op)
 
--- what the work done keeps of a line, the call keeps
-unless-part : (bs : List ℕ) (part : List ℕ → List ℕ) (o : Option Refusal) (r : Result) → part (r .line) ≡ part bs → part (unless o bs r .line) ≡ part bs
-unfolding unless
-unless-part bs part none r h = h
-unless-part bs part (some f) r h = refl
-
 -- ---- a call on a ledger
 
+-- a call that the session rules do not see
 refuse-frame : (z u : ℕ) (l : List ℕ) (n x : ℕ) → Frame z u l (record { reply = refuse n x; ledger = l })
 unfolding refuse
 refuse-frame z u l n x =
-    record { keeps-length = refl; outside = λ i h. refl; refused-ledger = λ h. refl; refused-filled = λ h. refl; done-filled = λ h. inl refl }
+    record { keeps-length = refl; outside = λ i h. refl; refused-ledger = λ h. refl; refused-filled = λ h. refl; filled = inl refl }
 
+-- a user with a line, under an accepted policy, under a judged image
 module _ (W : ℕ) (p : Policy) (l : List ℕ) (c : Call) where
   ruled-frame : length l ≡ lineSize W * p .head .users → c .user < p .head .users → Frame (lineSize W) (c .user) l (ruled W p l c)
   unfolding ruled
@@ -100,7 +96,7 @@ module _ (W : ℕ) (p : Policy) (l : List ℕ) (c : Call) where
         outside = λ i h. unfold withLine in patch-outside (z * u) z (r .line) l n (rw hl (apart z u (p .head .users) hu)) i 0 h;
         refused-ledger = λ h. ap (λ (x : List ℕ). withLine z u x l) (q .line h) ∙ own-line z u l;
         refused-filled = q .filled;
-        done-filled = λ h. q .room;
+        filled = q .room;
       }
 
   stepOn-frame : Frame (lineSize W) (c .user) l (stepOn W p l c)
@@ -146,54 +142,3 @@ pub show-keeps : (W : ℕ) → ShowKeeps W
 unfolding step rule perform showBy
 show-keeps W image ledger u k room =
     stepBy-keeps W (policyOf image) ledger (showBy u k room) (λ m bs. unless-part bs (λ (x : List ℕ). x) _ _ refl) (judge image)
-
--- ---- a call on a line of bytes
-module _ (W : ℕ) (m : Meaning) (bs : List ℕ) (hb : areBytes bs ≡ true) (hn : length bs ≡ lineSize W) where
-  -- the line read, with other sessions written back
-  sessions-kept : (l : Line) (j : ℕ) → blockAt j (l .sessions) ≡ blockAt j (readLine W bs .sessions) → sessionBytes j (writeLine l) ≡ sessionBytes j bs
-  sessions-kept l j e =
-      block-line l j ∙ e ∙ sym (block-line (readLine W bs) j) ∙ ap (sessionBytes j) (write-read W bs hb hn)
-
-  asked-others : (k j : ℕ) (o : Option ℕ) → ¬ (j ≡ k) → sessionBytes j (asked m (readLine W bs) bs k o .line) ≡ sessionBytes j bs
-  unfolding asked
-  asked-others k j none h = refl
-  asked-others k j (some s) h = sessions-kept (putIn k s (readLine W bs)) j (unfold putIn in block-set (readLine W bs .sessions) k j _ h)
-
-  perform-others : (op : Operation) (j : ℕ) → ¬ (j ≡ sessionOf op) → sessionBytes j (perform W m (readLine W bs) bs op .line) ≡ sessionBytes j bs
-  unfolding perform sessionOf
-  perform-others open-session j h = sessions-kept (opening _ (readLine W bs)) j (unfold opening in refl)
-  perform-others (close-session k) j h =
-      sessions-kept (closing k (readLine W bs)) j (unfold closing in block-set (readLine W bs .sessions) k j _ h)
-  perform-others (ask k q) j h = asked-others k j _ h
-  perform-others (short-ask k lower upper room) j h = asked-others k j _ h
-  perform-others (show k room) j h = refl
-
-  rule-others : (op : Operation) (j : ℕ) → ¬ (j ≡ sessionOf op) → sessionBytes j (rule W m bs op .line) ≡ sessionBytes j bs
-  unfolding rule
-  rule-others op j h = unless-part bs (sessionBytes j) _ _ (perform-others op j h)
-
-  open-rest : drop 8 (rule W m bs open-session .line) ≡ drop 8 bs
-  unfolding rule perform opening
-  open-rest =
-      unless-part bs (drop 8) _ _
-      (behind-opened (opening _ (readLine W bs)) ∙ sym (behind-opened (readLine W bs)) ∙ ap (drop 8) (write-read W bs hb hn))
-
-  close-history : (k : ℕ) → take 8 (drop 8 (rule W m bs (close-session k) .line)) ≡ take 8 (drop 8 bs)
-  unfolding rule perform closing
-  close-history k =
-      unless-part bs (λ (x : List ℕ). take 8 (drop 8 x)) _ _
-      (history-part (closing k (readLine W bs)) ∙ sym (history-part (readLine W bs)) ∙ ap (λ (x : List ℕ). take 8 (drop 8 x)) (write-read W bs hb hn))
-
-  by-open : (j : ℕ) → sessionBytes j (rule W m bs open-session .line) ≡ sessionBytes j bs
-  unfolding rule perform opening
-  by-open j = unless-part bs (sessionBytes j) _ _ (sessions-kept (opening _ (readLine W bs)) j refl)
-
--- A call changes no byte of a session other than the one that it names.
-pub session-frame : (W : ℕ) → SessionFrames W
-session-frame W m bs hb hn =
-    record {
-      others = rule-others W m bs hb hn;
-      by-open = by-open W m bs hb hn;
-      open-rest = open-rest W m bs hb hn;
-      close-history = close-history W m bs hb hn;
-    }

@@ -23,6 +23,7 @@ passed : {A : Type 0} (g : Head) (b : Bool) (x : Checked) (n place : ℕ) → _�
 passed g true x n place e f = f refl e
 passed g false x n place e f = let z : _≡_ {A = ℕ} 0 1 = cc in absurd (omega arith)
 
+-- the balance leaves the head's numbers as they are
 balanced-head : (h g : Head) (place sum : ℕ) → balanced h place sum ≡ Accepted g → h ≡ g
 unfolding balanced pick
 balanced-head h g place sum = go (eqb (sum % 2 ^ 28) 0)
@@ -31,7 +32,7 @@ balanced-head h g place sum = go (eqb (sum % 2 ^ 28) 0)
     go true e = cc
     go false e = cc
 
--- the words behind the head leave its numbers as they are
+-- so do the words behind the head
 scan-head : (s : List ℕ) (h g : Head) (n place : ℕ) (rows : List ℕ) (t : Scan) (sum : ℕ) → scan s h n place rows t sum ≡ Accepted g → h ≡ g
 unfolding scan
 scan-head s h g zero place rows t sum e = balanced-head h g place sum e
@@ -41,7 +42,9 @@ scan-head s h g (suc n) place rows t sum e =
     passed g (eqb f 0) _ f place e
     (λ q k. scan-head s h g n (place + 1) (assigning rows (w .entry)) (next t (w .entry)) ((sum + wordAt s place) % 2 ^ 32) k)
 
+-- ---- an accepted image
 module _ (s : List ℕ) (g : Head) (e : judge s ≡ Accepted g) where
+  -- the head has passed its test, and its numbers are handed on
   accepted-both : (headRight (wordAt s 0) ≡ true) × (headOf (wordAt s 0) ≡ g)
   unfolding judge
   accepted-both =

@@ -70,23 +70,28 @@ module _ (W u : ℕ) (s : List ℕ) (g : Head) (e : judge s ≡ Accepted g) (hu 
 
 -- ---- one run
 module _ (W u : ℕ) (r : Run W) (hu : u < r .head .users) where
+  -- the run's head is its policy's
   head-is : policyOf (r .image) .head ≡ r .head
   head-is = accepted-head (r .image) (r .head) (r .accepted)
 
+  -- so the user has a line and the ledger fits
   in-policy : u < policyOf (r .image) .head .users
   in-policy = subst (λ (h : Head). u < h .users) (sym head-is) hu
 
   fits-policy : length (r .ledger) ≡ lineSize W * policyOf (r .image) .head .users
   fits-policy = r .fits ∙ ap (λ (h : Head). lineSize W * h .users) (sym head-is)
 
+  -- what the user sees goes by the session rules
   view-by-rules : viewOf W u r ≡ rules W (meaning (policyOf (r .image)) u) (firstLine W u r) (callsOf u (r .calls))
   unfolding viewOf eventsOf firstLine
   view-by-rules = run-view W u (r .image) (r .head) (r .accepted) in-policy (r .ledger) fits-policy (r .calls)
 
+  -- nobody else's call changes the user's line
   steady-run : SteadyFor W u r
   unfolding eventsOf firstLine
   steady-run = run-steady W u (r .image) (r .head) (r .accepted) in-policy (r .ledger) fits-policy (r .calls)
 
+  -- other users' assignments have no say in what the policy means for the user
   only-means : meaning (policyOf (r .image)) u ≡ meaning (onlyFor u (policyOf (r .image))) u
   only-means = only-meaning u (lt-of-lt-of-le hu (accepted-users (r .image) (r .head) (r .accepted))) (policyOf (r .image))
 

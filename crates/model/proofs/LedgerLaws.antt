@@ -24,11 +24,13 @@ module _ {A : Type 0} (a z : ℕ) (bs l : List A) (hz : length bs ≡ z) (hl : a
   pub patch-length : length (take a l ++ (bs ++ drop (a + z) l)) ≡ length l
   patch-length = simp (length-append, length-take, length-drop) (omega arith)
 
+  -- the elements put in
   patch-same : take z (drop a (take a l ++ (bs ++ drop (a + z) l))) ≡ bs
   patch-same =
       let h : length (take a l) ≡ a = length-take-le a l (omega arith) in
       rw (drop-at (take a l) (bs ++ drop (a + z) l) a h) (take-at bs (drop (a + z) l) z hz)
 
+  -- a part that ends before the change
   window-front : (b : ℕ) (xs : List A) → b + z ≤ a → take z (drop b (take a l ++ xs)) ≡ take z (drop b (take a l))
   window-front b xs h =
       let k : length (take a l) ≡ a = length-take-le a l (omega arith) in
@@ -42,6 +44,7 @@ module _ {A : Type 0} (a z : ℕ) (bs l : List A) (hz : length bs ≡ z) (hl : a
       ∙ sym (window-front b (drop a l) h)
       ∙ ap (λ (x : List A). take z (drop b x)) (take-append-drop a l)
 
+  -- all behind the change stays
   pub patch-behind : (n : ℕ) → drop (a + z + n) (take a l ++ (bs ++ drop (a + z) l)) ≡ drop (a + z + n) l
   patch-behind n =
       let k : length (take a l) ≡ a = length-take-le a l (omega arith) in
@@ -76,14 +79,17 @@ module _ {A : Type 0} (a z : ℕ) (bs l : List A) (hz : length bs ≡ z) (hl : a
 pub apart : (z u v : ℕ) → u < v → z * u + z ≤ z * v
 apart z u v h = rw mul-suc at (mul-le-mul-left z h)
 
+-- a line has z bytes
 pub lineAt-length : (z u n : ℕ) (l : List ℕ) → length l ≡ z * n → u < n → length (lineAt z u l) ≡ z
 unfolding lineAt
 lineAt-length z u n l hn hu = length-take-le z (drop (z * u) l) (rw length-drop (omega (arith, apart z u n hu)))
 
 module _ (z u n : ℕ) (bs l : List ℕ) (hz : length bs ≡ z) (hn : length l ≡ z * n) (hu : u < n) where
+  -- the line lies in the ledger
   inside : z * u + z ≤ length l
   inside = rw hn (apart z u n hu)
 
+  -- a changed line keeps the ledger's length
   pub withLine-length : length (withLine z u bs l) ≡ length l
   unfolding withLine
   withLine-length = patch-length (z * u) z bs l hz inside
@@ -131,6 +137,7 @@ module _ (W : ℕ) (p : Policy) (l : List ℕ) (hl : length l ≡ lineSize W * p
       rule-length W (meaning p (c .user)) (lineAt (lineSize W) (c .user) l) (lineAt-length (lineSize W) (c .user) (p .head .users) l hl h)
       (c .operation)
 
+  -- the ledger's length stays
   pub step-length : length (stepOn W p l c .ledger) ≡ length l
   unfolding ruled
   step-length = go (ltb (c .user) (p .head .users)) refl

@@ -13,7 +13,6 @@ pub mod AnyWidth
 pub mod Every
 pub mod Actives
 pub mod ConditionsProof
-pub mod TableOf
 pub mod LineLaws
 pub mod LedgerLaws
 pub mod RoundTrip
@@ -21,3 +20,5 @@ pub mod HeadLaws
 pub mod Meanings
 pub mod IndependenceProof
 pub mod FramesProof
+pub mod AnswerProof
+pub mod SessionFrameProof

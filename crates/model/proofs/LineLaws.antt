@@ -18,6 +18,7 @@ use Rattle.model.specs.Session.{Operation, open-session, close-session, 
 
 -- ---- lengths
 
+-- n bytes are written of a number
 pub length-bytesOf : (n v : ℕ) → length (bytesOf n v) ≡ n
 unfolding bytesOf
 length-bytesOf zero v = refl
@@ -36,20 +37,23 @@ length-writeSessions [] = refl
 length-writeSessions (s ∷ ss) =
     simp (length-append, length-bytesOf, length-writeSessions ss) (omega (arith, mul-suc 16 (length ss)))
 
+-- a line of W sessions has its size
 pub length-writeLine : (l : Line) → length (writeLine l) ≡ lineSize (length (l .sessions))
 unfolding writeLine lineSize
 length-writeLine l = simp (length-append, length-bytesOf, length-writeSessions) (omega arith)
 
 -- ---- the sessions of a line
 
--- sixteen bytes before the rest
+-- two numbers of eight bytes before the rest
 module _ (a b : ℕ) (rest : List ℕ) where
+  -- the two numbers alone
   pub first-sixteen : take 16 (bytesOf 8 a ++ (bytesOf 8 b ++ rest)) ≡ bytesOf 8 a ++ bytesOf 8 b
   first-sixteen =
       ap (λ (x : List ℕ). take 16 x) (sym (append-assoc (bytesOf 8 a) (bytesOf 8 b) rest))
       ∙ take-at (bytesOf 8 a ++ bytesOf 8 b) rest 16
       (length-append (bytesOf 8 a) (bytesOf 8 b) ∙ ap₂ _+_ (length-bytesOf 8 a) (length-bytesOf 8 b))
 
+  -- the rest, and what stands further behind
   pub behind-sixteen : drop 16 (bytesOf 8 a ++ (bytesOf 8 b ++ rest)) ≡ rest
   behind-sixteen =
       sym (drop-drop 8 8 (bytesOf 8 a ++ (bytesOf 8 b ++ rest)))
@@ -64,6 +68,7 @@ module _ (a b : ℕ) (rest : List ℕ) where
 unfoldable pub blockAt : ℕ → List Session → List ℕ
 blockAt j ss = take 16 (drop (16 * j) (writeSessions ss))
 
+-- behind the first session's bytes come those of the others
 pub block-suc : (j : ℕ) (s : Session) (ss : List Session) → blockAt (suc j) (s ∷ ss) ≡ blockAt j ss
 unfolding blockAt writeSessions
 block-suc j s ss =
@@ -97,7 +102,15 @@ pub history-part : (l : Line) → take 8 (drop 8 (writeLine l)) ≡ bytesOf 8 (l
 history-part l = ap (λ (x : List ℕ). take 8 x) (behind-opened l) ∙ take-at (bytesOf 8 (l .history)) _ 8 (length-bytesOf 8 (l .history))
 
 -- ---- a line under the session rules
+
+-- what the work done keeps of a line, the call keeps
+pub unless-part : (bs : List ℕ) (part : List ℕ → List ℕ) (o : Option Refusal) (r : Result) → part (r .line) ≡ part bs → part (unless o bs r .line) ≡ part bs
+unfolding unless
+unless-part bs part none r h = h
+unless-part bs part (some f) r h = refl
+
 module _ (W : ℕ) (m : Meaning) (bs : List ℕ) (h : length bs ≡ lineSize W) where
+  -- an ask, any call that nothing refuses, and any call
   asked-length : (k : ℕ) (o : Option ℕ) → length (asked m (readLine W bs) bs k o .line) ≡ lineSize W
   unfolding asked
   asked-length k none = h

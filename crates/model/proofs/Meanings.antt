@@ -14,13 +14,15 @@ use Rattle.model.specs.Tests.{pick, any, all}
 use Rattle.model.specs.Sets.{unionAt}
 use Rattle.model.specs.Policy.{Policy, meaning, authorized, closed, selfAndJuniors, reached, carriedTable, met, onlyFor, kindNumber, sameExclusion, excludes, Agree}
 use Rattle.model.proofs.Bools.{and-l, and-r, or-r, bool-ext}
-use Rattle.model.proofs.TableOf.{getD-tableOf}
+use Rattle.model.proofs.Closure.{getD-tableOf}
 
 -- ---- a test of all members goes by membership alone
 module _ {A : Type 0} (same : A → A → Bool) (same-refl : (x : A) → same x x ≡ true) (same-eq : (x y : A) → same x y ≡ true → x ≡ y) where
+  -- x is one of the list, by the test
   abbrev pub member : List A → A → Bool
   member l x = any (λ y. same y x) l
 
+  -- a member of a list whose members all pass
   all-at : (f : A → Bool) (l : List A) → all f l ≡ true → (x : A) → member l x ≡ true → f x ≡ true
   unfolding all any
   all-at f [] e x h = absurd (true≢false (sym h))
@@ -30,16 +32,19 @@ module _ {A : Type 0} (same : A → A → Bool) (same-refl : (x : A) → same x 
       go true q k ih = rw (← same-eq y x q) (and-l (f y) (all f l) e)
       go false q k ih = ih k
 
+  -- every member passes
   all-of : (f : A → Bool) (l : List A) → ((x : A) → member l x ≡ true → f x ≡ true) → all f l ≡ true
   unfolding all any
   all-of f [] h = refl
   all-of f (y ∷ l) h = rw (h y (rw (same-refl y))) (all-of f l (λ x k. h x (or-r (same y x) (member l x) k)))
 
+  -- lists of the same members
   pub all-same : (f : A → Bool) (l m : List A) → ((x : A) → member l x ≡ member m x) → all f l ≡ all f m
   all-same f l m h =
       bool-ext (all f l) (all f m) (λ e. all-of f m (λ x k. all-at f l e x (h x ∙ k))) (λ e. all-of f l (λ x k. all-at f m e x (sym (h x) ∙ k)))
 
 -- ---- exclusions
+-- kinds of the same number are the same
 kind-eq : (a b : Kind) → eqb (kindNumber a) (kindNumber b) ≡ true → a ≡ b
 unfolding kindNumber
 kind-eq SsDmer SsDmer e = refl
@@ -75,11 +80,13 @@ sameExclusion-refl x =
 
 -- ---- policies that agree
 module _ (u : ℕ) (p q : Policy) (h : Agree u p q) where
+  -- the same exclusions are met
   agree-met : (counted : Kind → ℕ) → all (met counted) (p .exclusions) ≡ all (met counted) (q .exclusions)
   unfolding excludes
   agree-met counted =
       all-same sameExclusion sameExclusion-refl sameExclusion-eq (met counted) (p .exclusions) (q .exclusions) (h .exclusions)
 
+  -- the session rules see the same
   pub agree-meaning : meaning p u ≡ meaning q u
   unfolding meaning authorized carriedTable reached
   agree-meaning = λ i.
@@ -101,12 +108,13 @@ module _ (u : ℕ) (small : u < 64) (p : Policy) where
         heads = refl;
         own =
             sym
-            (getD-tableOf 64 (λ v. pick (eqb v u) (getD (p .assigned) v 0) 0) 0 u small
+            (getD-tableOf 64 (λ v. pick (eqb v u) (getD (p .assigned) v 0) 0) u small
             ∙ unfold pick in ap (λ (b : Bool). pick b (getD (p .assigned) u 0) 0) (eq-eqb u u refl));
         grants = refl;
         seniors = refl;
         exclusions = λ x. refl;
       }
 
+  -- and means the same for the user
   pub only-meaning : meaning p u ≡ meaning (onlyFor u p) u
   only-meaning = agree-meaning u p (onlyFor u p) only-agree

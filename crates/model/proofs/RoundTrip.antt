@@ -47,6 +47,7 @@ pub are-bytes : (bs : List ℕ) → ((i : ℕ) → i < length bs → getD bs i 0
 are-bytes [] h = refl
 are-bytes (b ∷ bs) h = both (ltb b 256) (areBytes bs) (lt-ltb b 256 (h 0 (zero-lt-suc (length bs)))) (are-bytes bs (λ i l. h (suc i) (suc-le-suc l)))
 
+-- so is each of a part
 pub bytes-take : (n : ℕ) (bs : List ℕ) → areBytes bs ≡ true → areBytes (take n bs) ≡ true
 bytes-take zero bs h = refl
 bytes-take (suc n) [] h = refl
@@ -71,6 +72,7 @@ sixteen bs rest h k e =
     rw (eight bs h (omega arith), eight (drop 8 bs) (bytes-drop 8 bs h) (rw length-drop (omega arith)), e, ← drop-drop 8 8 bs)
     (ap (λ (x : List ℕ). take 8 bs ++ x) (take-append-drop 8 (drop 8 bs)) ∙ take-append-drop 8 bs)
 
+-- the sessions
 sessions-written : (W : ℕ) (bs : List ℕ) → areBytes bs ≡ true → length bs ≡ 16 * W → writeSessions (readSessions W bs) ≡ bs
 unfolding readSessions writeSessions
 sessions-written zero [] h k = refl
@@ -80,6 +82,7 @@ sessions-written (suc W) bs h k =
     sixteen bs (writeSessions (readSessions W (drop 16 bs))) h (omega arith)
     (sessions-written W (drop 16 bs) (bytes-drop 16 bs h) (rw length-drop (omega arith)))
 
+-- the line
 pub write-read : (W : ℕ) (bs : List ℕ) → areBytes bs ≡ true → length bs ≡ lineSize W → writeLine (readLine W bs) ≡ bs
 unfolding writeLine readLine lineSize
 write-read W bs h k =
@@ -99,6 +102,7 @@ module _ (a b : ℕ) (rest : List ℕ) where
       ap (λ (x : List ℕ). number (take 8 x)) (drop-at (bytesOf 8 a) (bytesOf 8 b ++ rest) 8 (length-bytesOf 8 a))
       ∙ ap number (take-at (bytesOf 8 b) rest 8 (length-bytesOf 8 b)) ∙ number-bytes 8 b h
 
+-- the sessions
 sessions-read : (ss : List Session) → all fitsSession ss ≡ true → readSessions (length ss) (writeSessions ss) ≡ ss
 unfolding readSessions writeSessions all fitsSession
 sessions-read [] h = refl
@@ -112,6 +116,7 @@ sessions-read (s ∷ ss) h =
     (ap (readSessions (length ss)) (behind-sixteen (s .active) (s .history) (writeSessions ss))
     ∙ sessions-read ss (and-r (fitsSession s) (all fitsSession ss) h))
 
+-- the line
 pub read-write : (W : ℕ) (l : Line) → length (l .sessions) ≡ W → fitsLine l ≡ true → readLine W (writeLine l) ≡ l
 unfolding readLine writeLine fitsLine
 read-write W l n h =

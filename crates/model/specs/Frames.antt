@@ -14,8 +14,8 @@ use Rattle.model.specs.declared.Line.{Line}
 use Rattle.model.specs.Tests.{all}
 use Rattle.model.specs.Policy.{Meaning}
 use Rattle.model.specs.Line.{lineSize, readLine, writeLine}
-use Rattle.model.specs.Session.{Operation, open-session, close-session, sessionOf, rule}
-use Rattle.model.specs.Run.{Call, Event, step, showBy}
+use Rattle.model.specs.Session.{Operation, open-session, close-session, sessionOf, queryOf, rule}
+use Rattle.model.specs.Run.{Call, Event, step, answered, showBy}
 
 -- ---- a line and its bytes
 
@@ -44,7 +44,7 @@ pub record Frame (z u : ℕ) (before : List ℕ) (e : Event) : Type 0 where
   pub outside : (i : ℕ) → Outside z u i → getD (e .ledger) i 0 ≡ getD before i 0
   pub refused-ledger : ¬ (e .reply .number ≡ 0) → e .ledger ≡ before
   pub refused-filled : ¬ (e .reply .number ≡ 0) → e .reply .filled ≡ []
-  pub done-filled : e .reply .number ≡ 0 → (e .reply .filled ≡ []) ⊎ (length (e .reply .filled) ≡ 40)
+  pub filled : (e .reply .filled ≡ []) ⊎ (length (e .reply .filled) ≡ 40)
 
 -- every call is framed so, under any image and on any ledger
 abbrev pub StepFrame : ℕ → Type 0
@@ -53,6 +53,11 @@ StepFrame W = (image ledger : List ℕ) (c : Call) → Frame (lineSize W) (c .us
 -- a show keeps the whole ledger
 abbrev pub ShowKeeps : ℕ → Type 0
 ShowKeeps W = (image ledger : List ℕ) (u k room : ℕ) → step W image ledger (showBy u k room) .ledger ≡ ledger
+
+-- the answer buffer of a call keeps its length
+abbrev pub AnswerKeepsLength : ℕ → Type 0
+AnswerKeepsLength W = (image ledger : List ℕ) (c : Call) (buffer : List ℕ) → length buffer ≡ queryOf (c .operation) .room
+    → length (answered buffer (step W image ledger c .reply)) ≡ length buffer
 
 -- ---- a call on a line
 
