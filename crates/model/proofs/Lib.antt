@@ -1,6 +1,9 @@
 -- The laws of the definitions and the theorems over them.
 pub mod Bools
 pub mod SetLaws
+pub mod TableLaws
+pub mod Scanned
+pub mod Accepted
 pub mod Computing
 pub mod Cases
 pub mod UnionLaws

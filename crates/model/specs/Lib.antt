@@ -15,3 +15,4 @@ pub mod Chains
 pub mod Read
 pub mod Chosen
 pub mod Conditions
+pub mod Ranges
