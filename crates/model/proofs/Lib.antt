@@ -25,3 +25,5 @@ pub mod IndependenceProof
 pub mod FramesProof
 pub mod AnswerProof
 pub mod SessionFrameProof
+pub mod Inclusion
+pub mod MetLaws

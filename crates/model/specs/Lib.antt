@@ -16,3 +16,4 @@ pub mod Read
 pub mod Chosen
 pub mod Conditions
 pub mod Ranges
+pub mod Kept
