@@ -27,3 +27,4 @@ pub mod AnswerProof
 pub mod SessionFrameProof
 pub mod Inclusion
 pub mod MetLaws
+pub mod SoundLaws
