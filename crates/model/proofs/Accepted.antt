@@ -25,7 +25,7 @@ use Rattle.model.specs.Policy.{entriesOf, granting, ordering, fold, join
 use Rattle.model.specs.Ranges.{Each, OneTo, ExclusionInRange, TableInRange, RowsBelow, InRange}
 use Rattle.model.proofs.Bools.{and-l, and-r, not-both}
 use Rattle.model.proofs.SetLaws.{count-with, with-member}
-use Rattle.model.proofs.TableLaws.{set-keeps, getD-zeros, has-none, count-empty, put-in-range, put-below, fold-keeps}
+use Rattle.model.proofs.TableLaws.{set-keeps, getD-filled, has-none, count-empty, put-in-range, put-below, fold-keeps}
 use Rattle.model.proofs.Scanned.{Fine, Valid, Judged, scan-judged}
 
 -- ---- the tables
@@ -37,13 +37,13 @@ Table m n rows = TableInRange m n rows × RowsBelow n rows
 empty-table : (m n : ℕ) → Table m n emptyRows
 unfolding emptyRows
 empty-table m n = (
-  (λ i j e. not-both (has (getD (replicate 64 0) i 0) j) e (ap (λ (s : ℕ). has s j) (getD-zeros 64 i) ∙ has-none j)),
-  (λ i. subst (λ (s : ℕ). s < 2 ^ n) (sym (getD-zeros 64 i)) (pow-pos n)),
+  (λ i j e. not-both (has (getD (replicate 64 0) i 0) j) e (ap (λ (s : ℕ). has s j) (getD-filled 0 64 i) ∙ has-none j)),
+  (λ i. subst (λ (s : ℕ). s < 2 ^ n) (sym (getD-filled 0 64 i)) (pow-pos n)),
 )
 
 few-none : (u : ℕ) → count 64 (getD emptyRows u 0) ≤ 16
 unfolding emptyRows
-few-none u = subst (λ (n : ℕ). n ≤ 16) (sym (ap (count 64) (getD-zeros 64 u) ∙ count-empty 64)) zero-le
+few-none u = subst (λ (n : ℕ). n ≤ 16) (sym (ap (count 64) (getD-filled 0 64 u) ∙ count-empty 64)) zero-le
 
 put-keeps : (m n : ℕ) (rows : List ℕ) (i k : ℕ) → (ltb i m && ltb k n) ≡ true → Table m n rows
     → Table m n (set rows i (with (getD rows i 0) k))

@@ -28,3 +28,4 @@ pub mod SessionFrameProof
 pub mod Inclusion
 pub mod MetLaws
 pub mod SoundLaws
+pub mod ZeroLaws

@@ -28,10 +28,10 @@ set-keeps P (x ∷ rows) (suc i) v h p zero = h zero
 set-keeps P (x ∷ rows) (suc i) v h p (suc j) = set-keeps (λ k. P (suc k)) rows i v (λ k. h (suc k)) p j
 
 -- ---- empty rows
-pub getD-zeros : (n i : ℕ) → getD {A = ℕ} (replicate n 0) i 0 ≡ 0
-getD-zeros zero i = refl
-getD-zeros (suc n) zero = refl
-getD-zeros (suc n) (suc i) = getD-zeros n i
+pub getD-filled : {A : Type 0} (a : A) (n i : ℕ) → getD (replicate n a) i a ≡ a
+getD-filled a zero i = refl
+getD-filled a (suc n) zero = refl
+getD-filled a (suc n) (suc i) = getD-filled a n i
 
 pub has-none : (k : ℕ) → has 0 k ≡ false
 has-none k = has-beyond 0 0 k (pow-pos 0) zero-le
