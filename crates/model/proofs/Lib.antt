@@ -29,3 +29,4 @@ pub mod Inclusion
 pub mod MetLaws
 pub mod SoundLaws
 pub mod ZeroLaws
+pub mod KeptProof
