@@ -34,6 +34,7 @@ use Rattle.model.proofs.Scanned.{Fine, Valid, Judged, scan-judged}
 abbrev Table : ℕ → ℕ → List ℕ → Type 0
 Table m n rows = TableInRange m n rows × RowsBelow n rows
 
+-- an empty table is in range
 empty-table : (m n : ℕ) → Table m n emptyRows
 unfolding emptyRows
 empty-table m n = (
@@ -41,10 +42,12 @@ empty-table m n = (
   (λ i. subst (λ (s : ℕ). s < 2 ^ n) (sym (getD-filled 0 64 i)) (pow-pos n)),
 )
 
+-- in an empty table nobody has a role
 few-none : (u : ℕ) → count 64 (getD emptyRows u 0) ≤ 16
 unfolding emptyRows
 few-none u = subst (λ (n : ℕ). n ≤ 16) (sym (ap (count 64) (getD-filled 0 64 u) ∙ count-empty 64)) zero-le
 
+-- a member put in where both numbers are in range
 put-keeps : (m n : ℕ) (rows : List ℕ) (i k : ℕ) → (ltb i m && ltb k n) ≡ true → Table m n rows
     → Table m n (set rows i (with (getD rows i 0) k))
 put-keeps m n rows i k e t =
@@ -53,6 +56,7 @@ put-keeps m n rows i k e t =
     (put-in-range rows i k m n (t .0) a b, put-below rows i k n (t .1) b)
 
 module _ (h : Head) where
+  -- an assignment in range keeps the table of roles by user in range
   assigning-keeps : (rows : List ℕ) (e : Entry) → inRange h e ≡ true → Table (h .users) (h .roles) rows
       → Table (h .users) (h .roles) (assigning rows e)
   unfolding assigning inRange
@@ -64,6 +68,7 @@ module _ (h : Head) where
   assigning-keeps rows End e t = t
   assigning-keeps rows Unknown e t = t
 
+  -- a grant in range keeps the table of permissions by role in range
   granting-keeps : (rows : List ℕ) (e : Entry) → inRange h e ≡ true → Table (h .roles) (h .permissions) rows
       → Table (h .roles) (h .permissions) (granting rows e)
   unfolding granting inRange
@@ -75,6 +80,7 @@ module _ (h : Head) where
   granting-keeps rows End e t = t
   granting-keeps rows Unknown e t = t
 
+  -- a senior word in range keeps the table of juniors by role in range
   ordering-keeps : (rows : List ℕ) (e : Entry) → inRange h e ≡ true → Table (h .roles) (h .roles) rows
       → Table (h .roles) (h .roles) (ordering rows e)
   unfolding ordering inRange
@@ -86,6 +92,7 @@ module _ (h : Head) where
   ordering-keeps rows End e t = t
   ordering-keeps rows Unknown e t = t
 
+  -- valid entries are in range
   ranges : (rows : List ℕ) (t : Scan) (es : List Entry) → Valid h rows t es → Each (λ e. inRange h e ≡ true) es
   ranges rows t [] v = tt
   ranges rows t (e ∷ es) v = (v .0 .range, ranges (assigning rows e) (next t e) es (v .1))
@@ -100,6 +107,7 @@ not-crowded true b e z = absurd (true≢false z)
 not-crowded false b e z = e
 
 module _ (h : Head) (small : h .roles ≤ 64) where
+  -- a role again, or one more where there is room
   few-with : (row r : ℕ) → row < 2 ^ h .roles → r < h .roles → (not (has row r) && leb 16 (count 64 row)) ≡ false → count 64 row ≤ 16
       → count 64 (with row r) ≤ 16
   few-with row r b l e f = go (has row r) refl
@@ -111,6 +119,7 @@ module _ (h : Head) (small : h .roles ≤ 64) where
           let q = leb-false 16 (count 64 row) (not-crowded (has row r) (leb 16 (count 64 row)) e p) in
           subst (λ (n : ℕ). n ≤ 16) (sym (count-with 64 row r (lt-of-lt-of-le l small) p)) q
 
+  -- an entry that does not crowd leaves every user at most 16 roles
   few-step : (rows : List ℕ) (t : Scan) (e : Entry) → Fine h rows t e → Table (h .users) (h .roles) rows → Few rows
       → Few (assigning rows e)
   unfolding assigning inRange crowds
@@ -125,6 +134,7 @@ module _ (h : Head) (small : h .roles ≤ 64) where
   few-step rows t End f b k = k
   few-step rows t Unknown f b k = k
 
+  -- so do valid entries, one after the other
   few-kept : (rows : List ℕ) (t : Scan) (es : List Entry) → Valid h rows t es → Table (h .users) (h .roles) rows → Few rows
       → Few (fold assigning rows es)
   unfolding fold
@@ -132,6 +142,7 @@ module _ (h : Head) (small : h .roles ≤ 64) where
   few-kept rows t (e ∷ es) v b k =
       few-kept (assigning rows e) (next t e) es (v .1) (assigning-keeps h rows e (v .0 .range) b) (few-step rows t e (v .0) b k)
 
+  -- the exclusions so far and those to come are at most 32
   few-exclusions : (rows : List ℕ) (t : Scan) (es : List Entry) → Valid h rows t es → t .exclusions ≤ 32
       → t .exclusions + length (exclusionsOf es) ≤ 32
   unfolding exclusionsOf next crowds
@@ -166,6 +177,7 @@ module _ (h : Head) (small : h .roles ≤ 64) where
 
   -- an exclusion word is followed by as many different members as it says
   module _ (rows : List ℕ) (t : Scan) (x : Exclusion) (m : ℕ) (es : List Entry) (v : Valid h rows t (Exclude x m ∷ es)) where
+    -- their number is m, and each of them is a role
     due-members : (count 64 (withMembers x (take m es) .members) ≡ m) × (withMembers x (take m es) .members < 2 ^ h .roles)
     unfolding withMembers next
     due-members =
@@ -173,6 +185,7 @@ module _ (h : Head) (small : h .roles ≤ 64) where
         subst (λ (s : ℕ). (count 64 (fold joining s (take m es)) ≡ m) × (fold joining s (take m es) < 2 ^ h .roles)) (sym (v .0 .plain))
         (k .0 ∙ ap (λ (n : ℕ). n + m) (count-empty 64) ∙ zero-add m, k .1)
 
+    -- the exclusion with its members is in range
     exclusion-in-range : ExclusionInRange (h .roles) (withMembers x (take m es))
     unfolding inRange withMembers
     exclusion-in-range =
@@ -188,6 +201,7 @@ module _ (h : Head) (small : h .roles ≤ 64) where
           members = due-members .1;
         }
 
+  -- so is each exclusion of valid entries
   exclusions-in-range : (rows : List ℕ) (t : Scan) (es : List Entry) → Valid h rows t es → Each (ExclusionInRange (h .roles)) (exclusionsOf es)
   unfolding exclusionsOf
   exclusions-in-range rows t [] v = tt
@@ -200,6 +214,7 @@ module _ (h : Head) (small : h .roles ≤ 64) where
   exclusions-in-range rows t (End ∷ es) v = exclusions-in-range (assigning rows End) (next t End) es (v .1)
   exclusions-in-range rows t (Unknown ∷ es) v = exclusions-in-range (assigning rows Unknown) (next t Unknown) es (v .1)
 
+  -- the same behind any entries before the exclusion word
   due-behind : (before : List Entry) (rows : List ℕ) (t : Scan) (x : Exclusion) (m : ℕ) (es : List Entry)
       → Valid h rows t (before ++ (Exclude x m ∷ es)) → count 64 (withMembers x (take m es) .members) ≡ m
   due-behind [] rows t x m es v = due-members rows t x m es v .0
@@ -211,11 +226,13 @@ Known s (Accepted k) =
     (headRight (wordAt s 0) ≡ true) × Valid (headOf (wordAt s 0)) emptyRows start (entriesOf s) × (headOf (wordAt s 0) ≡ k)
 Known s (Refused n place) = Unit {0}
 
+-- what the scan says of the entries, with the test of the head
 known-by : (s : List ℕ) (v : Checked) → headRight (wordAt s 0) ≡ true → Judged (headOf (wordAt s 0)) emptyRows start (entriesOf s) v
     → Known s v
 known-by s (Accepted k) e j = (e, j .0, j .1)
 known-by s (Refused n place) e j = tt
 
+-- by the tests of the length and the head
 known : (s : List ℕ) → Known s (judge s)
 unfolding judge entriesOf start
 known s = go (lengthRight (length s)) (headRight (wordAt s 0)) refl
@@ -237,13 +254,16 @@ head-tests k a b c d e =
     let g = and-l (k && a && b) c f in
     (and-r k a (and-l (k && a) b g), and-r (k && a) b g, and-r (k && a && b) c f)
 
+-- a test of a range, as the range
 one-to : (n b : ℕ) → between 1 n b ≡ true → OneTo b n
 one-to n b e = (leb-true 1 n (and-l (leb 1 n) (leb n b) e), leb-true n b (and-r (leb 1 n) (leb n b) e))
 
 module _ (s : List ℕ) (h : Head) (accepted : judge s ≡ Accepted h) where
+  -- what is known of this image
   facts : Known s (Accepted h)
   facts = subst (Known s) accepted (known s)
 
+  -- its numbers of users, roles and permissions
   head-in-range : OneTo 64 (policyOf s .head .users) × OneTo 64 (policyOf s .head .roles) × OneTo 256 (policyOf s .head .permissions)
   unfolding policyOf headOf headRight
   head-in-range =

@@ -1,24 +1,26 @@
 -- Laws of inclusion between sets of any width, and of single members put in and taken out by sum and difference.
 -- Assumes nothing.
-use mathlib.Core.Path.{_≡_, refl, sym, ap, ap₂, _∙_}
+use mathlib.Core.Path.{_≡_, refl, sym, ap, _∙_}
 use mathlib.Core.Bool.{Bool, true, false, _&&_, and-false}
-use Prim.Native.Nat.{ℕ, zero, suc, _+_, _-_, _*_, _/_, _%_, _^_, _<_}
+use Prim.Native.Nat.{ℕ, _+_, _-_, _/_, _%_, _^_}
 use native.Mathlib.Nat.{mod-lt}
 use native.Mathlib.Omega.{arith}
 use lib.Dec.{eqb}
 use lib.Pow.{pow-pos}
-use lib.Bits.{bitAnd, bitOr, bitXor, or-disjoint, xor-add-and, xor-shr, xor-mod, xor-zero-r, and-self, and-zero-l}
-use borrow.Author.Tests.{eqb-true, eqb-false, eq-eqb, ne-eqb}
+use lib.Bits.{bitXor, or-disjoint, xor-add-and, xor-shr, xor-mod, xor-zero-r}
+use borrow.Author.Tests.{eqb-true, eqb-false, ne-eqb}
 use Rattle.model.specs.Sets.{has, union, inter, with, within}
-use Rattle.model.proofs.Bools.{and-l, and-r, both, or-l, or-r, or-cases, not-both, bool-ext}
-use Rattle.model.proofs.SetLaws.{has-inter, has-union, has-power, has-with}
+use Rattle.model.proofs.Bools.{and-l, and-r, both, or-l, or-r, or-cases, not-both}
+use Rattle.model.proofs.SetLaws.{has-inter, has-union, has-power}
 use Rattle.model.proofs.AnyWidth.{same-sets, within-iff}
 use Rattle.model.proofs.TableLaws.{has-none}
 use mathlib.Core.Logic.{_⊎_, inl, inr}
 
+-- every set lies within itself
 pub within-refl : (a : ℕ) → within a a ≡ true
 within-refl a = within-iff a a .1 (λ k e. e)
 
+-- inclusion is transitive
 pub within-trans : (a b c : ℕ) → within a b ≡ true → within b c ≡ true → within a c ≡ true
 within-trans a b c v w = within-iff a c .1 (λ k e. within-iff b c .0 w k (within-iff a b .0 v k e))
 
@@ -26,9 +28,11 @@ within-trans a b c v w = within-iff a c .1 (λ k e. within-iff b c .0 w k (withi
 pub none-within : (a : ℕ) → within 0 a ≡ true
 none-within a = within-iff 0 a .1 (λ k e. not-both (has 0 k) e (has-none k))
 
+-- a set lies within its union with another
 pub within-union-l : (a b : ℕ) → within a (union a b) ≡ true
 within-union-l a b = within-iff a (union a b) .1 (λ k e. has-union a b k ∙ or-l (has a k) (has b k) e)
 
+-- on either side
 pub within-union-r : (a b : ℕ) → within b (union a b) ≡ true
 within-union-r a b = within-iff b (union a b) .1 (λ k e. has-union a b k ∙ or-r (has a k) (has b k) e)
 
@@ -50,6 +54,7 @@ inter-within s a b w =
 
 -- ---- a member put in by a sum, where it is none yet
 module _ (s k : ℕ) (out : has s k ≡ false) where
+  -- the set and the single member have nothing in common
   apart : inter s (2 ^ k) ≡ 0
   apart = same-sets (inter s (2 ^ k)) 0 (λ j. has-inter s (2 ^ k) j ∙ ap (λ (b : Bool). has s j && b) (has-power k j) ∙ go j (eqb j k) refl ∙ sym (has-none j))
     where
@@ -57,11 +62,13 @@ module _ (s k : ℕ) (out : has s k ≡ false) where
       go j true e = ap (λ (i : ℕ). has s i && true) (eqb-true j k e) ∙ ap (λ (b : Bool). b && true) out
       go j false e = and-false (has s j)
 
+  -- the sum is the set with the member
   pub add-member : s + 2 ^ k ≡ with s k
   add-member = sym (or-disjoint s (2 ^ k) apart)
 
 -- ---- a member taken out by a difference
 module _ (s k : ℕ) (member : has s k ≡ true) where
+  -- what the set and the single member have in common is the member
   common : inter s (2 ^ k) ≡ 2 ^ k
   common = same-sets (inter s (2 ^ k)) (2 ^ k) (λ j. has-inter s (2 ^ k) j ∙ ap (λ (b : Bool). has s j && b) (has-power k j) ∙ go j (eqb j k) refl ∙ sym (has-power k j))
     where
@@ -69,6 +76,7 @@ module _ (s k : ℕ) (member : has s k ≡ true) where
       go j true e = ap (λ (i : ℕ). has s i && true) (eqb-true j k e) ∙ ap (λ (b : Bool). b && true) member ∙ sym e
       go j false e = and-false (has s j) ∙ sym e
 
+  -- the difference is the set without the member
   difference : s - 2 ^ k ≡ bitXor s (2 ^ k)
   difference = omega (arith, xor-add-and s (2 ^ k), common)
 

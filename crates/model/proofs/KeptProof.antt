@@ -1,242 +1,135 @@
 -- Soundness is kept: every call on a sound line leaves a sound line, and a run from the zero ledger never gives 11.
 -- Assumes nothing.
 use mathlib.Core.Path.{_≡_, refl, sym, ap, _∙_, subst}
-use mathlib.Core.Logic.{_⊎_, inl, inr}
-use mathlib.Core.Bool.{Bool, true, false, _&&_, not}
-use mathlib.Core.Option.{Option, none, some, Option·some-injective, Option·some-ne-none, Option·none-ne-some}
+use mathlib.Core.Bool.{Bool, true, false}
 use mathlib.Core.List.{List, [], _∷_}
-use Prim.Native.Nat.{ℕ, zero, suc, _+_, _*_, _^_, _≤_, _<_}
-use native.Mathlib.Nat.{lt-of-lt-of-le, le-refl}
+use Prim.Native.Nat.{ℕ, _*_, _^_, _≤_, _<_}
 use native.Mathlib.Omega.{arith}
-use lib.Dec.{eqb, ltb, leb}
-use lib.Pow.{pow-mono}
-use lib.ListN.{length, getD, length-set, length-replicate, replicate}
-use borrow.Author.Tests.{ltb-true, lt-ltb, leb-false, eqb-true, eqb-false, eq-eqb, not-false}
+use lib.Dec.{eqb, ltb}
+use lib.ListN.{length, length-replicate, replicate}
+use borrow.Author.Tests.{ltb-true, eq-eqb}
 use Rattle.model.specs.declared.Head.{Head}
-use Rattle.model.specs.declared.Session.{Session}
-use Rattle.model.specs.declared.Line.{Line}
 use Rattle.model.specs.declared.Checked.{Checked}
 use Rattle.model.specs.declared.Checked.the-variants.{Accepted}
-use Rattle.model.specs.Tests.{pick, all, first}
-use Rattle.model.specs.Sets.{has, within, one, countTo, count}
+use Rattle.model.specs.Tests.{pick}
 use Rattle.model.specs.Bytes.{number}
 use Rattle.model.specs.Image.{judge}
-use Rattle.model.specs.Policy.{Policy, policyOf, Meaning, meaning, authorized}
-use Rattle.model.specs.Line.{lineSize, readLine, writeLine, emptySession, isOpen, exclusionsMet, sound, lowestClosed, opening, closing, putIn}
-use Rattle.model.specs.Choice.{carriedBy, admissible, choose}
-use Rattle.model.specs.Session.{Query, Operation, open-session, close-session, ask, short-ask, show, sessionOf, queryOf, Reply, refuse, done, given, Result, Refusal, bad-line, bad-session, is-closed, is-full, bad-set, bad-permission, bad-bounds, bad-aim, bad-room, no-set, refusalNumber, canGive, chosen, applies, asked, perform, unless, rule}
-use Rattle.model.specs.Run.{Call, Event, lineAt, ruled, stepOn, stepBy, step, run}
-use Rattle.model.specs.Frames.{fitsSession, fitsLine}
+use Rattle.model.specs.Policy.{Policy, policyOf, meaning, authorized}
+use Rattle.model.specs.Line.{lineSize}
+use Rattle.model.specs.Session.{refuse, Result}
+use Rattle.model.specs.Run.{Call, Event, lineAt, stepOn, stepBy, step, run}
 use Rattle.model.specs.Ranges.{Each, InRange}
-use Rattle.model.specs.Kept.{Antitone, SoundBytes, LineKept, SoundLedger, Well, RunKept}
-use Rattle.model.proofs.Bools.{and-l, and-r, both, not-both}
-use Rattle.model.proofs.Every.{at-all}
-use Rattle.model.proofs.Choices.{within-below, choice}
-use Rattle.model.proofs.LineLaws.{length-readSessions, rule-length}
-use Rattle.model.proofs.LedgerLaws.{step-below, step-length, step-own, step-other, lineAt-length}
-use Rattle.model.proofs.RoundTrip.{read-write}
+use Rattle.model.specs.Kept.{SoundBytes, LineKept, SoundLedger, Well, RunKept}
+use Rattle.model.proofs.LedgerLaws.{step-length, step-own, step-other}
 use Rattle.model.proofs.Accepted.{accepted-in-range}
 use Rattle.model.proofs.MetLaws.{meaning-antitone, meaning-none}
-use Rattle.model.proofs.SoundLaws.{SoundSession, SoundLine, sound-parts, parts-sound, opening-sound, closing-sound, putting-sound}
 use Rattle.model.proofs.ZeroLaws.{zero-sound, zero-lines}
+use Rattle.model.proofs.CallsKept.{call-well, call-answer}
 
--- ---- the first refusal that applies
-module _ {A : Type 0} (f : A → Bool) where
-  -- none: the first does not apply, nor does any behind it
-  first-none : (x : A) (xs : List A) → first f (x ∷ xs) ≡ none → (f x ≡ false) × (first f xs ≡ none)
-  unfolding first
-  first-none x xs = go (f x) refl
-    where
-      go : (b : Bool) → f x ≡ b → _≡_ {A = Option A} (elim b [ true ↦ some x | false ↦ first f xs ]) none → (f x ≡ false) × (first f xs ≡ none)
-      go true p e = absurd (Option·some-ne-none x e)
-      go false p e = (p, e)
+-- ---- the meaning of a policy in range
+module _ (W : ℕ) (wide : W ≤ 64) (p : Policy) (r : InRange p) where
+  -- the roles that a user may activate are roles
+  own-below : (u : ℕ) → meaning p u .authorized < 2 ^ meaning p u .roles
+  unfolding meaning authorized
+  own-below u = r .assigned-rows u
 
-  -- the one given applies
-  first-some : (xs : List A) (y : A) → first f xs ≡ some y → f y ≡ true
-  unfolding first
-  first-some [] y e = absurd (Option·none-ne-some y e)
-  first-some (x ∷ xs) y e = go (f x) refl (first-some xs y) e
-    where
-      go : (b : Bool) → f x ≡ b → (first f xs ≡ some y → f y ≡ true) → _≡_ {A = Option A} (elim b [ true ↦ some x | false ↦ first f xs ]) (some y)
-          → f y ≡ true
-      go true p ih e = ap f (sym (Option·some-injective x y e)) ∙ p
-      go false p ih e = ih e
+  -- there are at most 64 roles
+  few-roles : (u : ℕ) → meaning p u .roles ≤ 64
+  unfolding meaning
+  few-roles u = r .roles .1
 
--- ---- the lowest closed session
+  -- soundness is kept on each user's line
+  pub line-kept : (u : ℕ) → LineKept W (meaning p u)
+  line-kept u =
+      record {
+        antitone = meaning-antitone p u;
+        zero-line = zero-sound W (meaning p u) (meaning-antitone p u) (meaning-none p u r);
+        call = λ bs s op. call-well W (meaning p u) wide (few-roles u) (own-below u) (meaning-antitone p u) bs s op;
+      }
 
--- all of the d sessions from k on are open, or the lowest closed one is one of them and closed
-abbrev Lowest : Line → ℕ → ℕ → ℕ → Type 0
-Lowest l k d n = ((j : ℕ) → k ≤ j → j < k + d → isOpen l j ≡ true) ⊎ ((n < k + d) × (isOpen l n ≡ false))
+  -- ---- one call on a ledger
+  module _ (l : List ℕ) (k : SoundLedger W p l) (c : Call) where
+    -- a user without a line
+    step-refused : ltb (c .user) (p .head .users) ≡ false → stepOn W p l c ≡ record { reply = refuse 10 0; ledger = l }
+    unfolding stepOn pick
+    step-refused h = rw (eq-eqb (length l) (lineSize W * p .head .users) (k .fits), h)
 
-lowest : (l : Line) (k d : ℕ) → Lowest l k d (lowestClosed l k d)
-unfolding lowestClosed
-lowest l k zero = inl (λ j a b. absurd (omega arith))
-lowest l k (suc d) = go (isOpen l k) refl (lowest l (suc k) d)
-  where
-    from-first : isOpen l k ≡ true → ((j : ℕ) → suc k ≤ j → j < suc k + d → isOpen l j ≡ true) → (j : ℕ) → k ≤ j → j < k + suc d → (b : Bool)
-        → eqb j k ≡ b → isOpen l j ≡ true
-    from-first p f j a b true e = subst (λ (i : ℕ). isOpen l i ≡ true) (sym (eqb-true j k e)) p
-    from-first p f j a b false e = let n = eqb-false j k e in f j (omega arith) (omega arith)
+    -- the refusal 10 is another number, and changes nothing
+    refused-well : Well W p (record { reply = refuse 10 0; ledger = l })
+    unfolding refuse
+    refused-well = record { answer = λ e. omega arith; ledger = k }
 
-    go : (b : Bool) → isOpen l k ≡ b → Lowest l (suc k) d (lowestClosed l (suc k) d)
-        → Lowest l k (suc d) (elim b [ true ↦ lowestClosed l (suc k) d | false ↦ k ])
-    go true p ih = elim ih [ inl f ↦ inl (λ j a b. from-first p f j a b (eqb j k) refl) | inr g ↦ inr (omega (arith, g .0), g .1) ]
-    go false p ih = inr (omega arith, p)
+    -- each user's line stays sound: that of the user of the call by the session rules, any other as it was
+    lines-well : (u : ℕ) → u < p .head .users → (b : Bool) → eqb (c .user) u ≡ b
+        → SoundBytes W (meaning p u) (lineAt (lineSize W) u (stepOn W p l c .ledger))
+    lines-well u i true e =
+        subst (SoundBytes W (meaning p u)) (sym (ap (λ (x : Result). x .line) (step-own W p l (k .fits) c u e i)))
+        (line-kept u .call (lineAt (lineSize W) u l) (k .lines u i) (c .operation))
+    lines-well u i false e = subst (SoundBytes W (meaning p u)) (sym (step-other W p l (k .fits) c u e)) (k .lines u i)
 
--- with every session open, all are counted
-count-full : (d s : ℕ) → ((j : ℕ) → j < d → has s j ≡ true) → count d s ≡ d
-unfolding count countTo
-count-full zero s h = refl
-count-full (suc d) s h =
-    ap (λ (b : Bool). one b + count d s) (h d (le-refl (suc d))) ∙ omega (arith, count-full d s (λ j i. h j (omega arith)))
+    -- the answer to a user with a line is that of the session rules
+    answered-well : c .user < p .head .users → ¬ (stepOn W p l c .reply .number ≡ 11)
+    answered-well i =
+        let m = meaning p (c .user) in
+        subst (λ (x : Result). ¬ (x .reply .number ≡ 11)) (sym (step-own W p l (k .fits) c (c .user) (eq-eqb (c .user) (c .user) refl) i))
+        (call-answer W m wide (few-roles (c .user)) (own-below (c .user)) (meaning-antitone p (c .user)) (lineAt (lineSize W) (c .user) l)
+        (k .lines (c .user) i) (c .operation))
 
--- where not all of W sessions are open, the lowest closed one is one of them
-lowest-closed : (W : ℕ) (l : Line) → eqb (count W (l .opened)) W ≡ false
-    → (lowestClosed l 0 W < W) × (isOpen l (lowestClosed l 0 W) ≡ false)
-unfolding isOpen
-lowest-closed W l e = go (lowest l 0 W)
-  where
-    go : Lowest l 0 W (lowestClosed l 0 W) → (lowestClosed l 0 W < W) × (isOpen l (lowestClosed l 0 W) ≡ false)
-    go (inl f) = absurd (eqb-false (count W (l .opened)) W e (count-full W (l .opened) (λ j i. f j (omega arith) (omega arith))))
-    go (inr g) = (omega (arith, g .0), g .1)
+    -- a call on a sound ledger goes well
+    pub step-well : Well W p (stepOn W p l c)
+    step-well = go (ltb (c .user) (p .head .users)) refl
+      where
+        go : (b : Bool) → ltb (c .user) (p .head .users) ≡ b → Well W p (stepOn W p l c)
+        go true e =
+            record {
+              answer = answered-well (ltb-true (c .user) (p .head .users) e);
+              ledger =
+                  record {
+                    fits = step-length W p l (k .fits) c ∙ k .fits;
+                    lines = λ u i. lines-well u i (eqb (c .user) u) refl;
+                  };
+            }
+        go false e = subst (Well W p) (sym (step-refused e)) refused-well
 
--- ---- a sound line as bytes
-module _ (W : ℕ) (m : Meaning) (wide : W ≤ 64) (small : m .roles ≤ 64) where
-  -- every number of a sound line fits its eight bytes
-  sound-fits : (l : Line) → SoundLine W m l → fitsLine l ≡ true
-  unfolding fitsLine fitsSession
-  sound-fits l p =
-      let top : l .history < 2 ^ 64 = lt-of-lt-of-le (p .history) (pow-mono small) in
-      let o = ltb (l .opened) (2 ^ 64) in
-      let h = ltb (l .history) (2 ^ 64) in
-      both (o && h) (all fitsSession (l .sessions))
-      (both o h (lt-ltb (l .opened) (2 ^ 64) (lt-of-lt-of-le (p .opened) (pow-mono wide))) (lt-ltb (l .history) (2 ^ 64) top))
-      (at-all fitsSession (l .sessions) emptySession
-      (λ j i. let s = getD (l .sessions) j emptySession in
-      let q = within-below (s .history) (l .history) 64 top (p .each j .history) in
-      both (ltb (s .active) (2 ^ 64)) (ltb (s .history) (2 ^ 64))
-      (lt-ltb (s .active) (2 ^ 64) (within-below (s .active) (s .history) 64 q (p .each j .active))) (lt-ltb (s .history) (2 ^ 64) q)))
+  -- the zero ledger
+  zero-well : SoundLedger W p (replicate (lineSize W * p .head .users) 0)
+  zero-well =
+      record {
+        fits = length-replicate (lineSize W * p .head .users) 0;
+        lines = λ u i. subst (SoundBytes W (meaning p u)) (sym (zero-lines (lineSize W) u (p .head .users) i)) (line-kept u .zero-line);
+      }
 
-  -- it is read back as it was written
-  written : (l : Line) → length (l .sessions) ≡ W → SoundLine W m l → SoundBytes W m (writeLine l)
-  written l n p = subst (λ (k : Line). sound W m k ≡ true) (sym (read-write W l n (sound-fits l p))) (parts-sound m l W p)
+-- ---- runs under an accepted image
+module _ (W : ℕ) (wide : W ≤ 64) (s : List ℕ) (h : Head) (accepted : judge s ≡ Accepted h) where
+  -- its policy is in range
+  ranged : InRange (policyOf s)
+  ranged = accepted-in-range s h accepted
 
--- ---- one call on a sound line
-module _ (W : ℕ) (m : Meaning) (wide : W ≤ 64) (small : m .roles ≤ 64) (own : m .authorized < 2 ^ m .roles) (anti : Antitone m)
-    (bs : List ℕ) (safe : SoundBytes W m bs) where
-  line : Line
-  line = readLine W bs
+  -- the image ends no call
+  step-on : (l : List ℕ) (c : Call) → step W s l c ≡ stepOn W (policyOf s) l c
+  unfolding step stepBy
+  step-on l c = ap (λ (v : Checked). stepBy W v (policyOf s) l c) accepted
 
-  parts : SoundLine W m line
-  unfolding line
-  parts = sound-parts m (readLine W bs) W safe
+  -- from a sound ledger every call of a run goes well
+  well : (l : List ℕ) → SoundLedger W (policyOf s) l → (cs : List Call) → Each (Well W (policyOf s)) (run W s l cs)
+  unfolding run
+  well l k [] = tt
+  well l k (c ∷ cs) =
+      let w = subst (Well W (policyOf s)) (sym (step-on l c)) (step-well W wide (policyOf s) ranged l k c) in
+      (w, well (step W s l c .ledger) (w .ledger) cs)
 
-  sessions-read : length (line .sessions) ≡ W
-  unfolding line readLine
-  sessions-read = length-readSessions W _
+  -- so no answer is 11
+  answers : (es : List Event) → Each (Well W (policyOf s)) es → Each (λ e. ¬ (e .reply .number ≡ 11)) es
+  answers [] w = tt
+  answers (e ∷ es) w = (w .0 .answer, answers es (w .1))
 
-  -- no refusal of the call applies
-  abbrev Free : Operation → Type 0
-  Free op = first (applies W m line (sessionOf op) (queryOf op)) (canGive op) ≡ none
+  -- soundness is kept through every run, so that a run from the zero ledger never gives 11
+  pub run-kept : RunKept W s
+  run-kept =
+      let z : List ℕ = replicate (lineSize W * policyOf s .head .users) 0 in
+      let k = zero-well W wide (policyOf s) ranged in
+      record { zero-ledger = k; well = well; from-zero = λ cs. answers (run W s z cs) (well z k cs) }
 
-  -- the session that the call names is there, and open
-  abbrev There : ℕ → Type 0
-  There k = (k < W) × (isOpen line k ≡ true)
-
-  there : (k : ℕ) (q : Query) (fs : List Refusal) → first (applies W m line k q) (bad-line ∷ bad-session ∷ is-closed ∷ fs) ≡ none → There k
-  unfolding applies
-  there k q fs e =
-      let f = applies W m line k q in
-      let a = first-none f bad-session (is-closed ∷ fs) (first-none f bad-line (bad-session ∷ is-closed ∷ fs) e .1) in
-      (leb-false W k (a .0), not-false (isOpen line k) (first-none f is-closed fs (a .1) .0))
-
-  opened-well : Free open-session → SoundBytes W m (perform W m line bs open-session .line)
-  unfolding perform canGive sessionOf queryOf applies
-  opened-well e =
-      let f = applies W m line 0 (queryOf open-session) in
-      let k = lowestClosed line 0 W in
-      let c = lowest-closed W line (first-none f is-full [] (first-none f bad-line (is-full ∷ []) e .1) .0) in
-      written W m wide small (opening k line) (unfold opening in sessions-read) (opening-sound W m line anti k parts (c .0) (c .1))
-
-  closed-well : (k : ℕ) → Free (close-session k) → SoundBytes W m (perform W m line bs (close-session k) .line)
-  unfolding perform canGive sessionOf
-  closed-well k e =
-      let t = there k (queryOf (close-session k)) [] e in
-      written W m wide small (closing k line) (unfold closing in (length-set (line .sessions) k emptySession ∙ sessions-read))
-      (closing-sound W m line anti k parts (t .1))
-
-  -- the set that answers a query is admissible
-  asked-well : (k : ℕ) (q : Query) → There k → (o : Option ℕ) → chosen m line k q ≡ o → SoundBytes W m (asked m line bs k o .line)
-  unfolding asked chosen admissible
-  asked-well k q t none e = safe
-  asked-well k q t (some s) e =
-      let lower = number (q .lower) in
-      let upper = number (q .upper) in
-      let below = lt-of-lt-of-le own (pow-mono small) in
-      let b = choice m line k lower upper (q .permissionAim) (q .roleAim) below .is-best s .0 e .is-admissible in
-      let x = within s (m .authorized) in
-      let y = within lower (carriedBy m s) in
-      let z = within (carriedBy m s) upper in
-      written W m wide small (putIn k s line) (unfold putIn in (length-set (line .sessions) k _ ∙ sessions-read))
-      (putting-sound W m line k s own parts (subst (λ (n : ℕ). k < n) (sym sessions-read) (t .0)) (t .1)
-      (and-l x y (and-l (x && y) z (and-l (x && y && z) (exclusionsMet m (putIn k s line)) b))) (and-r (x && y && z) (exclusionsMet m (putIn k s line)) b))
-
-  performed-well : (op : Operation) → Free op → SoundBytes W m (perform W m line bs op .line)
-  unfolding perform canGive sessionOf queryOf
-  performed-well open-session e = opened-well e
-  performed-well (close-session k) e = closed-well k e
-  performed-well (ask k q) e = asked-well k q (there k q _ e) (chosen m line k q) refl
-  performed-well (short-ask k lower upper room) e =
-      let q = queryOf (short-ask k lower upper room) in
-      asked-well k q (there k q _ e) (chosen m line k q) refl
-  performed-well (show k room) e = safe
-
-  unless-well : (o : Option Refusal) (r : Result) → (o ≡ none → SoundBytes W m (r .line)) → SoundBytes W m (unless o bs r .line)
-  unfolding unless
-  unless-well none r h = h refl
-  unless-well (some f) r h = safe
-
-  -- a call on a sound line leaves a sound line
-  pub call-well : (op : Operation) → SoundBytes W m (rule W m bs op .line)
-  unfolding rule line
-  call-well op = unless-well (first (applies W m line (sessionOf op) (queryOf op)) (canGive op)) (perform W m line bs op) (performed-well op)
-
-  -- ---- its answer is not 11
-  other-refusal : (f : Refusal) (k : ℕ) (q : Query) → applies W m line k q f ≡ true → ¬ (refusalNumber f ≡ 11)
-  unfolding applies refusalNumber line
-  other-refusal bad-line k q a e = not-both (not (sound W m (readLine W bs))) a (ap not safe)
-  other-refusal bad-session k q a e = omega arith
-  other-refusal is-closed k q a e = omega arith
-  other-refusal is-full k q a e = omega arith
-  other-refusal bad-set k q a e = omega arith
-  other-refusal bad-permission k q a e = omega arith
-  other-refusal bad-bounds k q a e = omega arith
-  other-refusal bad-aim k q a e = omega arith
-  other-refusal bad-room k q a e = omega arith
-  other-refusal no-set k q a e = omega arith
-
-  asked-answer : (k : ℕ) (o : Option ℕ) → ¬ (asked m line bs k o .reply .number ≡ 11)
-  unfolding asked refuse given
-  asked-answer k none e = omega arith
-  asked-answer k (some s) e = omega arith
-
-  performed-answer : (op : Operation) → ¬ (perform W m line bs op .reply .number ≡ 11)
-  unfolding perform done given
-  performed-answer open-session e = omega arith
-  performed-answer (close-session k) e = omega arith
-  performed-answer (ask k q) e = asked-answer k (chosen m line k q) e
-  performed-answer (short-ask k lower upper room) e = asked-answer k (chosen m line k (queryOf (short-ask k lower upper room))) e
-  performed-answer (show k room) e = omega arith
-
-  unless-answer : (o : Option Refusal) (r : Result) → ((f : Refusal) → o ≡ some f → ¬ (refusalNumber f ≡ 11)) → ¬ (r .reply .number ≡ 11)
-      → ¬ (unless o bs r .reply .number ≡ 11)
-  unfolding unless refuse
-  unless-answer none r g h = h
-  unless-answer (some f) r g h = g f refl
-
-  pub call-answer : (op : Operation) → ¬ (rule W m bs op .reply .number ≡ 11)
-  unfolding rule line
-  call-answer op =
-      unless-answer (first (applies W m line (sessionOf op) (queryOf op)) (canGive op)) (perform W m line bs op)
-      (λ f e. other-refusal f (sessionOf op) (queryOf op) (first-some (applies W m line (sessionOf op) (queryOf op)) (canGive op) f e))
-      (performed-answer op)
+  -- the same for each user's line
+  pub accepted-kept : (u : ℕ) → LineKept W (meaning (policyOf s) u)
+  accepted-kept u = line-kept W wide (policyOf s) ranged u

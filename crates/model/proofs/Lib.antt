@@ -29,4 +29,6 @@ pub mod Inclusion
 pub mod MetLaws
 pub mod SoundLaws
 pub mod ZeroLaws
+pub mod CallLaws
+pub mod CallsKept
 pub mod KeptProof

@@ -60,17 +60,16 @@ unfolding pick
 no-fault true n x e = absurd (true≢false (sym e ∙ eqb·suc-zero n))
 no-fault false n x e = (refl, e)
 
-or-false-l : (a b : Bool) → (a || b) ≡ false → a ≡ false
-or-false-l true b e = e
-or-false-l false b e = refl
-
+-- a disjunction that fails: its second side fails
 or-false-r : (a b : Bool) → (a || b) ≡ false → b ≡ false
 or-false-r true b e = absurd (true≢false e)
 or-false-r false b e = e
 
+-- a word that may not come where a member is due
 none-due : (final : Bool) (due : ℕ) → (final || not (eqb due 0)) ≡ false → due ≡ 0
 none-due final due e = eqb-true due 0 (not-false (eqb due 0) (or-false-r final (not (eqb due 0)) e))
 
+-- a word of the right kind comes in its turn
 turn-of : (final : Bool) (due : ℕ) (e : Entry) → wrongKind final due e ≡ false → Turn due e
 unfolding wrongKind
 turn-of final due (Assignment u r) k = none-due final due k
@@ -92,6 +91,7 @@ last-due t (Member r) k = absurd (true≢false k)
 last-due t End k = none-due false (t .due) k
 last-due t Unknown k = absurd (true≢false k)
 
+-- a decoded exclusion word has no member
 plain-at : (s : List ℕ) (place : ℕ) → Plain (entryAt s place)
 unfolding entryAt decode
 plain-at s place =
@@ -105,10 +105,12 @@ plain-at s place =
 
 module _ (s : List ℕ) (place : ℕ) (h : Head) (rows : List ℕ) (t : Scan) (final : Bool)
     (e : eqb (fault h rows t final (decode (wordAt s place))) 0 ≡ true) where
+  -- a word without fault is of the right kind
   right-kind : wrongKind final (t .due) (entryAt s place) ≡ false
   unfolding fault entryAt
   right-kind = no-fault _ 2 _ e .0
 
+  -- a word without fault has all that the scan asks of it
   fine : Fine h rows t (entryAt s place)
   unfolding fault entryFault entryAt
   fine =
@@ -128,11 +130,13 @@ abbrev pub Judged : Head → List ℕ → Scan → List Entry → Checked → Ty
 Judged h rows t es (Accepted k) = Valid h rows t es × (h ≡ k)
 Judged h rows t es (Refused n place) = Unit {0}
 
+-- one entry more in front
 judged-more : (h : Head) (rows : List ℕ) (t : Scan) (e : Entry) (es : List Entry) (v : Checked) → Fine h rows t e
     → Judged h (assigning rows e) (next t e) es v → Judged h rows t (e ∷ es) v
 judged-more h rows t e es (Accepted k) f j = ((f, j .0), j .1)
 judged-more h rows t e es (Refused n place) f j = tt
 
+-- by induction on the words; n says how many are left
 pub scan-judged : (s : List ℕ) (h : Head) (n place : ℕ) (rows : List ℕ) (t : Scan) (sum : ℕ) → (n ≡ 0 → t .due ≡ 0)
     → Judged h rows t (entriesFrom s n place) (scan s h n place rows t sum)
 unfolding scan entriesFrom entryAt balanced

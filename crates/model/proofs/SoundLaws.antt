@@ -4,21 +4,19 @@ use mathlib.Core.Path.{_≡_, refl, sym, ap, _∙_, subst}
 use mathlib.Core.Logic.{_⊎_, inl, inr}
 use mathlib.Core.Bool.{Bool, true, false, _&&_, _||_}
 use mathlib.Core.List.{List, [], _∷_}
-use Prim.Native.Nat.{ℕ, zero, suc, _+_, _-_, _^_, _≤_, _<_}
-use native.Mathlib.Nat.{add-zero, add-suc, suc-add, zero-add, lt-of-lt-of-le}
+use Prim.Native.Nat.{ℕ, zero, suc, _+_, _^_, _<_}
+use native.Mathlib.Nat.{add-zero, add-suc, suc-add, zero-add}
 use native.Mathlib.Omega.{arith}
 use lib.Dec.{eqb, ltb}
-use lib.Pow.{pow-lt, pow-mono}
+use lib.Pow.{pow-lt}
 use lib.Bits.{or-lt}
 use lib.ListN.{length, getD, set, length-set}
 use lib.Seq.{getD-set-same, getD-set-other}
-use borrow.Author.Tests.{ltb-true, lt-ltb, eqb-true, eqb-false, eq-eqb}
-use Rattle.model.specs.declared.Kind.{Kind}
+use borrow.Author.Tests.{ltb-true, lt-ltb, eqb-true, eqb-false}
 use Rattle.model.specs.declared.Kind.the-variants.{SsDmer, MsDmer, SsHmer, MsHmer}
 use Rattle.model.specs.declared.Session.{Session}
 use Rattle.model.specs.declared.Line.{Line}
-use Rattle.model.specs.Tests.{all}
-use Rattle.model.specs.Sets.{has, union, with, within}
+use Rattle.model.specs.Sets.{has, union, within}
 use Rattle.model.specs.Policy.{Meaning}
 use Rattle.model.specs.Line.{emptySession, sessionAt, isOpen, activeIn, counted, exclusionsMet, sessionSound, sessionsSound, sound, opening, closing, putIn}
 use Rattle.model.specs.Kept.{Fewer, Antitone}
@@ -48,6 +46,7 @@ pub record SoundLine (W : ℕ) (m : Meaning) (l : Line) : Type 0 where
   pub met : exclusionsMet m l ≡ true
 
 module _ (m : Meaning) (l : Line) where
+  -- the test of a session, taken apart
   session-parts : (j : ℕ) (s : Session) → sessionSound m l j s ≡ true → SoundSession m l j s
   unfolding sessionSound
   session-parts j s e =
@@ -59,6 +58,7 @@ module _ (m : Meaning) (l : Line) where
       let g = and-l (a && b) c f in
       record { closed = and-l a b g; active = and-r a b g; history = and-r (a && b) c f; authorized = and-r (a && b && c) d e }
 
+  -- and put together
   parts-session : (j : ℕ) (s : Session) → SoundSession m l j s → sessionSound m l j s ≡ true
   unfolding sessionSound
   parts-session j s p =
@@ -78,6 +78,7 @@ module _ (m : Meaning) (l : Line) where
         authorized = none-within (m .authorized);
       }
 
+  -- the test of the sessions from k on says it of each
   sessions-each : (k : ℕ) (ss : List Session) → sessionsSound m l k ss ≡ true → (j : ℕ) → SoundSession m l (k + j) (getD ss j emptySession)
   unfolding sessionsSound
   sessions-each k [] e j = empty-sound (k + j)
@@ -87,6 +88,7 @@ module _ (m : Meaning) (l : Line) where
       subst (λ (i : ℕ). SoundSession m l i (getD ss j emptySession)) (suc-add k j ∙ sym (add-suc k j))
       (sessions-each (suc k) ss (and-r (sessionSound m l k s) (sessionsSound m l (suc k) ss) e) j)
 
+  -- and holds where it is so of each
   each-sessions : (k : ℕ) (ss : List Session) → ((j : ℕ) → SoundSession m l (k + j) (getD ss j emptySession)) → sessionsSound m l k ss ≡ true
   unfolding sessionsSound
   each-sessions k [] h = refl
@@ -96,6 +98,7 @@ module _ (m : Meaning) (l : Line) where
       (each-sessions (suc k) ss (λ j. subst (λ (i : ℕ). SoundSession m l i (getD ss j emptySession)) (add-suc k j ∙ sym (suc-add k j)) (h (suc j))))
 
   module _ (W : ℕ) where
+    -- the test of a line, taken apart
     pub sound-parts : sound W m l ≡ true → SoundLine W m l
     unfolding sound
     sound-parts e =
@@ -111,6 +114,7 @@ module _ (m : Meaning) (l : Line) where
           met = and-r (a && b && c) (exclusionsMet m l) e;
         }
 
+    -- and put together
     pub parts-sound : SoundLine W m l → sound W m l ≡ true
     unfolding sound
     parts-sound p =
@@ -154,6 +158,7 @@ met-kept m anti k l n h e =
 
 -- ---- a session opened
 module _ (W : ℕ) (m : Meaning) (l : Line) (anti : Antitone m) (k : ℕ) (p : SoundLine W m l) where
+  -- an open counts what was counted
   same-counted : (s : Session) → Fewer (counted (opening k l) s) (counted l s)
   unfolding counted opening
   same-counted s SsDmer = within-refl (s .active)
@@ -161,6 +166,7 @@ module _ (W : ℕ) (m : Meaning) (l : Line) (anti : Antitone m) (k : ℕ) (p : S
   same-counted s SsHmer = within-refl (s .history)
   same-counted s MsHmer = within-refl (l .history)
 
+  -- a closed session opened leaves the line sound
   pub opening-sound : k < W → isOpen l k ≡ false → SoundLine W m (opening k l)
   unfolding opening isOpen
   opening-sound i c =
@@ -185,6 +191,7 @@ emptied P (s ∷ ss) zero (suc j) a b = b
 emptied P (s ∷ ss) (suc k) zero a b = b
 emptied P (s ∷ ss) (suc k) (suc j) a b = emptied P ss k j a b
 
+-- the k-th is an empty one
 emptied-at : (ss : List Session) (k : ℕ) → getD (set ss k emptySession) k emptySession ≡ emptySession
 emptied-at [] k = refl
 emptied-at (s ∷ ss) zero = refl
@@ -203,6 +210,7 @@ active-emptied ss k = within-iff (activeIn (set ss k emptySession)) (activeIn ss
         (λ e. not-both (has 0 r) e (has-none r)) (λ e. e) (w .2)))
 
 module _ (W : ℕ) (m : Meaning) (l : Line) (anti : Antitone m) (k : ℕ) (p : SoundLine W m l) where
+  -- a close counts fewer roles, or the same
   fewer-counted : (j : ℕ)
       → Fewer (counted (closing k l) (getD (closing k l .sessions) j emptySession)) (counted l (getD (l .sessions) j emptySession))
   unfolding counted closing emptySession
@@ -215,6 +223,7 @@ module _ (W : ℕ) (m : Meaning) (l : Line) (anti : Antitone m) (k : ℕ) (p : S
       emptied (λ t. within (t .history) (s .history) ≡ true) (l .sessions) k j (none-within (s .history)) (within-refl (s .history))
   fewer-counted j MsHmer = within-refl (l .history)
 
+  -- an open session closed leaves the line sound
   pub closing-sound : isOpen l k ≡ true → SoundLine W m (closing k l)
   unfolding closing isOpen
   closing-sound o =
@@ -236,6 +245,7 @@ module _ (W : ℕ) (m : Meaning) (l : Line) (anti : Antitone m) (k : ℕ) (p : S
 
 -- ---- a role set put in
 module _ (W : ℕ) (m : Meaning) (l : Line) (k s : ℕ) (own : m .authorized < 2 ^ m .roles) (p : SoundLine W m l) where
+  -- roles that may be active and leave every exclusion met, put in for an open session, leave the line sound
   pub putting-sound : k < length (l .sessions) → isOpen l k ≡ true → within s (m .authorized) ≡ true → exclusionsMet m (putIn k s l) ≡ true
       → SoundLine W m (putIn k s l)
   unfolding putIn sessionAt isOpen
@@ -249,8 +259,10 @@ module _ (W : ℕ) (m : Meaning) (l : Line) (k s : ℕ) (own : m .authorized < 2
     where
       old : Session
       old = getD (l .sessions) k emptySession
+
       new : Session
       new = record { active = s; history = union (old .history) s }
+
       at-new : SoundSession m (putIn k s l) k new
       at-new =
           record {
@@ -262,6 +274,7 @@ module _ (W : ℕ) (m : Meaning) (l : Line) (k s : ℕ) (own : m .authorized < 2
                 (within-union-r (l .history) s);
             authorized = w;
           }
+
       go : (j : ℕ) (b : Bool) → eqb j k ≡ b → SoundSession m (putIn k s l) j (getD (set (l .sessions) k new) j emptySession)
       go j true q =
           subst (λ (n : ℕ). SoundSession m (putIn k s l) n (getD (set (l .sessions) k new) n emptySession)) (sym (eqb-true j k q))

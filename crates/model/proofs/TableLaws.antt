@@ -33,9 +33,11 @@ getD-filled a zero i = refl
 getD-filled a (suc n) zero = refl
 getD-filled a (suc n) (suc i) = getD-filled a n i
 
+-- the empty set has no member
 pub has-none : (k : ℕ) → has 0 k ≡ false
 has-none k = has-beyond 0 0 k (pow-pos 0) zero-le
 
+-- the empty set counts none
 pub count-empty : (d : ℕ) → count d 0 ≡ 0
 unfolding count countTo
 count-empty zero = refl
@@ -43,6 +45,7 @@ count-empty (suc d) = ap (λ (x : Bool). one x + count d 0) (has-none d) ∙ zer
 
 -- ---- a member put into a row
 module _ (rows : List ℕ) (i k : ℕ) where
+  -- both numbers in range: the table stays in range
   pub put-in-range : (m n : ℕ) → TableInRange m n rows → i < m → k < n → TableInRange m n (set rows i (with (getD rows i 0) k))
   put-in-range m n h a b =
       set-keeps (λ (u s : ℕ). (j : ℕ) → has s j ≡ true → (u < m) × (j < n)) rows i (with (getD rows i 0) k) h
@@ -52,6 +55,7 @@ module _ (rows : List ℕ) (i k : ℕ) where
       member j (inl e) = h i j e
       member j (inr e) = (a, subst (λ (x : ℕ). x < n) (sym (eqb-true j k e)) b)
 
+  -- the member below n: every row stays a set of numbers below n
   pub put-below : (n : ℕ) → RowsBelow n rows → k < n → RowsBelow n (set rows i (with (getD rows i 0) k))
   put-below n h b =
       set-keeps (λ (u s : ℕ). s < 2 ^ n) rows i (with (getD rows i 0) k) h (or-lt n (getD rows i 0) (2 ^ k) (h i) (pow-lt b))

@@ -1,15 +1,14 @@
 -- The zero line is sound, and a ledger of zeros is made of zero lines.
 -- Assumes nothing.
 use mathlib.Core.Path.{_≡_, refl, sym, ap, ap₂, _∙_, subst}
-use mathlib.Core.Bool.{Bool, true, false}
+use mathlib.Core.Bool.{true}
 use mathlib.Core.List.{List, [], _∷_}
-use Prim.Native.Nat.{ℕ, zero, suc, _+_, _-_, _*_, _^_, _<_}
+use Prim.Native.Nat.{ℕ, zero, suc, _+_, _-_, _*_, _<_}
 use native.Mathlib.Nat.{zero-add, suc-add}
 use native.Mathlib.Omega.{arith}
 use lib.Pow.{pow-pos}
 use lib.Bits.{or-zero-l}
-use lib.ListN.{length, getD, take, drop, replicate}
-use Rattle.model.specs.declared.Kind.{Kind}
+use lib.ListN.{take, drop, replicate}
 use Rattle.model.specs.declared.Kind.the-variants.{SsDmer, MsDmer, SsHmer, MsHmer}
 use Rattle.model.specs.declared.Session.{Session}
 use Rattle.model.specs.declared.Line.{Line}
@@ -30,20 +29,24 @@ use Rattle.model.proofs.LedgerLaws.{apart}
 abbrev Zeros : List ℕ → Type 0
 Zeros bs = Each (λ (b : ℕ). b ≡ 0) bs
 
+-- n zeros
 zeros : (n : ℕ) → Zeros (replicate n 0)
 zeros zero = tt
 zeros (suc n) = (refl, zeros n)
 
+-- the first n of them
 zeros-take : (n : ℕ) (bs : List ℕ) → Zeros bs → Zeros (take n bs)
 zeros-take zero bs z = tt
 zeros-take (suc n) [] z = tt
 zeros-take (suc n) (b ∷ bs) z = (z .0, zeros-take n bs (z .1))
 
+-- all but the first n
 zeros-drop : (n : ℕ) (bs : List ℕ) → Zeros bs → Zeros (drop n bs)
 zeros-drop zero bs z = z
 zeros-drop (suc n) [] z = tt
 zeros-drop (suc n) (b ∷ bs) z = zeros-drop n bs (z .1)
 
+-- zeros make the number zero
 number-zeros : (bs : List ℕ) → Zeros bs → number bs ≡ 0
 unfolding number
 number-zeros [] z = refl
@@ -56,6 +59,7 @@ first-zero bs z = number-zeros (take 8 bs) (zeros-take 8 bs z)
 second-zero : (bs : List ℕ) → Zeros bs → number (take 8 (drop 8 bs)) ≡ 0
 second-zero bs z = first-zero (drop 8 bs) (zeros-drop 8 bs z)
 
+-- zeros are read as empty sessions
 sessions-zero : (W : ℕ) (bs : List ℕ) → Zeros bs → readSessions W bs ≡ replicate W emptySession
 unfolding readSessions emptySession
 sessions-zero zero bs z = refl
@@ -67,16 +71,19 @@ sessions-zero (suc W) bs z =
 emptyLine : ℕ → Line
 emptyLine W = record { opened = 0; history = 0; sessions = replicate W emptySession }
 
+-- and as that line
 line-zero : (W : ℕ) (bs : List ℕ) → Zeros bs → readLine W bs ≡ emptyLine W
 unfolding readLine emptyLine
 line-zero W bs z = λ i. record { opened = first-zero bs z i; history = second-zero bs z i; sessions = sessions-zero W (drop 16 bs) (zeros-drop 16 bs z) i }
 
+-- no role is active in it
 none-active : (W : ℕ) → activeIn (replicate W emptySession) ≡ 0
 unfolding activeIn emptySession
 none-active zero = refl
 none-active (suc W) = or-zero-l (activeIn (replicate W emptySession)) ∙ none-active W
 
 module _ (W : ℕ) (m : Meaning) (anti : Antitone m) (none : m .allMet (λ k. 0) ≡ true) where
+  -- no kind of exclusion counts a role in it
   none-counted : Fewer (counted (emptyLine W) emptySession) (λ k. 0)
   unfolding counted emptyLine emptySession
   none-counted SsDmer = none-within 0
@@ -84,6 +91,7 @@ module _ (W : ℕ) (m : Meaning) (anti : Antitone m) (none : m .allMet (λ k. 0)
   none-counted SsHmer = none-within 0
   none-counted MsHmer = none-within 0
 
+  -- every exclusion is met in it
   empty-met : exclusionsMet m (emptyLine W) ≡ true
   unfolding exclusionsMet emptyLine
   empty-met =
@@ -91,6 +99,7 @@ module _ (W : ℕ) (m : Meaning) (anti : Antitone m) (none : m .allMet (λ k. 0)
       (λ j i. subst (λ (s : Session). m .allMet (counted (emptyLine W) s) ≡ true) (sym (getD-filled emptySession W j))
       (anti (counted (emptyLine W) emptySession) (λ k. 0) none-counted none))
 
+  -- it is sound
   empty-line : SoundLine W m (emptyLine W)
   unfolding emptyLine
   empty-line =
@@ -108,14 +117,18 @@ module _ (W : ℕ) (m : Meaning) (anti : Antitone m) (none : m .allMet (λ k. 0)
       (parts-sound m (emptyLine W) W empty-line)
 
 -- ---- the lines of a ledger of zeros
+
+-- k zeros taken off k and n
 drop-filled : (k n : ℕ) → drop k (replicate {A = ℕ} (k + n) 0) ≡ replicate n 0
 drop-filled zero n = ap (λ (x : ℕ). replicate x 0) (zero-add n)
 drop-filled (suc k) n = ap (λ (x : ℕ). drop (suc k) (replicate x 0)) (suc-add k n) ∙ drop-filled k n
 
+-- the first k of k and n
 take-filled : (k n : ℕ) → take k (replicate {A = ℕ} (k + n) 0) ≡ replicate k 0
 take-filled zero n = refl
 take-filled (suc k) n = ap (λ (x : ℕ). take (suc k) (replicate x 0)) (suc-add k n) ∙ ap (λ (bs : List ℕ). 0 ∷ bs) (take-filled k n)
 
+-- each user's line is a zero line
 pub zero-lines : (z u n : ℕ) → u < n → lineAt z u (replicate (z * n) 0) ≡ replicate z 0
 unfolding lineAt
 zero-lines z u n h =

@@ -29,7 +29,7 @@ SoundBytes W m bs = sound W m (readLine W bs) ≡ true
 pub record LineKept (W : ℕ) (m : Meaning) : Type 0 where
   pub antitone : Antitone m
   pub zero-line : SoundBytes W m (replicate (lineSize W) 0)
-  pub call : (bs : List ℕ) → length bs ≡ lineSize W → SoundBytes W m bs → (op : Operation) → SoundBytes W m (rule W m bs op .line)
+  pub call : (bs : List ℕ) → SoundBytes W m bs → (op : Operation) → SoundBytes W m (rule W m bs op .line)
 
 -- the ledger has a line for each user, and every line is sound
 pub record SoundLedger (W : ℕ) (p : Policy) (ledger : List ℕ) : Type 0 where
