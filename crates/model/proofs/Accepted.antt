@@ -25,7 +25,8 @@ use Rattle.model.specs.Policy.{entriesOf, granting, ordering, fold, join
 use Rattle.model.specs.Ranges.{Each, OneTo, ExclusionInRange, TableInRange, RowsBelow, InRange}
 use Rattle.model.proofs.Bools.{and-l, and-r, not-both}
 use Rattle.model.proofs.SetLaws.{count-with, with-member}
-use Rattle.model.proofs.TableLaws.{set-keeps, getD-filled, has-none, count-empty, put-in-range, put-below, fold-keeps}
+use Rattle.model.proofs.TableLaws.{set-keeps, getD-filled, count-empty, put-in-range, put-below, fold-keeps}
+use Rattle.model.proofs.UnionLaws.{has-none}
 use Rattle.model.proofs.Scanned.{Fine, Valid, Judged, scan-judged}
 
 -- ---- the tables

@@ -13,7 +13,7 @@ use Rattle.model.specs.Sets.{has, union, inter, with, within}
 use Rattle.model.proofs.Bools.{and-l, and-r, both, or-l, or-r, or-cases, not-both}
 use Rattle.model.proofs.SetLaws.{has-inter, has-union, has-power}
 use Rattle.model.proofs.AnyWidth.{same-sets, within-iff}
-use Rattle.model.proofs.TableLaws.{has-none}
+use Rattle.model.proofs.UnionLaws.{has-none}
 use mathlib.Core.Logic.{_⊎_, inl, inr}
 
 -- every set lies within itself

@@ -26,7 +26,7 @@ use Rattle.model.proofs.AnyWidth.{within-iff}
 use Rattle.model.proofs.Every.{all-at, at-all}
 use Rattle.model.proofs.Actives.{active-at, at-active}
 use Rattle.model.proofs.Choices.{within-below}
-use Rattle.model.proofs.TableLaws.{has-none}
+use Rattle.model.proofs.UnionLaws.{has-none}
 use Rattle.model.proofs.Inclusion.{within-refl, within-trans, none-within, within-union-l, within-union-r, union-within, add-member, drop-member}
 
 -- ---- soundness in parts

@@ -2,11 +2,11 @@
 -- Assumes nothing.
 use mathlib.Core.Path.{_≡_, refl, sym, ap, _∙_, subst}
 use mathlib.Core.Logic.{_⊎_, inl, inr}
-use mathlib.Core.Bool.{Bool, true, false}
+use mathlib.Core.Bool.{Bool, true}
 use mathlib.Core.List.{List, [], _∷_}
-use Prim.Native.Nat.{ℕ, zero, suc, _+_, _^_, _<_, zero-le}
+use Prim.Native.Nat.{ℕ, zero, suc, _+_, _^_, _<_}
 use native.Mathlib.Nat.{zero-add, not-suc-le-zero, le-of-suc-le-suc}
-use lib.Pow.{pow-lt, pow-pos}
+use lib.Pow.{pow-lt}
 use lib.Bits.{or-lt}
 use lib.Dec.{eqb}
 use lib.ListN.{length, getD, set, replicate}
@@ -16,7 +16,8 @@ use Rattle.model.specs.Sets.{has, with, one, countTo, count}
 use Rattle.model.specs.Policy.{fold}
 use Rattle.model.specs.Ranges.{Each, TableInRange, RowsBelow}
 use Rattle.model.proofs.Bools.{or-cases}
-use Rattle.model.proofs.SetLaws.{has-beyond, has-with}
+use Rattle.model.proofs.SetLaws.{has-with}
+use Rattle.model.proofs.UnionLaws.{has-none}
 
 -- what holds of every row, and of row i after the change, holds of every row after it
 pub set-keeps : (P : ℕ → ℕ → Type 0) (rows : List ℕ) (i v : ℕ) → ((j : ℕ) → P j (getD rows j 0)) → P i v
@@ -32,10 +33,6 @@ pub getD-filled : {A : Type 0} (a : A) (n i : ℕ) → getD (replicate n a) i a 
 getD-filled a zero i = refl
 getD-filled a (suc n) zero = refl
 getD-filled a (suc n) (suc i) = getD-filled a n i
-
--- the empty set has no member
-pub has-none : (k : ℕ) → has 0 k ≡ false
-has-none k = has-beyond 0 0 k (pow-pos 0) zero-le
 
 -- the empty set counts none
 pub count-empty : (d : ℕ) → count d 0 ≡ 0
