@@ -32,3 +32,4 @@ pub mod ZeroLaws
 pub mod CallLaws
 pub mod CallsKept
 pub mod KeptProof
+pub mod Theorems
