@@ -19,22 +19,13 @@ use Rattle.model.specs.Line.{lineSize, readLine}
 use Rattle.model.specs.Session.{Operation, open-session, close-session, ask, short-ask, show, sessionOf, queryOf, Reply, refuse, done, Refusal, bad-line, bad-session, is-closed, bad-set, bad-permission, bad-bounds, bad-aim, bad-room, no-set, canGive, applies, perform, unless, rule}
 use Rattle.model.specs.Run.{Call, lineAt, ruled, stepOn, stepBy, step, filledWith, answered}
 use Rattle.model.specs.Frames.{AnswerKeepsLength}
+use Rattle.model.proofs.CallLaws.{first-none}
 use Rattle.model.proofs.FramesProof.{step-frame}
 
--- where the first refusal that applies is none, no refusal of the list applies
-first-none : (f : Refusal → Bool) (xs : List Refusal) (x : Refusal) (ys : List Refusal) → first f (xs ++ (x ∷ ys)) ≡ none → f x ≡ false
-unfolding first
-first-none f [] x ys e = go (f x) e
-  where
-    go : (b : Bool) → _≡_ {A = Option Refusal} (elim b [ true ↦ some x | false ↦ first f ys ]) none → b ≡ false
-    go true e = cc
-    go false e = refl
-first-none f (y ∷ xs) x ys e = go (f y) e (first-none f xs x ys)
-  where
-    go : (b : Bool) → _≡_ {A = Option Refusal} (elim b [ true ↦ some y | false ↦ first f (xs ++ (x ∷ ys)) ]) none
-        → (first f (xs ++ (x ∷ ys)) ≡ none → f x ≡ false) → f x ≡ false
-    go true e ih = cc
-    go false e ih = ih e
+-- where none of a list passes the test, none of it behind some others does
+later : (f : Refusal → Bool) (xs : List Refusal) (x : Refusal) (ys : List Refusal) → first f (xs ++ (x ∷ ys)) ≡ none → f x ≡ false
+later f [] x ys e = first-none f x ys e .0
+later f (y ∷ xs) x ys e = later f xs x ys (first-none f y (xs ++ (x ∷ ys)) e .1)
 
 -- an answer fills nothing, or the buffer of the call has 40 bytes
 abbrev Roomy : Operation → Reply → Type 0
@@ -59,15 +50,15 @@ module _ (W : ℕ) (m : Meaning) (bs : List ℕ) where
   perform-roomy (ask k q) e =
       inr
       (room-right (ask k q)
-      (first-none (tests (ask k q)) (bad-line ∷ bad-session ∷ is-closed ∷ bad-set ∷ bad-permission ∷ bad-bounds ∷ bad-aim ∷ []) bad-room (no-set ∷ []) e))
+      (later (tests (ask k q)) (bad-line ∷ bad-session ∷ is-closed ∷ bad-set ∷ bad-permission ∷ bad-bounds ∷ bad-aim ∷ []) bad-room (no-set ∷ []) e))
   perform-roomy (short-ask k lower upper room) e =
       inr
       (room-right (short-ask k lower upper room)
-      (first-none (tests (short-ask k lower upper room)) (bad-line ∷ bad-session ∷ is-closed ∷ bad-set ∷ bad-permission ∷ bad-bounds ∷ [])
+      (later (tests (short-ask k lower upper room)) (bad-line ∷ bad-session ∷ is-closed ∷ bad-set ∷ bad-permission ∷ bad-bounds ∷ [])
       bad-room (no-set ∷ []) e))
   perform-roomy (show k room) e =
       inr
-      (room-right (show k room) (first-none (tests (show k room)) (bad-line ∷ bad-session ∷ is-closed ∷ []) bad-room [] e))
+      (room-right (show k room) (later (tests (show k room)) (bad-line ∷ bad-session ∷ is-closed ∷ []) bad-room [] e))
 
   rule-roomy : (op : Operation) → Roomy op (rule W m bs op .reply)
   unfolding rule unless refuse

@@ -18,7 +18,7 @@ use Rattle.model.specs.Line.{lineSize}
 use Rattle.model.specs.Session.{Result}
 use Rattle.model.specs.Run.{Call, lineAt, stepOn, stepBy, step, run}
 use Rattle.model.specs.Independence.{rules, callsOf, seenBy, Steady, no-call, own-call, other-call, SteadyFor, Run, eventsOf, viewOf, firstLine, SameFor, Independent}
-use Rattle.model.proofs.HeadLaws.{accepted-head, accepted-users}
+use Rattle.model.proofs.Accepted.{accepted-head, accepted-in-range}
 use Rattle.model.proofs.LedgerLaws.{step-length, step-own, step-other}
 use Rattle.model.proofs.Meanings.{agree-meaning, only-meaning}
 
@@ -93,7 +93,7 @@ module _ (W u : ℕ) (r : Run W) (hu : u < r .head .users) where
 
   -- other users' assignments have no say in what the policy means for the user
   only-means : meaning (policyOf (r .image)) u ≡ meaning (onlyFor u (policyOf (r .image))) u
-  only-means = only-meaning u (lt-of-lt-of-le hu (accepted-users (r .image) (r .head) (r .accepted))) (policyOf (r .image))
+  only-means = only-meaning u (lt-of-lt-of-le hu (rw head-is at (accepted-in-range (r .image) (r .head) (r .accepted) .users .1))) (policyOf (r .image))
 
 -- ---- two runs
 

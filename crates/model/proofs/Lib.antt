@@ -19,7 +19,6 @@ pub mod ConditionsProof
 pub mod LineLaws
 pub mod LedgerLaws
 pub mod RoundTrip
-pub mod HeadLaws
 pub mod Meanings
 pub mod IndependenceProof
 pub mod FramesProof
