@@ -333,6 +333,10 @@ class Commands(unittest.TestCase):
         text = self.path("p.txt", b"user A\nrole \xff\n")
         self.assertEqual(self.run_tool("build", text), (1, "", f"{text}:2: not UTF-8 text\n"))
 
+    def test_build_passes_over_a_byte_order_mark(self):
+        text = self.path("p.txt", "\ufeffuser A\nrole R\npermission P\n".encode())
+        self.assertEqual(self.run_tool("build", text)[0], 0)
+
     def test_check_prints_number_word_and_place(self):
         good, bad = self.path("good", policy.to_bytes(A)), self.path("bad", policy.to_bytes([*A[:3], 0x30800000, *A[4:]]))
         self.assertEqual(self.run_tool("check", good)[:2], (0, "0 accepted: 1 user, 2 roles, 5 permissions, 13 words\n"))
