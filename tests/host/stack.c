@@ -8,14 +8,14 @@
 
 enum { STACK_BYTES = 65536, OWN = 16 };
 
-static uint8_t image[NUTRAMEZA_MOST_IMAGE_BYTES];
+static uint8_t image[NUTRAMEZA_MAX_IMAGE_BYTES];
 static size_t image_len;
 static uint8_t ledger[NUTRAMEZA_LINE_BYTES];
 static int answered;
 
 /* Own role k is role 4k, and carries the permissions k, k + 16, .., 255; the roles from 4k up to 4k + 3 form a chain. */
 static void make_image(void) {
-    static uint32_t words[NUTRAMEZA_MOST_WORDS];
+    static uint32_t words[NUTRAMEZA_MAX_WORDS];
     size_t n = 0;
     words[n++] = nutrameza_head_word(1, 64, 256);
     for (uint32_t role = 0; role < 64; role++) {
@@ -29,7 +29,7 @@ static void make_image(void) {
     for (uint32_t permission = 0; permission < 256; permission++) {
         words[n++] = nutrameza_grant_word(permission % OWN * 4 + 3, permission);
     }
-    for (uint32_t k = 0; k < NUTRAMEZA_MOST_EXCLUSIONS; k++) {
+    for (uint32_t k = 0; k < NUTRAMEZA_MAX_EXCLUSIONS; k++) {
         words[n++] = nutrameza_exclusion_word(k % 4, 64, 64);
         for (uint32_t role = 0; role < 64; role++) {
             words[n++] = nutrameza_member_word(role);
@@ -37,13 +37,13 @@ static void make_image(void) {
     }
     words[n] = nutrameza_end_word(words, n);
     n++;
-    nutrameza_put_words(image, words, n);
+    nutrameza_write_words(image, words, n);
     image_len = n * NUTRAMEZA_WORD_BYTES;
 }
 
 /* An ask of the permissions below `needed` with these aims; 1 if its number is the expected one. */
 static int ask(uint32_t needed, uint32_t allowed, uint64_t first, uint64_t second, unsigned expected) {
-    uint8_t lower[NUTRAMEZA_BOUND_BYTES] = {0}, upper[NUTRAMEZA_BOUND_BYTES] = {0}, answer[NUTRAMEZA_ANSWER_BYTES];
+    uint8_t lower[NUTRAMEZA_SET_BYTES] = {0}, upper[NUTRAMEZA_SET_BYTES] = {0}, answer[NUTRAMEZA_ANSWER_BYTES];
     for (uint32_t permission = 0; permission < 256; permission++) {
         if (permission < needed) {
             nutrameza_add_permission(lower, permission);
@@ -54,10 +54,10 @@ static int ask(uint32_t needed, uint32_t allowed, uint64_t first, uint64_t secon
     }
     uint64_t returned = nutrameza_ask(image, image_len, ledger, sizeof ledger, 0, 0, lower, sizeof lower, upper, sizeof upper,
                                       first, second, answer, sizeof answer);
-    if (nutrameza_number(returned) != expected) {
-        printf("ask %u %u %u %u: %u\n", needed, allowed, (unsigned)first, (unsigned)second, nutrameza_number(returned));
+    if (nutrameza_number_of(returned) != expected) {
+        printf("ask %u %u %u %u: %u\n", needed, allowed, (unsigned)first, (unsigned)second, nutrameza_number_of(returned));
     }
-    return nutrameza_number(returned) == expected;
+    return nutrameza_number_of(returned) == expected;
 }
 
 static void *work(void *unused) {

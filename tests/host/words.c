@@ -42,17 +42,17 @@ static void test_words(void) {
 }
 
 static void test_returned_values(void) {
-    const char *last = nutrameza_refusal_word(NUTRAMEZA_SCRIPT);
-    same("number", nutrameza_number(5u + 256u * 3u), NUTRAMEZA_RANGE);
-    same("extra", nutrameza_extra(5u + 256u * 3u), 3);
-    same("number of done", nutrameza_number(256u * 2u), NUTRAMEZA_DONE);
-    same("largest extra", nutrameza_extra(8u + 256u * 4095u), 4095);
-    same("word of 0", (uint64_t)strcmp(nutrameza_refusal_word(NUTRAMEZA_DONE), "done"), 0);
-    same("word of 8", (uint64_t)strcmp(nutrameza_refusal_word(NUTRAMEZA_BALANCE), "balance"), 0);
-    same("word of 14", (uint64_t)strcmp(nutrameza_refusal_word(NUTRAMEZA_FULL), "full"), 0);
-    same("word of 20", (uint64_t)strcmp(nutrameza_refusal_word(NUTRAMEZA_NONE), "none"), 0);
+    const char *last = nutrameza_word_of(NUTRAMEZA_SCRIPT);
+    same("number", nutrameza_number_of(5u + 256u * 3u), NUTRAMEZA_RANGE);
+    same("extra", nutrameza_extra_of(5u + 256u * 3u), 3);
+    same("number of done", nutrameza_number_of(256u * 2u), NUTRAMEZA_DONE);
+    same("largest extra", nutrameza_extra_of(8u + 256u * 4095u), 4095);
+    same("word of 0", (uint64_t)strcmp(nutrameza_word_of(NUTRAMEZA_DONE), "done"), 0);
+    same("word of 8", (uint64_t)strcmp(nutrameza_word_of(NUTRAMEZA_BALANCE), "balance"), 0);
+    same("word of 14", (uint64_t)strcmp(nutrameza_word_of(NUTRAMEZA_FULL), "full"), 0);
+    same("word of 20", (uint64_t)strcmp(nutrameza_word_of(NUTRAMEZA_NONE), "none"), 0);
     same("word of 21", (uint64_t)strcmp(last, "script"), 0);
-    same("word of 22", (uint64_t)strcmp(nutrameza_refusal_word(22), "unknown"), 0);
+    same("word of 22", (uint64_t)strcmp(nutrameza_word_of(22), "unknown"), 0);
 }
 
 static void test_sets(void) {
@@ -73,8 +73,8 @@ static void test_sets(void) {
 
 /* Image A of 01 by its entries. */
 static int write_ward(const char *path) {
-    uint32_t words[NUTRAMEZA_MOST_WORDS];
-    uint8_t image[NUTRAMEZA_MOST_IMAGE_BYTES];
+    uint32_t words[NUTRAMEZA_MAX_WORDS];
+    uint8_t image[NUTRAMEZA_MAX_IMAGE_BYTES];
     size_t n = 0, written;
     uint32_t k;
     FILE *file;
@@ -92,7 +92,7 @@ static int write_ward(const char *path) {
     words[n] = nutrameza_end_word(words, n);
     n++;
     same("end of image A", words[n - 1], 0xFB0B9F60u);
-    nutrameza_put_words(image, words, n);
+    nutrameza_write_words(image, words, n);
     file = fopen(path, "wb");
     if (file == NULL) {
         return 1;
