@@ -6,8 +6,8 @@
 #   make test                 the gate: every proof and every test
 #   make bench                the kit beside plain Rust, as ratios
 #
-# Install and ward take the library and the program that are there; what is missing, they make, except that install does without
-# the program. NUTRAMEZA_LIB names another folder for the library.
+# Install, ward and bench take the library and the program that are there; what is missing, they make, except that install does
+# without the program. NUTRAMEZA_LIB names another folder for the library.
 
 VERSION := 0.1.0
 PREFIX ?= /usr/local
@@ -56,5 +56,5 @@ endif
 test:
 	bash .ci/run
 
-bench:
-	cargo run --release --offline --manifest-path bench/Cargo.toml
+bench: $(library)
+	NUTRAMEZA_LIB='$(abspath $(NUTRAMEZA_LIB))' cargo run --release --offline --manifest-path bench/Cargo.toml
