@@ -150,7 +150,7 @@ it 'the example of docs/HOST.md is built from pkg-config alone and prints what i
 it 'the example leaves the ledger on disk' example_ledger
 it 'the example is a C++ program too' example_cxx
 it 'the check and the policy tool judge 3,000 images alike, each number from 0 to 8 among them' judged
-it 'the deepest asks fit a stack of 64 KiB' small_stack
+it 'long and deep asks fit a stack of 64 KiB' small_stack
 
 echo "$passed passed, $failed failed"
 [ "$failed" -eq 0 ]

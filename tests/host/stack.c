@@ -1,4 +1,4 @@
-/* Asks that go deepest and longest, on a thread whose stack is 64 KiB: a user with 16 roles, 64 roles in a chain of seniors,
+/* Long and deep asks, on a thread whose stack is 64 KiB: a user with 16 roles, 64 roles in 16 chains of seniors,
    256 permissions, 32 exclusions, under each pair of aims. Prints 'done' if every ask is answered. */
 #define _POSIX_C_SOURCE 200809L
 #include <pthread.h>
