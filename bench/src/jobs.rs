@@ -6,8 +6,8 @@ use nutrameza_tests::kit::{self, Empty};
 use nutrameza_tests::{ward, words};
 use std::hint::black_box;
 
-/// An accepted image of 4,096 words: 64 users, 64 roles, 256 permissions, 32 exclusions.
-pub fn largest() -> Vec<u8> {
+/// An accepted image of 4,096 words: 64 users, 64 roles, 256 permissions, 32 exclusions; entries by kind or in any order.
+pub fn largest(in_order: bool) -> Vec<u8> {
     let mut rng = Rng::new(4096);
     let mut draft = policy::Draft::blank(64, 64, 256);
     for user in 0..64 {
@@ -24,13 +24,19 @@ pub fn largest() -> Vec<u8> {
         let role = rng.below(64) as u32;
         draft.grant(&mut rng, role);
     }
-    rng.shuffle(&mut draft.entries);
+    if !in_order {
+        rng.shuffle(&mut draft.entries);
+    }
     words::bytes(&draft.words())
 }
 
 /// Times the check.
 pub fn check() {
-    for (name, image) in [("check, 13 words", ward::image_a()), ("check, 4,096 words", largest())] {
+    for (name, image) in [
+        ("check, 13 words", ward::image_a()),
+        ("check, 4,096 words, by kind", largest(true)),
+        ("check, 4,096 words, in any order", largest(false)),
+    ] {
         assert_eq!(kit::check(Empty::Null, &image), plain::check(&image));
         assert_eq!(plain::check(&image), 0);
         let mut kit = || {
@@ -109,7 +115,7 @@ fn some_own_roles(image: &[u8], user: usize) -> u64 {
 /// Times open, close and show.
 #[cfg(feature = "calls")]
 pub fn calls() {
-    let large = largest();
+    let large = largest(false);
     let images = [("13 words", ward::image_a(), 1, 1), ("4,096 words", large.clone(), 64, some_own_roles(&large, 63))];
     for (size, image, users, roles) in images {
         for call in [Call::Open, Call::Close, Call::Show] {

@@ -9,7 +9,11 @@ mod plain;
 mod timing;
 
 fn main() {
-    println!("Kit and plain Rust in one process, thread time, median of {} rounds;", timing::ROUNDS);
+    println!(
+        "Kit and plain Rust in one process, thread time, median of {} to {} rounds;",
+        timing::FEWEST_ROUNDS,
+        timing::MOST_ROUNDS
+    );
     println!("ratio: median of the rounds' kit / plain. Buffers are not cleared between calls,");
     println!("only the user's line is set back before a call that changes it.");
     println!();

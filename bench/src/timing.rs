@@ -1,10 +1,12 @@
 //! Times of two ways to do a job, round by round side by side, in the thread's own processor time.
 
-/// Rounds of a job; each way runs once in each round.
-pub const ROUNDS: usize = 21;
+/// The most and the fewest rounds of a job; each way runs once in each round.
+pub const MOST_ROUNDS: usize = 201;
+pub const FEWEST_ROUNDS: usize = 11;
 
-/// Nanoseconds of a round, about.
-const ROUND: f64 = 2e6;
+/// Nanoseconds of a round at least and of all rounds at most, about: short rounds, so that what slows the machine slows both.
+const ROUND: f64 = 2e5;
+const ALL_ROUNDS: f64 = 2e8;
 
 #[repr(C)]
 struct Timespec {
@@ -51,8 +53,10 @@ fn jobs_in_a_round(way: &mut dyn FnMut()) -> u64 {
 /// The median times of two ways, and the median ratio of the first to the second.
 pub fn beside(first: &mut dyn FnMut(), second: &mut dyn FnMut()) -> (f64, f64, f64) {
     let counts = [jobs_in_a_round(first), jobs_in_a_round(second)];
+    let once = round(first, counts[0]) * counts[0] as f64 + round(second, counts[1]) * counts[1] as f64;
+    let rounds = ((ALL_ROUNDS / once) as usize).clamp(FEWEST_ROUNDS, MOST_ROUNDS);
     let (mut firsts, mut seconds) = (Vec::new(), Vec::new());
-    for _ in 0..ROUNDS {
+    for _ in 0..rounds {
         firsts.push(round(first, counts[0]));
         seconds.push(round(second, counts[1]));
     }
