@@ -9,3 +9,5 @@ pub mod Session
 pub mod Run
 pub mod Ward
 pub mod Refusals
+pub mod Chosen
+pub mod Conditions

@@ -182,6 +182,8 @@ settled =
       calls = opens ∷ openBy 1 ∷ [];
       answers = refused 11 ∷ opened 0 ∷ [];
     }
+    -- a refused call leaves the line as it was
+    ∷ case imageA (opens ∷ askBy 0 0 (bytesOf 32 0x3) (bytesOf 32 0x1f) 0 0 39 ∷ shows 0 ∷ []) (opened 0 ∷ refused 19 ∷ chose 0 0 ∷ [])
     -- tests run in number order
     ∷ record { image = imageA; ledger = replicate 79 0; calls = openBy 1 ∷ []; answers = refused 9 ∷ [] }
     ∷ case imageA (openBy 1 ∷ closes 4 ∷ closes 0 ∷ showBy 0 0 39 ∷ opens ∷ showBy 0 0 39 ∷ [])

@@ -1,0 +1,41 @@
+-- Sets of any width, by their members: equality, inclusion, and the union in any order.
+-- Assumes nothing.
+use mathlib.Core.Path.{_≡_, refl, sym, ap, _∙_}
+use mathlib.Core.Logic.{_↔_}
+use mathlib.Core.Bool.{Bool, true, false, _||_, or-true}
+use Prim.Native.Nat.{ℕ, zero, suc, _+_, _^_, _<_}
+use native.Mathlib.Nat.{pow-suc, le-add-left, le-add-right, lt-of-lt-of-le}
+use native.Mathlib.Omega.{arith}
+use lib.Pow.{pow-pos, pow-mono}
+use Rattle.model.specs.Sets.{has, union, within}
+use Rattle.model.proofs.SetLaws.{same-members, within-has, has-within, has-union}
+
+-- every set has some width
+pub lt-two-pow : (n : ℕ) → n < 2 ^ n
+lt-two-pow zero = pow-pos 0
+lt-two-pow (suc n) = let h = lt-two-pow n in omega (arith, pow-suc 2 n)
+
+-- sets with the same members are equal
+pub same-sets : (a b : ℕ) → ((k : ℕ) → has a k ≡ has b k) → a ≡ b
+same-sets a b h =
+    same-members (a + b) a b (lt-of-lt-of-le (lt-two-pow a) (pow-mono (omega arith))) (lt-of-lt-of-le (lt-two-pow b) (pow-mono (omega arith)))
+    (λ k l. h k)
+
+-- one set lies within another where its members do
+pub within-iff : (a b : ℕ) → (within a b ≡ true) ↔ ((k : ℕ) → has a k ≡ true → has b k ≡ true)
+within-iff a b = (λ w. within-has a b w, λ h. has-within a a b (lt-two-pow a) (λ k l. h k))
+
+or-swap : (x y z : Bool) → (x || (y || z)) ≡ (y || (x || z))
+or-swap true true z = refl
+or-swap true false z = refl
+or-swap false true z = refl
+or-swap false false z = refl
+
+pub union-swap : (x y z : ℕ) → union x (union y z) ≡ union y (union x z)
+union-swap x y z = same-sets (union x (union y z)) (union y (union x z)) at-each
+  where
+    two : (a b c k : ℕ) → has (union a (union b c)) k ≡ (has a k || (has b k || has c k))
+    two a b c k = has-union a (union b c) k ∙ ap (λ (t : Bool). has a k || t) (has-union b c k)
+
+    at-each : (k : ℕ) → has (union x (union y z)) k ≡ has (union y (union x z)) k
+    at-each k = two x y z k ∙ or-swap (has x k) (has y k) (has z k) ∙ sym (two y x z k)

@@ -1,0 +1,188 @@
+-- A set is admissible exactly if it meets the conditions of 001.
+-- Assumes nothing.
+use mathlib.Core.Path.{_≡_, refl, sym, ap, _∙_, subst}
+use mathlib.Core.Logic.{_↔_, _≢_}
+use mathlib.Core.Bool.{Bool, true, false, _&&_}
+use mathlib.Core.List.{List, [], _∷_, _++_, List·Memᴰ}
+use Prim.Native.Nat.{ℕ, suc, _<_}
+use lib.Dec.{eqb, ltb}
+use lib.ListN.{length, getD, take, drop, set, length-set}
+use lib.Seq.{getD-set-same, getD-set-other, set-split}
+use borrow.Author.Tests.{eqb-true, eqb-false, ltb-true, lt-ltb}
+use Rattle.model.specs.declared.Kind.{Kind}
+use Rattle.model.specs.declared.Kind.the-variants.{SsDmer, MsDmer, SsHmer, MsHmer}
+use Rattle.model.specs.declared.Exclusion.{Exclusion}
+use Rattle.model.specs.declared.Session.{Session}
+use Rattle.model.specs.declared.Line.{Line}
+use Rattle.model.specs.Tests.{pick, all}
+use Rattle.model.specs.Sets.{has, union, inter, within, count}
+use Rattle.model.specs.Policy.{Policy, authorized, met, meaning}
+use Rattle.model.specs.Line.{emptySession, sessionAt, activeIn, counted, exclusionsMet, putIn}
+use Rattle.model.specs.Choice.{carriedBy, admissible}
+use Rattle.model.specs.Conditions.{others, countedAfter, MetAfter, Conditions, Solution}
+use Rattle.model.proofs.Bools.{and-l, and-r, both}
+use Rattle.model.proofs.AnyWidth.{within-iff, union-swap}
+use Rattle.model.proofs.Every.{all-mem, mem-all, all-at, at-all}
+
+-- ---- the exclusions of a line
+
+-- fewer than its limit of the exclusion's members are counted
+abbrev pub Met : (Kind → ℕ) → Exclusion → Type 0
+Met f x = count 64 (inter (x .members) (f (x .kind))) < x .limit
+
+pub met-iff : (f : Kind → ℕ) (x : Exclusion) → (met f x ≡ true) ↔ Met f x
+unfolding met
+met-iff f x =
+    (λ e. ltb-true (count 64 (inter (x .members) (f (x .kind)))) (x .limit) e, λ h. lt-ltb (count 64 (inter (x .members) (f (x .kind)))) (x .limit) h)
+
+-- every exclusion is met: each one of the policy's, at each session
+pub exclusionsMet-iff : (p : Policy) (u : ℕ) (l : Line)
+    → (exclusionsMet (meaning p u) l ≡ true)
+    ↔ ((x : Exclusion) → List·Memᴰ x (p .exclusions) → (j : ℕ) → j < length (l .sessions) → Met (counted l (sessionAt l j)) x)
+unfolding exclusionsMet meaning sessionAt
+exclusionsMet-iff p u l = (
+  λ e x m j h. met-iff (counted l (sessionAt l j)) x .0 (all-mem (met (counted l (sessionAt l j))) (p .exclusions) (all-at (at-session) (l .sessions) emptySession e j h) x m),
+  λ h. at-all at-session (l .sessions) emptySession (λ j b. mem-all (met (counted l (sessionAt l j))) (p .exclusions) (λ x m. met-iff (counted l (sessionAt l j)) x .1 (h x m j b))),
+)
+  where
+    at-session : Session → Bool
+    at-session s = all (met (counted l s)) (p .exclusions)
+
+-- ---- what each kind counts once a set is put in
+
+-- a session's active roles may be taken first in the union of all
+pub active-middle : (xs : List Session) (a : Session) (ys : List Session) → activeIn (xs ++ a ∷ ys) ≡ union (a .active) (activeIn (xs ++ ys))
+unfolding activeIn
+active-middle [] a ys = refl
+active-middle (x ∷ xs) a ys =
+    ap (λ (t : ℕ). union (x .active) t) (active-middle xs a ys) ∙ union-swap (x .active) (a .active) (activeIn (xs ++ ys))
+
+module _ (l : Line) (k s : ℕ) (h : k < length (l .sessions)) where
+  -- session k as it is then
+  abbrev replaced : Session
+  replaced = record { active = s; history = union (sessionAt l k .history) s }
+
+  -- session j then
+  after : (j : ℕ) → sessionAt (putIn k s l) j ≡ pick (eqb j k) replaced (sessionAt l j)
+  unfolding putIn sessionAt pick
+  after j = go (eqb j k) refl
+    where
+      go : (b : Bool) → eqb j k ≡ b → getD (set (l .sessions) k replaced) j emptySession ≡ pick b replaced (getD (l .sessions) j emptySession)
+      go true e =
+          ap (λ (i : ℕ). getD (set (l .sessions) k replaced) i emptySession) (eqb-true j k e)
+          ∙ getD-set-same (l .sessions) k replaced emptySession h
+      go false e = getD-set-other (l .sessions) k j replaced emptySession (eqb-false j k e)
+
+  -- a field of a session that may be the replaced one
+  pick-active : (b : Bool) (a : Session) → pick b replaced a .active ≡ pick b s (a .active)
+  unfolding pick
+  pick-active true a = refl
+  pick-active false a = refl
+
+  pick-history : (j : ℕ) (b : Bool) → eqb j k ≡ b
+      → pick b replaced (sessionAt l j) .history ≡ pick b (union (sessionAt l j .history) s) (sessionAt l j .history)
+  unfolding pick
+  pick-history j true e = ap (λ (i : ℕ). union (sessionAt l i .history) s) (sym (eqb-true j k e))
+  pick-history j false e = refl
+
+  pub counted-after : (j : ℕ) (c : Kind) → counted (putIn k s l) (sessionAt (putIn k s l) j) c ≡ countedAfter l k s j c
+  unfolding counted countedAfter putIn others
+  counted-after j SsDmer = ap (λ (a : Session). a .active) (after j) ∙ pick-active (eqb j k) (sessionAt l j)
+  counted-after j MsDmer =
+      ap activeIn (set-split (l .sessions) k replaced h) ∙ active-middle (take k (l .sessions)) replaced (drop (suc k) (l .sessions))
+  counted-after j SsHmer = ap (λ (a : Session). a .history) (after j) ∙ pick-history j (eqb j k) refl
+  counted-after j MsHmer = refl
+
+  -- the exclusions of the policy once s is put in
+  met-after : (p : Policy) (u : ℕ)
+      → (exclusionsMet (meaning p u) (putIn k s l) ≡ true)
+      ↔ ((x : Exclusion) → List·Memᴰ x (p .exclusions) → (j : ℕ) → j < length (l .sessions) → MetAfter l k s j x)
+  met-after p u = (
+    λ e x m j b. subst (at-limit x) (counted-after j (x .kind)) (exclusionsMet-iff p u (putIn k s l) .0 e x m j (subst (λ (n : ℕ). j < n) (sym same-length) b)),
+    λ f. exclusionsMet-iff p u (putIn k s l) .1 (λ x m j b. subst (at-limit x) (sym (counted-after j (x .kind))) (f x m j (subst (λ (n : ℕ). j < n) same-length b))),
+  )
+    where
+      at-limit : Exclusion → ℕ → Type 0
+      at-limit x n = count 64 (inter (x .members) n) < x .limit
+
+      same-length : length (putIn k s l .sessions) ≡ length (l .sessions)
+      same-length = unfold putIn in length-set (l .sessions) k replaced
+
+-- ---- the other sessions
+module _ (l : Line) (k s : ℕ) where
+  -- a session other than k counts what it did, or what session k counts
+  as-before : (P : ℕ → Type 0) (j : ℕ) → eqb j k ≡ false → (c : Kind) → P (countedAfter l k s k c) → P (counted l (sessionAt l j) c)
+      → P (countedAfter l k s j c)
+  unfolding countedAfter counted pick
+  as-before P j e SsDmer a b = subst (λ (t : Bool). P (pick t s (sessionAt l j .active))) (sym e) b
+  as-before P j e MsDmer a b = a
+  as-before P j e SsHmer a b = subst (λ (t : Bool). P (pick t (union (sessionAt l j .history) s) (sessionAt l j .history))) (sym e) b
+  as-before P j e MsHmer a b = a
+
+  -- an exclusion that was met at session j is met there if it is met at session k
+  elsewhere : (x : Exclusion) (j : ℕ) → MetAfter l k s k x → Met (counted l (sessionAt l j)) x → MetAfter l k s j x
+  elsewhere x j a b = go (eqb j k) refl
+    where
+      go : (t : Bool) → eqb j k ≡ t → MetAfter l k s j x
+      go true e = subst (λ (i : ℕ). MetAfter l k s i x) (sym (eqb-true j k e)) a
+      go false e = as-before (λ (n : ℕ). count 64 (inter (x .members) n) < x .limit) j e (x .kind) a b
+
+-- ---- the conditions
+four : (a b c d : Bool) → (a && b && c && d) ≡ true → (a ≡ true) × (b ≡ true) × (c ≡ true) × (d ≡ true)
+four a b c d e =
+    let f = and-l (a && b && c) d e in
+    let g = and-l (a && b) c f in
+    (and-l a b g, and-r a b g, and-r (a && b) c f, and-r (a && b && c) d e)
+
+module _ (p : Policy) (u : ℕ) (l : Line) (k lb ub s : ℕ) where
+  -- the four parts of the test
+  parts : admissible (meaning p u) l k lb ub s ≡ true
+      → (within s (authorized p u) ≡ true) × (within lb (carriedBy (meaning p u) s) ≡ true) × (within (carriedBy (meaning p u) s) ub ≡ true)
+      × (exclusionsMet (meaning p u) (putIn k s l) ≡ true)
+  unfolding admissible meaning
+  parts =
+      four (within s (authorized p u)) (within lb (carriedBy (meaning p u) s)) (within (carriedBy (meaning p u) s) ub)
+      (exclusionsMet (meaning p u) (putIn k s l))
+
+  whole : within s (authorized p u) ≡ true → within lb (carriedBy (meaning p u) s) ≡ true → within (carriedBy (meaning p u) s) ub ≡ true
+      → exclusionsMet (meaning p u) (putIn k s l) ≡ true → admissible (meaning p u) l k lb ub s ≡ true
+  unfolding admissible meaning
+  whole a b c d = both _ _ (both _ _ (both _ _ a b) c) d
+
+  module _ (h : k < length (l .sessions)) where
+    -- a set is admissible exactly if it meets the conditions
+    pub conditions : (admissible (meaning p u) l k lb ub s ≡ true) ↔ Conditions p u l k lb ub s
+    conditions = (to, from)
+      where
+        to : admissible (meaning p u) l k lb ub s ≡ true → Conditions p u l k lb ub s
+        to e =
+            let w = parts e in
+            record {
+              own = within-iff s (authorized p u) .0 (w .0);
+              lower = within-iff lb (carriedBy (meaning p u) s) .0 (w .1);
+              upper = within-iff (carriedBy (meaning p u) s) ub .0 (w .2);
+              exclusions = met-after l k s h p u .0 (w .3);
+            }
+
+        from : Conditions p u l k lb ub s → admissible (meaning p u) l k lb ub s ≡ true
+        from c =
+            whole (within-iff s (authorized p u) .1 (c .own)) (within-iff lb (carriedBy (meaning p u) s) .1 (c .lower))
+            (within-iff (carriedBy (meaning p u) s) ub .1 (c .upper)) (met-after l k s h p u .1 (c .exclusions))
+
+    -- on a line where every exclusion is met, as on a sound one, exactly if it meets them with condition 6 for session k alone
+    pub solution : exclusionsMet (meaning p u) l ≡ true → (admissible (meaning p u) l k lb ub s ≡ true) ↔ Solution p u l k lb ub s
+    solution e = (to, from)
+      where
+        to : admissible (meaning p u) l k lb ub s ≡ true → Solution p u l k lb ub s
+        to a = let c = conditions .0 a in record { own = c .own; lower = c .lower; upper = c .upper; exclusions = λ x m. c .exclusions x m k h }
+
+        from : Solution p u l k lb ub s → admissible (meaning p u) l k lb ub s ≡ true
+        from c =
+            conditions .1 (
+            record {
+              own = c .own;
+              lower = c .lower;
+              upper = c .upper;
+              exclusions = λ x m j b. elsewhere l k s x j (c .exclusions x m) (exclusionsMet-iff p u l .0 e x m j b);
+            }
+            )

@@ -1,0 +1,114 @@
+-- The order of role sets by the two objectives and the set number: irreflexive, transitive and total.
+-- Assumes nothing.
+use mathlib.Core.Path.{_≡_, refl, sym, _∙_}
+use mathlib.Core.Logic.{_⊎_, inl, inr}
+use mathlib.Core.Bool.{Bool, true, false, _&&_, _||_, or-true}
+use Prim.Native.Nat.{ℕ, _<_}
+use native.Mathlib.Omega.{arith}
+use native.Mathlib.Decide.{decLt}
+use lib.Dec.{eqb, ltb}
+use borrow.Author.Tests.{eqb-true, eq-eqb, lt-ltb, ltb-true}
+use Rattle.model.specs.Policy.{Meaning}
+use Rattle.model.specs.Choice.{better, earlier, permissionCost, roleCost}
+use Rattle.model.proofs.Bools.{and-l, and-r, or-cases, not-both}
+
+-- `earlier` as a fact about the numbers
+abbrev pub Earlier : ℕ → ℕ → ℕ → ℕ → ℕ → ℕ → Type 0
+Earlier p q x y s t = (p < q) ⊎ ((p ≡ q) × ((x < y) ⊎ ((x ≡ y) × (s < t))))
+
+module _ (p q x y s t : ℕ) where
+  -- what the test tells
+  pub earlier-true : earlier p q x y s t ≡ true → Earlier p q x y s t
+  unfolding earlier
+  earlier-true e = high (or-cases (ltb p q) (eqb p q && (ltb x y || (eqb x y && ltb s t))) e)
+    where
+      low : (ltb x y ≡ true) ⊎ ((eqb x y && ltb s t) ≡ true) → (x < y) ⊎ ((x ≡ y) × (s < t))
+      low (inl h) = inl (ltb-true x y h)
+      low (inr h) = inr (eqb-true x y (and-l (eqb x y) (ltb s t) h), ltb-true s t (and-r (eqb x y) (ltb s t) h))
+
+      high : (ltb p q ≡ true) ⊎ ((eqb p q && (ltb x y || (eqb x y && ltb s t))) ≡ true) → Earlier p q x y s t
+      high (inl h) = inl (ltb-true p q h)
+      high (inr h) =
+          inr (
+            eqb-true p q (and-l (eqb p q) (ltb x y || (eqb x y && ltb s t)) h),
+            low (or-cases (ltb x y) (eqb x y && ltb s t) (and-r (eqb p q) (ltb x y || (eqb x y && ltb s t)) h)),
+          )
+
+  -- the test from the fact
+  pub is-earlier : Earlier p q x y s t → earlier p q x y s t ≡ true
+  unfolding earlier
+  is-earlier (inl h) = rw (lt-ltb p q h)
+  is-earlier (inr (e, inl h)) = rw (eq-eqb p q e, lt-ltb x y h) (or-true (ltb p q))
+  is-earlier (inr (e, inr (d, h))) = rw (eq-eqb p q e, eq-eqb x y d, lt-ltb s t h, or-true (ltb x y)) (or-true (ltb p q))
+
+-- nothing is earlier than itself
+pub earlier-irrefl : (p x s : ℕ) → earlier p p x x s s ≡ false
+earlier-irrefl p x s = go (earlier p p x x s s) refl
+  where
+    no-way : Earlier p p x x s s → ⊥
+    no-way (inl h) = omega arith
+    no-way (inr (e, inl h)) = omega arith
+    no-way (inr (e, inr (d, h))) = omega arith
+
+    go : (b : Bool) → earlier p p x x s s ≡ b → earlier p p x x s s ≡ false
+    go true e = absurd (no-way (earlier-true p p x x s s e))
+    go false e = e
+
+Earlier-trans : (p q r x y z s t u : ℕ) → Earlier p q x y s t → Earlier q r y z t u → Earlier p r x z s u
+Earlier-trans p q r x y z s t u (inl h) (inl k) = inl (omega arith)
+Earlier-trans p q r x y z s t u (inl h) (inr (f, k)) = inl (omega arith)
+Earlier-trans p q r x y z s t u (inr (e, h)) (inl k) = inl (omega arith)
+Earlier-trans p q r x y z s t u (inr (e, inl h)) (inr (f, inl k)) = inr (e ∙ f, inl (omega arith))
+Earlier-trans p q r x y z s t u (inr (e, inl h)) (inr (f, inr (d, k))) = inr (e ∙ f, inl (omega arith))
+Earlier-trans p q r x y z s t u (inr (e, inr (d, h))) (inr (f, inl k)) = inr (e ∙ f, inl (omega arith))
+Earlier-trans p q r x y z s t u (inr (e, inr (d, h))) (inr (f, inr (g, k))) = inr (e ∙ f, inr (d ∙ g, omega arith))
+
+pub earlier-trans : (p q r x y z s t u : ℕ) → earlier p q x y s t ≡ true → earlier q r y z t u ≡ true → earlier p r x z s u ≡ true
+earlier-trans p q r x y z s t u e f =
+    is-earlier p r x z s u (Earlier-trans p q r x y z s t u (earlier-true p q x y s t e) (earlier-true q r y z t u f))
+
+-- two numbers are in one of the three orders
+tri : (a b : ℕ) → (a < b) ⊎ ((a ≡ b) ⊎ (b < a))
+tri a b = elim (decLt a b) [ yes h ↦ inl h | no h ↦ elim (decLt b a) [ yes k ↦ inr (inr k) | no k ↦ inr (inl (omega arith)) ] ]
+
+-- two sets neither of which is earlier are the same
+pub earlier-total : (p q x y s t : ℕ) → earlier p q x y s t ≡ false → earlier q p y x t s ≡ false → s ≡ t
+earlier-total p q x y s t e f = first (tri p q)
+  where
+    no-less : Earlier p q x y s t → s ≡ t
+    no-less h = not-both (earlier p q x y s t) (is-earlier p q x y s t h) e
+
+    no-more : Earlier q p y x t s → s ≡ t
+    no-more h = not-both (earlier q p y x t s) (is-earlier q p y x t s h) f
+
+    third : p ≡ q → x ≡ y → (s < t) ⊎ ((s ≡ t) ⊎ (t < s)) → s ≡ t
+    third a b (inl h) = no-less (inr (a, inr (b, h)))
+    third a b (inr (inl h)) = h
+    third a b (inr (inr h)) = no-more (inr (sym a, inr (sym b, h)))
+
+    second : p ≡ q → (x < y) ⊎ ((x ≡ y) ⊎ (y < x)) → s ≡ t
+    second a (inl h) = no-less (inr (a, inl h))
+    second a (inr (inl h)) = third a h (tri s t)
+    second a (inr (inr h)) = no-more (inr (sym a, inl h))
+
+    first : (p < q) ⊎ ((p ≡ q) ⊎ (q < p)) → s ≡ t
+    first (inl h) = no-less (inl h)
+    first (inr (inl h)) = second h (tri x y)
+    first (inr (inr h)) = no-more (inl h)
+
+-- ---- the same of `better`
+module _ (m : Meaning) (a b : ℕ) where
+  -- no set is better than itself
+  pub better-irrefl : (s : ℕ) → better m a b s s ≡ false
+  unfolding better
+  better-irrefl s = earlier-irrefl (permissionCost m a s) (roleCost b s) s
+
+  pub better-trans : (r s t : ℕ) → better m a b r s ≡ true → better m a b s t ≡ true → better m a b r t ≡ true
+  unfolding better
+  better-trans r s t =
+      earlier-trans (permissionCost m a r) (permissionCost m a s) (permissionCost m a t) (roleCost b r) (roleCost b s) (roleCost b t) r s t
+
+  -- two sets neither of which is better are the same
+  pub better-total : (s t : ℕ) → better m a b s t ≡ false → better m a b t s ≡ false → s ≡ t
+  unfolding better
+  better-total s t = earlier-total (permissionCost m a s) (permissionCost m a t) (roleCost b s) (roleCost b t) s t
