@@ -7,3 +7,4 @@ pub mod RoomLaws
 pub mod Walks
 pub mod Lacking
 pub mod Turns
+pub mod Solved

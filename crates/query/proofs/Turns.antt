@@ -15,7 +15,7 @@ use Rattle.sets.proofs.Taken.{count-without}
 use Rattle.query.specs.declared.rank.Best.{Best}
 use Rattle.query.specs.Search.{Task, carries, keyBy, rank, rankOf, rankAt, Sub, Keeps, Missing, Ready, Modest, Found, Tried}
 use Rattle.query.proofs.Members.{sub-count, fewer-within}
-use Rattle.query.proofs.Carried.{carried-with}
+use Rattle.query.proofs.Carried.{carried-with, carried-none}
 use Rattle.query.proofs.Steps.{given-up, reached, taken-up, tried-none, tried-on, tried-off, both-ways, one-way, leaf-worse, leaf-best, leaf-short}
 
 -- what the exclusions leave room for passes to smaller sets
@@ -134,3 +134,8 @@ wanted-less lower carried row sum e =
 
 pub roles-less : (free role less : ℕ) → free < 2 ^ 64 → role < 64 → has free role ≡ true → less ≡ without free role → count 64 less + 1 ≡ count 64 free
 roles-less free role less h l m e = omega (arith, ap (count 64) e, count-without 64 free role h l m)
+
+-- the empty set, with which a search starts
+pub ready-none : (t : Task) (n c : ℕ) → n ≤ 32 → c ≡ 0 → t .room 0 ≡ true → Ready t n 0 c
+unfolding carries
+ready-none t n c h e m = record { few = h; carry = e ∙ sym (carried-none (t .row) 64); room = m }
