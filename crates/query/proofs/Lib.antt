@@ -8,3 +8,4 @@ pub mod Walks
 pub mod Lacking
 pub mod Turns
 pub mod Solved
+pub mod Reductions

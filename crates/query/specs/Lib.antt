@@ -2,3 +2,4 @@
 pub mod Rooms
 pub mod Search
 pub mod Answer
+pub mod Reduction

@@ -12,6 +12,7 @@ ghost use Rattle.query.specs.Search.{rowsOf, taskOf, Found};
 ghost use Rattle.query.specs.Answer.{answered, answerOf, noBest, Given};
 
 pub mod carry;
+pub mod exclusions;
 pub mod rank;
 pub mod rooms;
 pub mod search;
