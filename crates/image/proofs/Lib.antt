@@ -4,3 +4,4 @@ pub mod Judged
 pub mod Heads
 pub mod Fills
 pub mod Places
+pub mod Closing
