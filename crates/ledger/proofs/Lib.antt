@@ -2,3 +2,4 @@
 pub mod Sessions
 pub mod All
 pub mod Soundness
+pub mod Places

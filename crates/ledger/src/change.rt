@@ -28,8 +28,7 @@ pub fn lowest_closed(l: Line) -> usize
     ensures { λ r. ⌜ r ≡ lowestClosed l 0 4 ⌝ }
 {
     for k in 0..SESSIONS {
-        if is_open(l, k) {
-        } else {
+        if !is_open(l, k) {
             return k;
         }
     }

@@ -1,25 +1,23 @@
+-- `ledger::bytes::session_at` meets its contract.
+-- Assumes nothing.
+use mathlib.Core.Path.{ap}
+use mathlib.Core.List.{List}
+use Prim.Native.Nat.{ℕ}
+use lib.ListN.{take}
+use lib.Seq.{drop-drop}
 use borrow.Author.Needs.{needs}
+use Rattle.model.specs.Bytes.{number}
+use Rattle.octets.specs.Splice.{numberAt}
+use Rattle.ledger.specs.Places.{sessionIn}
 use Rattle.ledger.proofs.bytes.session_at.Statement.{statement}
 use Rattle.ledger.proofs.bytes.session_at.Tie as tie
-use Rattle.ledger.proofs.bytes.session_at.Reads as reads
-use Rattle.ledger.proofs.bytes.session_at.Lts as lts
-use Rattle.octets.proofs.get_u64.Reads as get-u64-reads
 
--- src/bytes.rt:24:17
-get-u64-requires : tie.Need-get-u64-requires
-get-u64-requires c κs = search needs
-
--- src/bytes.rt:25:37
-add-get-u64 : tie.Need-add-get-u64
-add-get-u64 c = search needs
-
--- src/bytes.rt:25:18
-get-u64-requires-2 : tie.Need-get-u64-requires-2
-get-u64-requires-2 c κs = search needs
-
--- src/bytes.rt:19:1
 returns : tie.Need-returns
-returns c = ?
+unfolding sessionIn numberAt
+returns c =
+    let a = c .before .before .before .args in
+    let e = ap (λ (l : List ℕ). number (take 8 l)) (drop-drop 8 (a .at) (a .s .now)) in
+    cc e
 
 pub session-at-spec : {M : Type 1} → statement M
-session-at-spec = tie.close (tie.spec get-u64-requires add-get-u64 get-u64-requires-2 returns)
+session-at-spec = tie.close (tie.spec (λ c κs. search needs) (λ c. search needs) (λ c κs. search needs) returns)

@@ -1,68 +1,43 @@
+-- `ledger::bytes::sessions_at` meets its contract. The loop's invariant: the first k sessions are read.
+-- Assumes nothing.
+use mathlib.Core.Path.{_≡_, refl, sym, ap, _∙_}
+use mathlib.Core.List.{List}
+use Prim.Native.Nat.{ℕ, _-_, _≤_}
+use native.Mathlib.Omega.{arith}
+use lib.ListN.{length, take, drop, length-set}
+use lib.Seq.{take-all}
+use borrow.Author.Needs.{needs}
+use Rattle.model.specs.declared.Session.{Session}
+use Rattle.model.specs.Line.{readSessions}
+use Rattle.ledger.proofs.Places.{read-next}
 use Rattle.ledger.proofs.bytes.sessions_at.Statement.{statement}
 use Rattle.ledger.proofs.bytes.sessions_at.Tie as tie
-use Rattle.ledger.proofs.bytes.sessions_at.Reads as reads
-use Rattle.ledger.proofs.bytes.sessions_at.Lts as lts
-use Rattle.ledger.proofs.bytes.session_at.Reads as session-at-reads
 
 abbrev Inv-loop : tie.InvT-loop
-Inv-loop s at sessions₀ k₀ sessions k = ?
+Inv-loop s at sessions₀ k₀ sessions k = (k ≤ 4) × (length sessions ≡ 4) × (take k sessions ≡ readSessions k (drop at s))
 
 abbrev μ-loop : tie.MeasureT-loop
-μ-loop s at sessions₀ k₀ sessions k = ?
+μ-loop s at sessions₀ k₀ sessions k = 4 - k
 
--- src/bytes.rt:38:5
 loop-holds : tie.Need-loop-holds Inv-loop μ-loop
-loop-holds c = ?
+unfolding readSessions
+loop-holds c = (omega arith, refl, refl)
 
--- src/bytes.rt:39:39
-mul-session-at : tie.Need-mul-session-at Inv-loop μ-loop
-mul-session-at c = ?
-
--- src/bytes.rt:39:34
-add-session-at : tie.Need-add-session-at Inv-loop μ-loop
-add-session-at c = ?
-
--- src/bytes.rt:39:13
-session-at-requires : tie.Need-session-at-requires Inv-loop μ-loop
-session-at-requires c κs = ?
-
--- src/bytes.rt:40:9
-mul-sessions : tie.Need-mul-sessions Inv-loop μ-loop
-mul-sessions c = ?
-
--- src/bytes.rt:40:9
-array-set-from-sessions : tie.Need-array-set-from-sessions Inv-loop μ-loop
-array-set-from-sessions c = ?
-
--- src/bytes.rt:38:9
-add-k : tie.Need-add-k Inv-loop μ-loop
-add-k c = ?
-
--- src/bytes.rt:38:5
-loop-less : tie.Need-loop-less Inv-loop μ-loop
-loop-less c = ?
-
--- src/bytes.rt:38:5
 loop-again : tie.Need-loop-again Inv-loop μ-loop
-loop-again c = ?
+loop-again c =
+    let l = c .before .before in
+    let a = l .before .before .args in
+    let h = read-next (a .s .now) (a .at) (l .loop .k) (l .loop .sessions) (c .session-at .result) (l .loop .inv .2) (omega arith) (c .session-at .ensures) in
+    (omega arith, simp length-set (l .loop .inv .1), h)
 
--- src/bytes.rt:30:1
 returns : tie.Need-returns Inv-loop μ-loop
-returns c = ?
+returns c =
+    let l = c .before in
+    let a = l .before .before .args in
+    let e : l .loop .k ≡ 4 = omega arith in
+    sym (take-all (l .loop .k) (l .loop .sessions) (omega arith)) ∙ l .loop .inv .2 ∙ ap (λ (k : ℕ). readSessions k (drop (a .at) (a .s .now))) e
 
 pub sessions-at-spec : {M : Type 1} → statement M
 sessions-at-spec =
     tie.close
-    (tie.spec
-    Inv-loop
-    μ-loop
-    loop-holds
-    mul-session-at
-    add-session-at
-    session-at-requires
-    mul-sessions
-    array-set-from-sessions
-    add-k
-    loop-less
-    loop-again
-    returns)
+    (tie.spec Inv-loop μ-loop loop-holds (λ c. omega arith) (λ c. omega arith) (λ c κs. omega arith) (λ c. search needs) (λ c. search needs) (λ c. omega arith) (λ c. omega arith) loop-again returns)

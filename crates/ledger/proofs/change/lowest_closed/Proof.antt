@@ -1,9 +1,10 @@
 -- `ledger::change::lowest_closed` meets its contract. The loop's invariant: the lowest closed one from session k on is the lowest of all.
 -- Assumes nothing.
-use mathlib.Core.Path.{_≡_, refl, _∙_}
+use mathlib.Core.Path.{_≡_, refl, sym, _∙_}
 use Prim.Native.Nat.{_-_, _≤_}
 use native.Mathlib.Omega.{arith}
 use borrow.Author.Needs.{needs}
+use borrow.Author.Tests.{not-true, not-false}
 use Rattle.model.specs.Line.{lowestClosed}
 use Rattle.ledger.proofs.Sessions.{lowest-here, lowest-next, lowest-none}
 use Rattle.ledger.proofs.change.lowest_closed.Statement.{statement}
@@ -21,12 +22,12 @@ loop-holds c = (omega arith, refl)
 returns : tie.Need-returns Inv-loop μ-loop
 returns c =
     let s = c .before .before .before in
-    lowest-here (s .before .args .l) 4 (s .loop .k) (search needs) (cc) ∙ s .loop .inv .1
+    lowest-here (s .before .args .l) 4 (s .loop .k) (search needs) (sym (c .before .is-open .ensures) ∙ not-true _ (c .if1 .taken)) ∙ s .loop .inv .1
 
 loop-again : tie.Need-loop-again Inv-loop μ-loop
 loop-again c =
     let s = c .before .before .before in
-    (omega arith, lowest-next (s .before .args .l) 4 (s .loop .k) (search needs) (cc) ∙ s .loop .inv .1)
+    (omega arith, lowest-next (s .before .args .l) 4 (s .loop .k) (search needs) (sym (c .before .is-open .ensures) ∙ not-false _ (c .if1 .left)) ∙ s .loop .inv .1)
 
 returns-2 : tie.Need-returns-2 Inv-loop μ-loop
 returns-2 c = lowest-none (c .before .before .args .l) 4 (c .before .loop .k) (search needs) (search needs) ∙ c .before .loop .inv .1

@@ -36,10 +36,12 @@ loop-again : tie.Need-loop-again Inv-loop μ-loop
 loop-again c =
     let s = c .before .before .before .before in
     let a = s .before .args in
-    let n : length (a .t2 .list) ≡ 32 = sym (length-map (a .t2 .list) _) ∙ s .before .good .1 .0 .1 .1 .0 .1 .0 .1 in
-    (omega arith, refl,
-        listed-next (metAt (a .l)) _ (a .t2 .list) (a .t2 .count) (s .loop .i) (omega arith) (omega arith)
-        (sym (c .before .exclusion-met .ensures) ∙ not-false _ (c .if1 .left)) ∙ s .loop .inv .2)
+    let n : length (a .t2 .list) ≡ 32 = sym (length-map (a .t2 .list) _) ∙ s .before .good .1 .0 .1 .1 .0 .1 .0 .1 in (
+      omega arith,
+      refl,
+      listed-next (metAt (a .l)) _ (a .t2 .list) (a .t2 .count) (s .loop .i) (omega arith) (omega arith)
+          (sym (c .before .exclusion-met .ensures) ∙ not-false _ (c .if1 .left)) ∙ s .loop .inv .2,
+    )
 
 returns-2 : tie.Need-returns-2 Inv-loop μ-loop
 returns-2 c m h =

@@ -36,9 +36,11 @@ unfolding emptySession
 loop-again c =
     let s = c .before .before .before .before in
     let ss = s .before .args .t1 .sessions in
-    let n : length ss ≡ 4 = sym (length-map ss _) ∙ s .before .good .0 .1 .1 .1 .1 .0 .1 .0 .1 in
-    (omega arith, λ m e.
-            sound-next m _ emptySession ss (s .loop .k) (omega arith) (sym (c .before .session-sound .ensures m e) ∙ not-false _ (c .if1 .left)) ∙ s .loop .inv .1 m e)
+    let n : length ss ≡ 4 = sym (length-map ss _) ∙ s .before .good .0 .1 .1 .1 .1 .0 .1 .0 .1 in (
+      omega arith,
+      λ m e.
+          sound-next m _ emptySession ss (s .loop .k) (omega arith) (sym (c .before .session-sound .ensures m e) ∙ not-false _ (c .if1 .left)) ∙ s .loop .inv .1 m e,
+    )
 
 returns-2 : tie.Need-returns-2 Inv-loop μ-loop
 returns-2 c m e =

@@ -15,4 +15,4 @@ returns c m h =
     cc
 
 pub sound-spec : {M : Type 1} → statement M
-sound-spec = tie.close (tie.spec (λ c κs. search needs) (λ c. search needs) returns)
+sound-spec = tie.close (tie.spec (λ c. search needs) (λ c κs. search needs) (λ c κs. search needs) (λ c κs. search needs) (λ c κs. search needs) returns)
