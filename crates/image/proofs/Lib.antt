@@ -2,3 +2,5 @@
 pub mod Turns
 pub mod Judged
 pub mod Heads
+pub mod Fills
+pub mod Places

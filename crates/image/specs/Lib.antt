@@ -1,2 +1,3 @@
 -- What the contracts of the image's code say, beside the model's definitions.
 pub mod Bounds
+pub mod Tables
