@@ -26,7 +26,8 @@ use Rattle.model.specs.Conditions.{others, countedAfter, MetAfter}
 use Rattle.model.proofs.Bools.{and-l, and-r, both, bool-ext}
 use Rattle.model.proofs.Every.{all-mem, mem-all, all-at, at-all}
 use Rattle.model.proofs.SetLaws.{has-union, has-inter}
-use Rattle.model.proofs.ConditionsProof.{active-middle, solution}
+use Rattle.model.proofs.Actives.{active-middle}
+use Rattle.model.proofs.ConditionsProof.{solution}
 use Rattle.query.specs.Rooms.{fits, allBelow, roomy, stay, maskOf, roomOf}
 use Rattle.query.specs.Reduction.{Reduces}
 use Rattle.query.proofs.Members.{sub-within, within-sub, none-sub, no-member}
