@@ -12,8 +12,10 @@ pub struct Best {
     pub roles: u64,
 }
 
-// How many exclusions there are, and the objectives for permissions and for roles (01: aims): 0 is any, 1 the fewest, 2 the most.
+// What is asked: the lower bound, how many exclusions there are, and the objectives for permissions and then for roles (01: aims): 0 is
+// any, 1 the fewest, 2 the most.
 pub struct Job {
+    pub lower: [u64; 4],
     pub count: usize,
     pub first: u8,
     pub second: u8,
