@@ -2,3 +2,10 @@
 pub mod FirstSteps
 pub mod Opens
 pub mod Closes
+pub mod Images
+pub mod Filled
+pub mod PermissionSets
+pub mod Requests
+pub mod Asks
+pub mod ShortAsks
+pub mod Rows

@@ -1,2 +1,3 @@
 -- What the contracts of the calls' parts say, beside the model's definitions.
 pub mod Calls
+pub mod Asks

@@ -1,12 +1,17 @@
 // The calls of the session kit, as a C host makes them: numbers are u64, a slice is a pointer and a length, and the answer is a number
 // plus 256 times an extra. No call requires anything of its arguments.
+pub mod answer; // answer.rt: the answer buffer filled
+pub mod ask; // ask.rt: roles asked for
+pub mod bounds; // bounds.rt: an ask's bounds as permission sets
 pub mod close; // close.rt: a session closed
 pub mod first; // first.rt: the refusals that every call on a line can give first
 pub mod open; // open.rt: a session opened
+pub mod request; // request.rt: the refusals that an ask can give before the search
 
 ghost use mathlib.Core.Path.{_≡_};
 ghost use Rattle.model.specs.Image.{judge, checkNumber};
-ghost use Rattle.model.specs.Run.{step, openBy, closeBy, returned};
+ghost use Rattle.model.specs.Run.{step, openBy, closeBy, askBy, shortAskBy, returned, answered};
+ghost use lib.ListN.{length};
 use model::Checked;
 
 // Judges an image: 0, or the refusal's number plus 256 times the place of the refused word.
@@ -36,7 +41,7 @@ pub extern "C" fn nutrameza_open(image: &[u8], ledger: &mut [u8], user: u64) -> 
         return first::refusal_of(c);
     };
     let xs = all.exclusions;
-    open::open(ledger, head, &assigned, xs, user)
+    open::open_session(ledger, head, &assigned, xs, user)
 }
 
 // Closes the user's session.
@@ -54,5 +59,66 @@ pub extern "C" fn nutrameza_close(image: &[u8], ledger: &mut [u8], user: u64, se
         return first::refusal_of(c);
     };
     let xs = all.exclusions;
-    close::close(ledger, head, &assigned, xs, user, session)
+    close::close_session(ledger, head, &assigned, xs, user, session)
+}
+
+// Asks for roles in the user's session: at least the lower permissions, none outside the upper, the best by both objectives.
+#[no_mangle]
+pub extern "C" fn nutrameza_ask(
+    image: &[u8],
+    ledger: &mut [u8],
+    user: u64,
+    session: u64,
+    lower: &[u8],
+    upper: &[u8],
+    permission_aim: u64,
+    role_aim: u64,
+    answer: &mut [u8],
+) -> u64
+    ensures { λ r. ⌜ (r ≡ returned (step 4 (now (image .entry)) (now (ledger .entry)) (askBy user session (now (lower .entry)) (now (upper .entry)) «permission_aim» «role_aim» (length (now (answer .entry)))) .reply))
+        × (now (ledger .exit) ≡ step 4 (now (image .entry)) (now (ledger .entry)) (askBy user session (now (lower .entry)) (now (upper .entry)) «permission_aim» «role_aim» (length (now (answer .entry)))) .ledger)
+        × (now (answer .exit) ≡ answered (now (answer .entry)) (step 4 (now (image .entry)) (now (ledger .entry)) (askBy user session (now (lower .entry)) (now (upper .entry)) «permission_aim» «role_aim» (length (now (answer .entry)))) .reply)) ⌝ }
+{
+    let mut assigned = [0u64; 64];
+    let mut granted = [[0u64; 4]; 64];
+    let mut juniors = [0u64; 64];
+    let all = image::read::read(image, &mut assigned, &mut granted, &mut juniors);
+    let c = all.checked;
+    let Checked::Accepted(head) = c else {
+        return first::refusal_of(c);
+    };
+    let xs = all.exclusions;
+    ask::ask_roles(
+        ledger,
+        head,
+        &assigned,
+        &granted,
+        &mut juniors,
+        xs,
+        user,
+        session,
+        lower,
+        upper,
+        permission_aim,
+        role_aim,
+        answer,
+    )
+}
+
+// An ask with no objectives.
+#[no_mangle]
+pub extern "C" fn nutrameza_short_ask(
+    image: &[u8],
+    ledger: &mut [u8],
+    user: u64,
+    session: u64,
+    lower: &[u8],
+    upper: &[u8],
+    answer: &mut [u8],
+) -> u64
+    ensures { λ r. ⌜ (r ≡ returned (step 4 (now (image .entry)) (now (ledger .entry)) (shortAskBy user session (now (lower .entry)) (now (upper .entry)) (length (now (answer .entry)))) .reply))
+        × (now (ledger .exit) ≡ step 4 (now (image .entry)) (now (ledger .entry)) (shortAskBy user session (now (lower .entry)) (now (upper .entry)) (length (now (answer .entry)))) .ledger)
+        × (now (answer .exit) ≡ answered (now (answer .entry)) (step 4 (now (image .entry)) (now (ledger .entry)) (shortAskBy user session (now (lower .entry)) (now (upper .entry)) (length (now (answer .entry)))) .reply)) ⌝ }
+{
+    nutrameza_ask(image, ledger, user, session, lower, upper, 0, 0, answer)
 }

@@ -1,0 +1,31 @@
+-- A short ask is an ask with no objectives.
+-- Assumes nothing.
+use mathlib.Core.Path.{_≡_, refl, sym, ap, _∙_}
+use mathlib.Core.Bool.{Bool, true, false}
+use mathlib.Core.List.{List, [], _∷_}
+use Prim.Native.Nat.{ℕ}
+use lib.Dec.{eqb, ltb}
+use lib.ListN.{length}
+use Rattle.model.specs.declared.Checked.{Checked}
+use Rattle.model.specs.declared.Checked.the-variants.{Accepted, Refused}
+use Rattle.model.specs.Tests.{pick, first}
+use Rattle.model.specs.Image.{judge}
+use Rattle.model.specs.Policy.{Policy, Meaning, policyOf, meaning}
+use Rattle.model.specs.Line.{lineSize, readLine}
+use Rattle.model.specs.Session.{Refusal, bad-line, bad-session, is-closed, bad-set, bad-permission, bad-bounds, bad-aim, bad-room, no-set, shortAim, Query, Result, ask, short-ask, sessionOf, queryOf, canGive, applies, chosen, asked, perform, unless, rule}
+use Rattle.model.specs.Run.{Event, lineAt, withLine, ruled, stepOn, stepBy, step, askBy, shortAskBy}
+
+module _ (W k : ℕ) (lower upper : List ℕ) (room : ℕ) where
+  pub short-rule : (m : Meaning) (bs : List ℕ)
+      → rule W m bs (short-ask k lower upper room)
+      ≡ rule W m bs (ask k (record { lower = lower; upper = upper; permissionAim = 0; roleAim = 0; room = room }))
+  unfolding rule unless shortAim sessionOf queryOf canGive applies first perform
+  short-rule m bs = refl
+
+  pub short-step : (u : ℕ) (image ledger : List ℕ) → step W image ledger (shortAskBy u k lower upper room) ≡ step W image ledger (askBy u k lower upper 0 0 room)
+  unfolding step stepBy stepOn ruled shortAskBy askBy
+  short-step u image ledger = go (judge image)
+    where
+      go : (c : Checked) → stepBy W c (policyOf image) ledger (shortAskBy u k lower upper room) ≡ stepBy W c (policyOf image) ledger (askBy u k lower upper 0 0 room)
+      go (Refused n place) = refl
+      go (Accepted h) = rw (short-rule (meaning (policyOf image) u) (lineAt (lineSize W) u ledger))
