@@ -4,20 +4,18 @@ use mathlib.Core.Path.{_≡_, refl, sym, ap, ap₂, subst, _∙_}
 use mathlib.Core.Bool.{Bool, true, false, not, _&&_, _||_}
 use mathlib.Core.Option.{Option, none, some}
 use mathlib.Core.List.{List, [], _∷_, _++_}
-use Prim.Native.Nat.{ℕ, zero, suc, _+_, _*_, _^_, _≤_, _<_}
+use Prim.Native.Nat.{ℕ, zero, suc, _+_, _^_, _≤_}
 use native.Mathlib.Nat.{add-zero}
-use native.Mathlib.Omega.{arith}
 use lib.Dec.{eqb, ltb, leb}
 use lib.ListN.{length}
-use borrow.Author.Tests.{le-leb, lt-leb}
+use borrow.Author.Tests.{lt-leb}
 use Rattle.model.specs.declared.Head.{Head}
 use Rattle.model.specs.declared.Checked.the-variants.{Accepted, Refused}
-use Rattle.model.specs.declared.Line.{Line}
 use Rattle.model.specs.Tests.{pick, first}
 use Rattle.model.specs.Sets.{within}
 use Rattle.model.specs.Bytes.{number, bytesOf}
 use Rattle.model.specs.Image.{judge, checkNumber}
-use Rattle.model.specs.Policy.{Policy, Meaning, policyOf, meaning}
+use Rattle.model.specs.Policy.{Policy, policyOf, meaning}
 use Rattle.model.specs.Line.{lineSize, writeLine, isOpen, putIn}
 use Rattle.model.specs.Choice.{carriedBy, choose}
 use Rattle.model.specs.Session.{Refusal, bad-line, bad-session, is-closed, bad-set, bad-permission, bad-bounds, bad-aim, bad-room, no-set, refuse, given, refusalNumber, canGive, applies, perform, asked, chosen, isNone, sessionOf, queryOf}

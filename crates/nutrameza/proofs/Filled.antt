@@ -1,16 +1,20 @@
 -- The bytes of an answer: a set's 32 bytes are those of its four words, and five numbers put one behind the other fill the buffer.
 -- Assumes nothing.
-use mathlib.Core.Path.{_≡_, refl, sym, ap, ap₂, _∙_}
+use mathlib.Core.Path.{_≡_, refl, sym, ap, ap₂, subst, _∙_}
 use mathlib.Core.List.{List, [], _∷_, _++_, append-assoc}
 use Prim.Native.Nat.{ℕ, zero, suc, _+_, _*_, _/_, _%_, _^_, _≤_, _<_}
-use native.Mathlib.Nat.{zero-add, suc-add, mul-comm, mul-assoc, pow-suc}
+use native.Mathlib.Nat.{zero-add, suc-add, add-comm, mul-comm, mul-assoc, pow-suc}
 use native.Mathlib.Omega.{arith}
-use lib.ListN.{length, length-append}
+use lib.ListN.{length, getD, length-append}
+use lib.Pow.{pow-add}
+use mir.Syntax.{w64}
+use mir.Val.{Fits}
 use Rattle.model.specs.Bytes.{bytesOf}
 use Rattle.model.proofs.LineLaws.{length-bytesOf}
 use Rattle.octets.specs.Splice.{splice}
 use Rattle.octets.proofs.Splices.{splice-all, splice-splice}
 use Rattle.sets.specs.Words.{joined, value}
+use Rattle.sets.proofs.Digits.{joined-lt}
 
 -- m bytes of v and n of x are those of the number that has x above v
 bytes-above : (m n v x : ℕ) → v < 256 ^ m → bytesOf (m + n) (v + 256 ^ m * x) ≡ bytesOf m v ++ bytesOf n x
@@ -26,15 +30,40 @@ bytes-above (suc m) n v x h =
     ap (λ (j : ℕ). bytesOf j (v + 256 ^ suc m * x)) (suc-add m n)
     ∙ ap₂ (λ (b : ℕ) (bs : List ℕ). b ∷ bs) lo (ap (bytesOf (m + n)) hi ∙ bytes-above m n (v / 256) x (omega arith))
 
+-- a byte is eight binary digits
+bytes-bits : (n : ℕ) → 256 ^ n ≡ 2 ^ (n * 8)
+bytes-bits zero = refl
+bytes-bits (suc n) =
+    let e : suc n * 8 ≡ n * 8 + 8 = omega arith in
+    pow-suc 256 n ∙ ap (λ (x : ℕ). x * 2 ^ 8) (bytes-bits n) ∙ sym (pow-add 2 (n * 8) 8) ∙ ap (λ (k : ℕ). 2 ^ k) (sym e)
+
+-- the bytes of the words f 0, f 1, .., f (d - 1), one behind the other
+wordBytes : (ℕ → ℕ) → ℕ → List ℕ
+wordBytes f zero = []
+wordBytes f (suc d) = wordBytes f d ++ bytesOf 8 (f d)
+
+-- those of the number that the words make
+joined-bytes : (f : ℕ → ℕ) → ((i : ℕ) → f i < 2 ^ 64) → (d : ℕ) → bytesOf (8 * d) (joined 64 f d) ≡ wordBytes f d
+unfolding joined wordBytes bytesOf
+joined-bytes f h zero = refl
+joined-bytes f h (suc d) =
+    let n : 8 * suc d ≡ 8 * d + 8 = omega arith in
+    let k : d * 64 ≡ (8 * d) * 8 = omega arith in
+    let p : 2 ^ (d * 64) ≡ 256 ^ (8 * d) = ap (λ (x : ℕ). 2 ^ x) k ∙ sym (bytes-bits (8 * d)) in
+    let v = joined 64 f d in
+    let q : f d * 2 ^ (d * 64) + v ≡ v + 256 ^ (8 * d) * f d
+    = add-comm (f d * 2 ^ (d * 64)) v ∙ ap (λ (x : ℕ). v + x) (mul-comm (f d) (2 ^ (d * 64)) ∙ ap (λ (x : ℕ). x * f d) p) in
+    ap₂ bytesOf n q ∙ bytes-above (8 * d) 8 v (f d) (subst (λ (x : ℕ). v < x) p (joined-lt 64 f h d))
+    ∙ ap (λ (l : List ℕ). l ++ bytesOf 8 (f d)) (joined-bytes f h d)
+
 -- the bytes of a set of four words
-module _ (ws : List ℕ) (a b c d : ℕ) (ha : a < 2 ^ 64) (hb : b < 2 ^ 64) (hc : c < 2 ^ 64) where
-  pub set-bytes : value ws ≡ d * 2 ^ 192 + (c * 2 ^ 128 + (b * 2 ^ 64 + a))
-      → bytesOf 32 (value ws) ≡ bytesOf 8 a ++ (bytesOf 8 b ++ (bytesOf 8 c ++ bytesOf 8 d))
-  set-bytes e =
-      let f : value ws ≡ a + 256 ^ 8 * (b + 256 ^ 8 * (c + 256 ^ 8 * d)) = omega arith in
-      ap (bytesOf 32) f ∙ bytes-above 8 24 a (b + 256 ^ 8 * (c + 256 ^ 8 * d)) ha
-      ∙ ap (λ (l : List ℕ). bytesOf 8 a ++ l)
-      (bytes-above 8 16 b (c + 256 ^ 8 * d) hb ∙ ap (λ (l : List ℕ). bytesOf 8 b ++ l) (bytes-above 8 8 c d hc))
+pub set-bytes : (ws : List ℕ) → ((i : ℕ) → Fits w64 (getD ws i 0))
+    → bytesOf 32 (value ws)
+    ≡ bytesOf 8 (getD ws 0 0) ++ (bytesOf 8 (getD ws 1 0) ++ (bytesOf 8 (getD ws 2 0) ++ bytesOf 8 (getD ws 3 0)))
+unfolding value wordBytes
+set-bytes ws h =
+    let f : ℕ → List ℕ = λ i. bytesOf 8 (getD ws i 0) in
+    joined-bytes (λ i. getD ws i 0) (λ i. h i .fits) 4 ∙ append-assoc (f 0 ++ f 1) (f 2) (f 3) ∙ append-assoc (f 0) (f 1) (f 2 ++ f 3)
 
 -- a number put behind n bytes
 put-behind : (s : List ℕ) (n : ℕ) (xs : List ℕ) (b : ℕ) → length xs ≡ n → n + 8 ≤ length s

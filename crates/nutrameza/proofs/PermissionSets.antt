@@ -1,26 +1,23 @@
 -- Permission sets in bytes and in words: 32 bytes as four words, and a set below a power of two word by word.
 -- Assumes nothing.
-use mathlib.Core.Path.{_≡_, refl, sym, ap, ap₂, subst, _∙_}
+use mathlib.Core.Path.{_≡_, refl, sym, ap, _∙_}
 use mathlib.Core.Bool.{Bool, true, false, _&&_}
-use mathlib.Core.List.{List, [], _∷_, _++_, append-nil}
-use Prim.Native.Nat.{ℕ, zero, suc, _+_, _-_, _*_, _/_, _%_, _^_, _≤_, _<_}
+use mathlib.Core.List.{List, [], _∷_}
+use Prim.Native.Nat.{ℕ, zero, suc, _+_, _-_, _*_, _^_, _≤_, _<_}
 use native.Mathlib.Nat.{pow-suc, mul-comm, mul-assoc, mul-add, add-mul, zero-mul, one-mul, mul-le-mul-right, add-zero, zero-add}
 use native.Mathlib.Omega.{arith}
 use lib.Arith.{digits-lt}
 use lib.Dec.{eqb, ltb, leb}
-use lib.ListN.{length, take, drop, getD, length-drop, length-append, drop-of-length-le}
+use lib.ListN.{length, take, drop, length-drop, drop-of-length-le}
 use lib.Pow.{pow-pos, pow-add, pow-lt, pow-mono}
 use lib.Seq.{drop-drop}
-use borrow.Author.Tests.{lt-ltb, le-ltb, ltb-true, ltb-false, leb-true, leb-false, eq-eqb, ne-eqb, eqb-true, eqb-false}
+use borrow.Author.Tests.{lt-ltb, le-ltb, ltb-true, ltb-false, leb-true, leb-false, ne-eqb}
 use mir.Val.{Fits}
 use mir.Syntax.{w64}
-use Rattle.model.specs.Bytes.{number, bytesOf}
-use Rattle.model.proofs.Bools.{both}
+use Rattle.model.specs.Bytes.{number}
 use Rattle.sets.specs.Words.{joined, value}
 use Rattle.sets.proofs.Digits.{word, joined-lt}
-use Rattle.octets.specs.Splice.{splice, numberAt, bytesOfAll}
-use Rattle.octets.proofs.Splices.{splice-splice, splice-all}
-use Rattle.octets.proofs.Numbers.{length-bytesOf, length-bytesOfAll}
+use Rattle.octets.specs.Splice.{numberAt}
 
 -- ---- 32 bytes as four words
 

@@ -4,21 +4,20 @@ use mathlib.Core.Path.{_≡_, refl, sym, ap, ap₂, subst, _∙_}
 use mathlib.Core.Bool.{Bool, true}
 use mathlib.Core.Option.{none, some}
 use mathlib.Core.List.{List, [], _∷_, map}
-use mathlib.Core.Logic.{_↔_}
-use Prim.Native.Nat.{ℕ, zero, suc, _^_, _≤_, _<_}
+use Prim.Native.Nat.{ℕ, zero, suc, _^_, _<_}
 use native.Mathlib.Omega.{arith}
-use lib.ListN.{length, getD, take, length-set}
+use lib.ListN.{length, getD, length-set}
 use Rattle.model.specs.declared.Exclusions.{Exclusions}
 use Rattle.model.specs.declared.Head.{Head}
 use Rattle.model.specs.declared.Line.{Line}
 use Rattle.model.specs.Tests.{pick}
-use Rattle.model.specs.Sets.{has, within, unionAt}
+use Rattle.model.specs.Sets.{within, unionAt}
 use Rattle.model.specs.declared.Entry.{Entry}
 use Rattle.model.specs.declared.Entry.the-variants.{Assignment, Grant, Senior, Exclude, Member, End, Unknown}
 use Rattle.model.specs.Image.{emptyRows}
 use Rattle.model.specs.Policy.{Policy, policyOf, entriesOf, fold, ordering, authorized, meaning, closed, selfAndJuniors, reached, carriedTable}
-use Rattle.model.specs.Line.{exclusionsMet, putIn}
-use Rattle.model.specs.Choice.{admissible, carriedBy, choose}
+use Rattle.model.specs.Line.{exclusionsMet}
+use Rattle.model.specs.Choice.{admissible, choose}
 use Rattle.model.proofs.Bools.{and-l}
 use Rattle.model.proofs.SetLaws.{within-has}
 use Rattle.model.proofs.UnionLaws.{has-below}
@@ -77,7 +76,7 @@ given-of p u own xs l k n masks rooms row e d g =
       own = g .own-is;
       carry = g .carry;
       rooms = λ s w.
-        d .same p u (g .exclusions-are) (g .met) s (ap (within s) (g .own-is) ∙ w) ∙ ap (λ (i : ℕ). roomy masks rooms i s) (sym e);
+          d .same p u (g .exclusions-are) (g .met) s (ap (within s) (g .own-is) ∙ w) ∙ ap (λ (i : ℕ). roomy masks rooms i s) (sym e);
     }
 
 -- what the search is given, with the rows

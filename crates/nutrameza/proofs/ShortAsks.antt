@@ -1,19 +1,16 @@
 -- A short ask is an ask with no objectives.
 -- Assumes nothing.
-use mathlib.Core.Path.{_≡_, refl, sym, ap, _∙_}
-use mathlib.Core.Bool.{Bool, true, false}
-use mathlib.Core.List.{List, [], _∷_}
+use mathlib.Core.Path.{_≡_, refl}
+use mathlib.Core.List.{List}
 use Prim.Native.Nat.{ℕ}
-use lib.Dec.{eqb, ltb}
-use lib.ListN.{length}
 use Rattle.model.specs.declared.Checked.{Checked}
 use Rattle.model.specs.declared.Checked.the-variants.{Accepted, Refused}
-use Rattle.model.specs.Tests.{pick, first}
+use Rattle.model.specs.Tests.{first}
 use Rattle.model.specs.Image.{judge}
-use Rattle.model.specs.Policy.{Policy, Meaning, policyOf, meaning}
-use Rattle.model.specs.Line.{lineSize, readLine}
-use Rattle.model.specs.Session.{Refusal, bad-line, bad-session, is-closed, bad-set, bad-permission, bad-bounds, bad-aim, bad-room, no-set, shortAim, Query, Result, ask, short-ask, sessionOf, queryOf, canGive, applies, chosen, asked, perform, unless, rule}
-use Rattle.model.specs.Run.{Event, lineAt, withLine, ruled, stepOn, stepBy, step, askBy, shortAskBy}
+use Rattle.model.specs.Policy.{Meaning, policyOf, meaning}
+use Rattle.model.specs.Line.{lineSize}
+use Rattle.model.specs.Session.{shortAim, ask, short-ask, sessionOf, queryOf, canGive, applies, perform, unless, rule}
+use Rattle.model.specs.Run.{lineAt, ruled, stepOn, stepBy, step, askBy, shortAskBy}
 
 module _ (W k : ℕ) (lower upper : List ℕ) (room : ℕ) where
   pub short-rule : (m : Meaning) (bs : List ℕ)

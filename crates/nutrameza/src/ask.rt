@@ -117,7 +117,19 @@ pub fn ask_roles(
         → Answers (stepOn 4 p (now (ledger .entry)) (askBy user session (now (lower .entry)) (now (upper .entry)) first second (length (now (answer .entry)))))
         r (now (ledger .exit)) (now (answer .entry)) (now (answer .exit))) ⌝ }
 {
-    let n = ask_refusal(ledger, head, assigned, xs, user, session, lower, upper, first, second, answer.len());
+    let n = ask_refusal(
+        ledger,
+        head,
+        assigned,
+        xs,
+        user,
+        session,
+        lower,
+        upper,
+        first,
+        second,
+        answer.len(),
+    );
     if n != 0 {
         return n;
     }
@@ -126,5 +138,19 @@ pub fn ask_roles(
     let authorized = roles_of(assigned, u);
     let low = bound(lower);
     let high = bound(upper);
-    put_best(ledger, head.roles, granted, juniors, xs, authorized, u, k, low, high, first as u8, second as u8, answer)
+    put_best(
+        ledger,
+        head.roles,
+        granted,
+        juniors,
+        xs,
+        authorized,
+        u,
+        k,
+        low,
+        high,
+        first as u8,
+        second as u8,
+        answer,
+    )
 }

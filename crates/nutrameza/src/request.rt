@@ -30,7 +30,14 @@ pub fn session_refusal(l: Line, session: u64) -> u64
 
 // 16 for a bound with a permission that the policy does not have, 17 for a lower bound that is not within the upper, 18 for an
 // objective (01: aim) that there is not, 19 for an answer buffer of another length, else 0.
-fn bounds_refusal(lower: [u64; 4], upper: [u64; 4], permissions: u16, first: u64, second: u64, room: usize) -> u64
+fn bounds_refusal(
+    lower: [u64; 4],
+    upper: [u64; 4],
+    permissions: u16,
+    first: u64,
+    second: u64,
+    room: usize,
+) -> u64
     ensures { λ r. ⌜ r ≡ boundsRefusal permissions (value lower) (value upper) first second room ⌝ }
 {
     if !below(lower, permissions) {
@@ -55,7 +62,14 @@ fn bounds_refusal(lower: [u64; 4], upper: [u64; 4], permissions: u16, first: u64
 }
 
 // 15 for a bound that is not 32 bytes long, else what refuses the bounds.
-pub fn query_refusal(lower: &[u8], upper: &[u8], permissions: u16, first: u64, second: u64, room: usize) -> u64
+pub fn query_refusal(
+    lower: &[u8],
+    upper: &[u8],
+    permissions: u16,
+    first: u64,
+    second: u64,
+    room: usize,
+) -> u64
     ensures { λ r. ⌜ r ≡ queryRefusal permissions (now (lower .entry)) (now (upper .entry)) first second room ⌝ }
 {
     if lower.len() != 32 {

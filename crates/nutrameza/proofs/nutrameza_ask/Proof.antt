@@ -20,7 +20,7 @@ returns c =
     let g = c .before .enum-told .given .1 in
     let k = c .before .before .before .read .ensures .0 in
     let a = c .before .before .before .before .before .before .before .before .before .before .before .before .args in
-    let e = answers-judged 4 (a .image .now) (a .ledger .now) (askBy (a .user) (a .session) (a .lower .now) (a .upper .now) (a .«permission_aim») (a .«role_aim») (length (a .answer .now)))
+    let e = answers-judged 4 (a .image .now) (a .ledger .now) (askBy (a .user) (a .session) (a .lower .now) (a .upper .now) (a .permission-aim) (a .role-aim) (length (a .answer .now)))
     _ _ _ (a .answer .now) (sym k ∙ g) (c .refusal-of .ensures ∙ ap checkNumber g) in
     (e .number, e .bytes, e .buffer)
 
@@ -38,7 +38,7 @@ returns-2 c =
     let a = c .before .before .before .before .before .before .before .before .before .before .before .before .before .before .before .before .before .before .before .before .before .before .before .args in
     let j = sym (k .0) ∙ g in
     let t = k .1 _ g in
-    let e = answers-accepted 4 (a .image .now) (a .ledger .now) (askBy (a .user) (a .session) (a .lower .now) (a .upper .now) (a .«permission_aim») (a .«role_aim») (length (a .answer .now)))
+    let e = answers-accepted 4 (a .image .now) (a .ledger .now) (askBy (a .user) (a .session) (a .lower .now) (a .upper .now) (a .permission-aim) (a .role-aim) (length (a .answer .now)))
     _ _ _ _ _ j (c .before .before .before .before .ask-roles .ensures (policyOf (a .image .now)) (known-of (a .image .now) _ _ _ _ _ j t) (t .granted-is) (t .juniors-is)) in
     (e .number, e .bytes, e .buffer)
 

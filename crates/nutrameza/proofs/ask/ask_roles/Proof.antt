@@ -1,6 +1,5 @@
 -- `nutrameza::ask::ask_roles` meets its contract: refused before the search, or what the search puts in.
 -- Assumes nothing.
-use mathlib.Core.Path.{sym, ap, _∙_}
 use native.Mathlib.Omega.{arith}
 use borrow.Author.Needs.{needs}
 use Rattle.sets.specs.Words.{values}
@@ -57,11 +56,11 @@ put-best-requires c κs =
       s .pre .3,
       s .pre .2,
       line-room 4 (a .head) (a .assigned .now) (a .xs) (a .ledger .now) (a .user) (a .session) (a .lower .now) (a .upper .now) (a .first) (a .second) _ _
-    (c .before .before .before .before .before .before .before .ask-refusal .ensures) (c .before .before .before .before .before .before .if1 .left),
+          (c .before .before .before .before .before .before .before .ask-refusal .ensures) (c .before .before .before .before .before .before .if1 .left),
       ask-by 4 (a .head) (a .assigned .now) (a .xs) (a .ledger .now) (a .user) (a .session) (a .lower .now) (a .upper .now) (a .first) (a .second) _ _
-    (c .before .before .before .before .before .before .before .ask-refusal .ensures) (c .before .before .before .before .before .before .if1 .left) .session .below,
+          (c .before .before .before .before .before .before .before .ask-refusal .ensures) (c .before .before .before .before .before .before .if1 .left) .session .below,
       room-40 4 (a .head) (a .assigned .now) (a .xs) (a .ledger .now) (a .user) (a .session) (a .lower .now) (a .upper .now) (a .first) (a .second) _ _
-    (c .before .before .before .before .before .before .before .ask-refusal .ensures) (c .before .before .before .before .before .before .if1 .left),
+          (c .before .before .before .before .before .before .before .ask-refusal .ensures) (c .before .before .before .before .before .before .if1 .left),
     )
 
 returns-2 : tie.Need-returns-2

@@ -1,6 +1,6 @@
 -- `nutrameza::ask::put_best` meets its contract: no set is admissible, or the best one is put in and answered.
 -- Assumes nothing.
-use mathlib.Core.Path.{sym, ap, _∙_}
+use mathlib.Core.Path.{ap, _∙_}
 use borrow.Author.Needs.{needs}
 use Rattle.model.specs.declared.Line.{Line}
 use Rattle.model.specs.Policy.{meaning}
@@ -46,7 +46,6 @@ pub put-best-spec : {M : Type 1} → statement M
 put-best-spec =
     tie.close
     (tie.spec
-    (λ c. search needs)
     (λ c κs. search needs)
     (λ c κs. search needs)
     (λ c κs. search needs)

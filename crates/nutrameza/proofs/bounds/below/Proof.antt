@@ -13,7 +13,7 @@ returns c =
     ap₂ _&&_
     (ap₂ _&&_ (ap₂ _&&_ (c .before .before .before .word-below .ensures) (c .before .before .word-below2 .ensures)) (c .before .word-below3 .ensures))
     (c .word-below4 .ensures)
-    ∙ words-below (s .args .set) (s .args .n) (search needs)
+    ∙ words-below (s .args .t1) (s .args .n) (search needs)
 
 pub below-spec : {M : Type 1} → statement M
 below-spec =
