@@ -1,0 +1,101 @@
+-- What the roles of a set carry: the permissions of its roles and no others.
+-- Assumes nothing.
+use mathlib.Core.Path.{_≡_, refl, sym, ap, ap₂, subst, _∙_}
+use mathlib.Core.Bool.{Bool, true, false, _&&_, _||_}
+use mathlib.Core.Logic.{_⊎_, inl, inr}
+use Prim.Native.Nat.{ℕ, zero, suc, _+_, _^_, _≤_, _<_}
+use native.Mathlib.Omega.{arith}
+use native.Mathlib.Decide.{decLt}
+use lib.Dec.{eqb, ltb}
+use borrow.Author.Tests.{ltb-true, ltb-false}
+use Rattle.model.specs.Tests.{pick}
+use Rattle.model.specs.Sets.{has, union, with, within, unionTo}
+use Rattle.model.proofs.Bools.{or-l, or-r, or-cases, bool-ext, not-both}
+use Rattle.model.proofs.SetLaws.{has-union}
+use Rattle.query.specs.Search.{Sub}
+use Rattle.query.proofs.Members.{has-ext, has-none, no-member, either, with-new, with-old, with-or}
+
+module _ (row : ℕ → ℕ) (s p : ℕ) where
+  -- what a role of the set carries
+  pub carried-in : (d r : ℕ) → r < d → has s r ≡ true → has (row r) p ≡ true → has (unionTo row s d) p ≡ true
+  unfolding unionTo pick
+  carried-in zero r l m h = absurd (omega arith)
+  carried-in (suc d) r l m h =
+      has-union (unionTo row s d) (pick (has s d) (row d) 0) p ∙ go (either (ltb r d)) (λ k. carried-in d r k m h)
+    where
+      go : (ltb r d ≡ true) ⊎ (ltb r d ≡ false) → (r < d → has (unionTo row s d) p ≡ true)
+          → (has (unionTo row s d) p || has (pick (has s d) (row d) 0) p) ≡ true
+      go (inl k) ih = or-l (has (unionTo row s d) p) (has (pick (has s d) (row d) 0) p) (ih (ltb-true r d k))
+      go (inr k) ih =
+          let e : r ≡ d = omega (arith, ltb-false r d k) in
+          let m′ : has s d ≡ true = ap (has s) (sym e) ∙ m in
+          let h′ : has (row d) p ≡ true = ap (λ (x : ℕ). has (row x) p) (sym e) ∙ h in
+          or-r (has (unionTo row s d) p) (has (pick (has s d) (row d) 0) p) (rw m′ h′)
+
+  -- is carried by a role of the set
+  pub carried-by : (d : ℕ) → has (unionTo row s d) p ≡ true → (r : ℕ) × (r < d) × (has s r ≡ true) × (has (row r) p ≡ true)
+  unfolding unionTo pick
+  carried-by zero h = no-member p h
+  carried-by (suc d) h =
+      go (or-cases (has (unionTo row s d) p) (has (pick (has s d) (row d) 0) p) (sym (has-union (unionTo row s d) (pick (has s d) (row d) 0) p) ∙ h))
+      (carried-by d)
+    where
+      last : (b : Bool) → has s d ≡ b → has (pick b (row d) 0) p ≡ true → (r : ℕ) × (r < suc d) × (has s r ≡ true) × (has (row r) p ≡ true)
+      last true e k = (d, omega arith, e, k)
+      last false e k = no-member p k
+
+      go : (has (unionTo row s d) p ≡ true) ⊎ (has (pick (has s d) (row d) 0) p ≡ true)
+          → (has (unionTo row s d) p ≡ true → (r : ℕ) × (r < d) × (has s r ≡ true) × (has (row r) p ≡ true))
+          → (r : ℕ) × (r < suc d) × (has s r ≡ true) × (has (row r) p ≡ true)
+      go (inl k) ih = let x = ih k in (x .0, omega (arith, x .1), x .2, x .3)
+      go (inr k) ih = last (has s d) refl k
+
+module _ (row : ℕ → ℕ) (d : ℕ) where
+  -- more roles carry no less
+  pub carried-sub : (s t : ℕ) → Sub s t → Sub (unionTo row s d) (unionTo row t d)
+  carried-sub s t h p m = let x = carried-by row s p d m in carried-in row t p d (x .0) (x .1) (h (x .0) (x .2)) (x .3)
+
+  -- what holds of the permissions of each role holds of those of the set
+  pub carried-least : (s u : ℕ) → ((r : ℕ) → r < d → has s r ≡ true → Sub (row r) u) → Sub (unionTo row s d) u
+  carried-least s u h p m = let x = carried-by row s p d m in h (x .0) (x .1) (x .2) p (x .3)
+
+  pub row-sub : (s r : ℕ) → r < d → has s r ≡ true → Sub (row r) (unionTo row s d)
+  row-sub s r l m p h = carried-in row s p d r l m h
+
+  -- with the role r too
+  pub carried-with : (s r : ℕ) → r < d → unionTo row (with s r) d ≡ union (unionTo row s d) (row r)
+  carried-with s r l = has-ext (unionTo row (with s r) d) (union (unionTo row s d) (row r)) (λ p.
+      bool-ext (has (unionTo row (with s r) d) p) (has (union (unionTo row s d) (row r)) p) (to p) (from p))
+    where
+      to : (p : ℕ) → has (unionTo row (with s r) d) p ≡ true → has (union (unionTo row s d) (row r)) p ≡ true
+      to p m = has-union (unionTo row s d) (row r) p ∙ one (carried-by row (with s r) p d m)
+        where
+          two : (x : (i : ℕ) × (i < d) × (has (with s r) i ≡ true) × (has (row i) p ≡ true)) → (has s (x .0) ≡ true) ⊎ (x .0 ≡ r)
+              → (has (unionTo row s d) p || has (row r) p) ≡ true
+          two x (inl h) = or-l (has (unionTo row s d) p) (has (row r) p) (carried-in row s p d (x .0) (x .1) h (x .3))
+          two x (inr e) = or-r (has (unionTo row s d) p) (has (row r) p) (ap (λ (i : ℕ). has (row i) p) (sym e) ∙ x .3)
+
+          one : (x : (i : ℕ) × (i < d) × (has (with s r) i ≡ true) × (has (row i) p ≡ true)) → (has (unionTo row s d) p || has (row r) p) ≡ true
+          one x = two x (with-or s r (x .0) (x .2))
+
+      from : (p : ℕ) → has (union (unionTo row s d) (row r)) p ≡ true → has (unionTo row (with s r) d) p ≡ true
+      from p m = one (or-cases (has (unionTo row s d) p) (has (row r) p) (sym (has-union (unionTo row s d) (row r) p) ∙ m))
+        where
+          one : (has (unionTo row s d) p ≡ true) ⊎ (has (row r) p ≡ true) → has (unionTo row (with s r) d) p ≡ true
+          one (inl h) = carried-sub s (with s r) (λ i n. with-old s r i n) p h
+          one (inr h) = carried-in row (with s r) p d r l (with-new s r) h
+
+  -- no roles carry nothing
+  pub carried-none : unionTo row 0 d ≡ 0
+  carried-none = has-ext (unionTo row 0 d) 0 (λ p. bool-ext (has (unionTo row 0 d) p) (has 0 p)
+      (λ m. let x = carried-by row 0 p d m in no-member (x .0) (x .2)) (λ m. no-member p m))
+
+-- rows that are the same at the set's roles
+pub carried-same : (f g : ℕ → ℕ) (s d : ℕ) → ((r : ℕ) → r < d → has s r ≡ true → f r ≡ g r) → unionTo f s d ≡ unionTo g s d
+unfolding unionTo pick
+carried-same f g s zero h = refl
+carried-same f g s (suc d) h = ap₂ union (carried-same f g s d (λ r l m. h r (omega arith) m)) (go (has s d) refl)
+  where
+    go : (b : Bool) → has s d ≡ b → pick b (f d) 0 ≡ pick b (g d) 0
+    go true e = h d (omega arith) e
+    go false e = refl

@@ -1,0 +1,108 @@
+-- What one set has and another lacks, of role sets and of permission sets in four words.
+-- Assumes nothing.
+use mathlib.Core.Path.{_≡_, refl, sym, ap, ap₂, _∙_}
+use mathlib.Core.Bool.{Bool, true, false, _&&_, not}
+use mathlib.Core.List.{List}
+use Prim.Native.Nat.{ℕ, zero, suc, _+_, _*_, _/_, _%_, _^_, _≤_, _<_}
+use native.Mathlib.Nat.{mod-lt, div-add-mod', not-suc-le-zero, le-of-suc-le-suc}
+use native.Mathlib.Omega.{arith}
+use mir.Val.{Fits}
+use mir.Syntax.{w64}
+use lib.Dec.{eqb, ltb, lit<}
+use lib.Pow.{pow-pos}
+use lib.Bits.{bitAnd, bitXor, xor-shr, xor-mod}
+use lib.ListN.{getD}
+use borrow.Author.Tests.{ltb-true, ltb-false}
+use Rattle.model.specs.Sets.{has, inter, within}
+use Rattle.model.proofs.Bools.{and-l, and-r, both, not-both}
+use Rattle.model.proofs.SetLaws.{has-inter, has-beyond}
+use Rattle.sets.specs.Members.{Lowest}
+use Rattle.sets.specs.Words.{value, Splits}
+use Rattle.sets.proofs.Machine.{value-has, value-lt}
+use Rattle.query.specs.Search.{Missing}
+use Rattle.query.proofs.Members.{sub-within, no-member}
+
+-- what a has and b lacks
+abbrev pub lacking : ℕ → ℕ → ℕ
+lacking a b = bitXor a (bitAnd a b)
+
+abbrev apart : Bool → Bool → Bool
+apart true b = not b
+apart false b = b
+
+no-two : {x : ℕ} → suc (suc x) < 2 → ⊥
+no-two h = not-suc-le-zero (le-of-suc-le-suc (le-of-suc-le-suc h))
+
+xor-table : (x y : ℕ) → x < 2 → y < 2 → eqb (bitXor x y) 1 ≡ apart (eqb x 1) (eqb y 1)
+xor-table zero zero hx hy = refl
+xor-table zero (suc zero) hx hy = refl
+xor-table (suc zero) zero hx hy = refl
+xor-table (suc zero) (suc zero) hx hy = refl
+xor-table zero (suc (suc y)) hx hy = absurd (no-two hy)
+xor-table (suc zero) (suc (suc y)) hx hy = absurd (no-two hy)
+xor-table (suc (suc x)) y hx hy = absurd (no-two hx)
+
+has-xor : (a b k : ℕ) → has (bitXor a b) k ≡ apart (has a k) (has b k)
+unfolding has
+has-xor a b k =
+    ap (λ (x : ℕ). eqb (x % 2) 1) (xor-shr a b k) ∙ ap (λ (x : ℕ). eqb x 1) (xor-mod (a / 2 ^ k) (b / 2 ^ k) 1)
+    ∙ xor-table (a / 2 ^ k % 2) (b / 2 ^ k % 2) (mod-lt (a / 2 ^ k) (pow-pos 1)) (mod-lt (b / 2 ^ k) (pow-pos 1))
+
+pub has-lacking : (a b k : ℕ) → has (lacking a b) k ≡ (has a k && not (has b k))
+has-lacking a b k = has-xor a (bitAnd a b) k ∙ ap (apart (has a k)) (has-inter a b k) ∙ table (has a k) (has b k)
+  where
+    table : (x y : Bool) → apart x (x && y) ≡ (x && not y)
+    table true y = refl
+    table false y = refl
+
+nothing-lacks : (a b k : ℕ) → lacking a b ≡ 0 → has a k ≡ true → has b k ≡ true
+nothing-lacks a b k e m = go (has b k) refl
+  where
+    go : (y : Bool) → has b k ≡ y → has b k ≡ true
+    go true p = p
+    go false p = no-member k (ap (λ (x : ℕ). has x k) (sym e) ∙ has-lacking a b k ∙ ap₂ (λ (x y : Bool). x && not y) m p)
+
+module _ (a b : List ℕ) (ha : (i : ℕ) → Fits w64 (getD a i 0)) (hb : (i : ℕ) → Fits w64 (getD b i 0)) where
+  -- where no word lacks anything, the set is within the other
+  pub words-within : ((j : ℕ) → j < 4 → lacking (getD a j 0) (getD b j 0) ≡ 0) → within (value a) (value b) ≡ true
+  words-within h = sub-within (value a) (value b) (λ p m. go p m (ltb p 256) refl)
+    where
+      place : (p : ℕ) → p < 256 → Splits p (p / 64) (p % 64)
+      place p l = record { whole = div-add-mod' p 64; inside = omega arith; small = mod-lt p (lit< tt) }
+
+      go : (p : ℕ) → has (value a) p ≡ true → (x : Bool) → ltb p 256 ≡ x → has (value b) p ≡ true
+      go p m true l =
+          let s = place p (ltb-true p 256 l) in
+          sym (value-has b hb p (p / 64) (p % 64) s)
+          ∙ nothing-lacks (getD a (p / 64) 0) (getD b (p / 64) 0) (p % 64) (h (p / 64) (s .inside)) (value-has a ha p (p / 64) (p % 64) s ∙ m)
+      go p m false l = not-both (has (value a) p) m (has-beyond 256 (value a) p (value-lt a ha) (ltb-false p 256 l))
+
+  -- the lowest that word i lacks
+  pub word-missing : (i k : ℕ) → i < 4 → Lowest (lacking (getD a i 0) (getD b i 0)) k → Missing (value a) (value b) (k + 64 * i)
+  word-missing i k l low =
+      let s : Splits (k + 64 * i) i k = record { whole = omega arith; inside = l; small = low .small } in
+      let m : (has (getD a i 0) k && not (has (getD b i 0) k)) ≡ true = sym (has-lacking (getD a i 0) (getD b i 0) k) ∙ low .member in
+      record {
+        wanted = sym (value-has a ha (k + 64 * i) i k s) ∙ and-l (has (getD a i 0) k) (not (has (getD b i 0) k)) m;
+        lacking = sym (value-has b hb (k + 64 * i) i k s) ∙ not-not (has (getD b i 0) k) (and-r (has (getD a i 0) k) (not (has (getD b i 0) k)) m);
+      }
+    where
+      not-not : (x : Bool) → not x ≡ true → x ≡ false
+      not-not true e = sym e
+      not-not false e = refl
+
+  -- in the form of needs: word i lacks something, or no word does
+  pub missing-at : (i k : ℕ) → i < 4 → Lowest (lacking (getD a i 0) (getD b i 0)) k → within (value a) (value b) ≡ false
+      → Missing (value a) (value b) (k + 64 * i)
+  missing-at i k l low _ = word-missing i k l low
+
+  pub missing-none : (i p : ℕ) → 4 ≤ i → ((j : ℕ) → j < i → lacking (getD a j 0) (getD b j 0) ≡ 0) → within (value a) (value b) ≡ false
+      → Missing (value a) (value b) p
+  missing-none i p l h e = not-both (within (value a) (value b)) (words-within (λ j m. h j (omega arith))) e
+
+pub none-next : (f : ℕ → ℕ) (i : ℕ) → ((j : ℕ) → j < i → f j ≡ 0) → f i ≡ 0 → (j : ℕ) → j < i + 1 → f j ≡ 0
+none-next f i h e j l = go (ltb j i) refl
+  where
+    go : (x : Bool) → ltb j i ≡ x → f j ≡ 0
+    go true p = h j (ltb-true j i p)
+    go false p = let q : j ≡ i = omega (arith, ltb-false j i p) in ap f q ∙ e

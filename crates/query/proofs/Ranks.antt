@@ -1,0 +1,89 @@
+-- Ranks: one set is better than another exactly if its rank is lower, and with objectives below 2 more roles rank no better.
+-- Assumes nothing.
+use mathlib.Core.Path.{_≡_, refl, sym, ap, ap₂, subst, _∙_}
+use mathlib.Core.Bool.{Bool, true, false, _&&_, _||_}
+use mathlib.Core.Logic.{_⊎_, inl, inr}
+use Prim.Native.Nat.{ℕ, zero, suc, _+_, _-_, _*_, _^_, _≤_, _<_, zero-le}
+use native.Mathlib.Nat.{le-refl}
+use native.Mathlib.Omega.{arith}
+use lib.Dec.{eqb, ltb, leb}
+use borrow.Author.Tests.{eqb-true, eqb-false, ltb-true, ltb-false, leb-true, leb-false, le-leb, lt-leb}
+use lib.Arith.{lt-of-le-ne}
+use Rattle.model.specs.Sets.{has, one, countTo, count}
+use Rattle.model.specs.Choice.{cost}
+use Rattle.query.specs.Search.{Task, carries, Costs, keyBy, rank, rankOf, Sub}
+use Rattle.query.proofs.Members.{sub-le, sub-count}
+use Rattle.query.proofs.Carried.{carried-sub}
+
+-- a fewer count costs no more, unless the objective is the most
+cost-le : (a m n : ℕ) → a < 2 → m ≤ n → cost a m ≤ cost a n
+unfolding cost
+cost-le zero m n h l = zero-le
+cost-le (suc zero) m n h l = l
+cost-le (suc (suc a)) m n h l = absurd (omega arith)
+
+pub cost-top : (a n : ℕ) → n ≤ 256 → cost a n ≤ 256
+unfolding cost
+cost-top zero n h = zero-le
+cost-top (suc zero) n h = h
+cost-top (suc (suc a)) n h = omega arith
+
+-- where neither objective is the most, a larger set ranks no better
+pub rank-grows : (t : Task) (c s : ℕ) → t .first < 2 → t .second < 2 → Sub c s → rankOf t c ≤ rankOf t s
+unfolding keyBy carries
+rank-grows t c s h g sub =
+    omega (
+      arith,
+      cost-le (t .first) (count 256 (carries t c)) (count 256 (carries t s)) h (sub-count 256 (carries t c) (carries t s) (carried-sub (t .row) 64 c s sub)),
+      cost-le (t .second) (count 64 c) (count 64 s) g (sub-count 64 c s sub),
+      sub-le c s sub,
+    )
+
+-- ---- what an objective makes of a count
+module _ (a n : ℕ) where
+  pub cost-any : a ≡ 0 → Costs a n 0
+  unfolding cost
+  cost-any e = record { same = rw e; small = zero-le }
+
+  pub cost-min : a ≡ 1 → n ≤ 256 → Costs a n n
+  unfolding cost
+  cost-min e h = record { same = rw e; small = h }
+
+  pub cost-max : (a ≡ 0 → ⊥) → (a ≡ 1 → ⊥) → Costs a n (256 - n)
+  cost-max f g = go a f g
+    where
+      go : (x : ℕ) → (x ≡ 0 → ⊥) → (x ≡ 1 → ⊥) → Costs x n (256 - n)
+      go zero f g = absurd (f refl)
+      go (suc zero) f g = absurd (g refl)
+      go (suc (suc x)) f g = record { same = unfold cost in refl; small = omega arith }
+
+-- ---- the key
+at-most : (f : ℕ → Bool) (d : ℕ) → countTo f d ≤ d
+unfolding countTo
+at-most f zero = zero-le
+at-most f (suc d) = omega (arith, at-most f d, single (f d))
+  where
+    single : (b : Bool) → one b ≤ 1
+    single true = le-refl 1
+    single false = zero-le
+
+-- a set of members below d has at most d
+pub count-le : (d s : ℕ) → count d s ≤ d
+unfolding count
+count-le d s = at-most (has s) d
+
+pub key-joins : (a b c s x y m n : ℕ) → m ≡ count 256 c → n ≡ count 64 s → Costs a m x → Costs b n y → x * 512 + y ≡ keyBy a b c s
+unfolding keyBy
+key-joins a b c s x y m n em en p q = rw (p .same, q .same, em, en)
+
+-- ---- a set's rank, compared by its key first
+pub rank-test : (j r k s : ℕ) → r < 2 ^ 64 → s < 2 ^ 64 → (ltb j k || (eqb j k && leb r s)) ≡ leb (rank j r) (rank k s)
+rank-test j r k s hr hs = go (ltb j k) refl (eqb j k) refl (leb r s) refl
+  where
+    go : (x : Bool) → ltb j k ≡ x → (y : Bool) → eqb j k ≡ y → (z : Bool) → leb r s ≡ z → (x || (y && z)) ≡ leb (rank j r) (rank k s)
+    go true p y q z o = sym (le-leb (rank j r) (rank k s) (omega (arith, ltb-true j k p)))
+    go false p true q true o = sym (le-leb (rank j r) (rank k s) (omega (arith, eqb-true j k q, leb-true r s o)))
+    go false p true q false o = sym (lt-leb (rank j r) (rank k s) (omega (arith, eqb-true j k q, leb-false r s o)))
+    go false p false q z o =
+        let h : k < j = lt-of-le-ne (ltb-false j k p) (λ e. eqb-false j k q (sym e)) in
+        sym (lt-leb (rank j r) (rank k s) (omega arith))

@@ -1,0 +1,95 @@
+-- A walk through a role set by its members: those that pass a test are kept, or the rows of all are joined.
+-- Assumes nothing.
+use mathlib.Core.Path.{_≡_, refl, sym, ap, ap₂, _∙_}
+use mathlib.Core.Bool.{Bool, true, false, _&&_, _||_, not, or-false}
+use mathlib.Core.Logic.{_⊎_, inl, inr}
+use Prim.Native.Nat.{ℕ, _^_, _<_}
+use native.Mathlib.Nat.{lt-of-le-of-lt}
+use native.Mathlib.Omega.{arith}
+use lib.Bits.{bitOr, or-comm, or-zero-r}
+use lib.Dec.{eqb}
+use borrow.Author.Tests.{eqb-true, eqb-false, ne-eqb}
+use Rattle.model.specs.Tests.{pick}
+use Rattle.model.specs.Sets.{has, union, with, count, unionTo}
+use Rattle.model.proofs.Bools.{not-both, and-l}
+use Rattle.model.proofs.AnyWidth.{union-swap}
+use Rattle.model.proofs.SetLaws.{has-with}
+use Rattle.sets.specs.Members.{without, Lowest}
+use Rattle.sets.proofs.Taken.{has-without, without-gone, without-other, with-without, count-without}
+use Rattle.query.specs.Search.{Sub, Keeps}
+use Rattle.query.proofs.Members.{either, has-none, with-new, fewer-sub, sub-le}
+use Rattle.query.proofs.Carried.{carried-with, carried-none}
+
+-- of the set s the members of left are still to come, and found has those before them that pass
+pub record Walk (test : ℕ → Bool) (s left found : ℕ) : Type 0 where
+  pub inside : Sub left s
+  pub come : (i : ℕ) → has left i ≡ true → has found i ≡ false
+  pub gone : (i : ℕ) → has left i ≡ false → has found i ≡ (has s i && test i)
+
+module _ (test : ℕ → Bool) (s : ℕ) where
+  pub walk-starts : Walk test s s 0
+  walk-starts = record { inside = λ i m. m; come = λ i m. has-none i; gone = λ i m. has-none i ∙ rw m }
+
+  pub walk-ends : (left found : ℕ) → left ≡ 0 → Walk test s left found → Keeps test s found
+  walk-ends left found e w i = w .gone i (ap (λ (x : ℕ). has x i) e ∙ has-none i)
+
+  module _ (left found r : ℕ) (m : has left r ≡ true) (w : Walk test s left found) where
+    -- the role r joins found where it passes
+    joined : ℕ
+    joined = pick (test r) (with found r) found
+
+    other : (i : ℕ) → (i ≡ r → ⊥) → has (pick (test r) (with found r) found) i ≡ has found i
+    unfolding pick
+    other i n = go (test r)
+      where
+        go : (b : Bool) → has (pick b (with found r) found) i ≡ has found i
+        go true = has-with found r i ∙ ap (λ (x : Bool). has found i || x) (ne-eqb i r n) ∙ or-false (has found i)
+        go false = refl
+
+    itself : has (pick (test r) (with found r) found) r ≡ test r
+    unfolding pick
+    itself = go (test r)
+      where
+        go : (b : Bool) → has (pick b (with found r) found) r ≡ b
+        go true = with-new found r
+        go false = w .come r m
+
+    pub walk-next : Walk test s (without left r) (pick (test r) (with found r) found)
+    walk-next =
+        record {
+          inside = λ i n. w .inside i (fewer-sub left r m i n);
+          come = λ i n. other i (apart i n) ∙ w .come i (fewer-sub left r m i n);
+          gone = λ i n. go i n (eqb i r) refl;
+        }
+      where
+        apart : (i : ℕ) → has (without left r) i ≡ true → i ≡ r → ⊥
+        apart i n e = not-both (has (without left r) r) (ap (has (without left r)) (sym e) ∙ n) (without-gone left r m)
+
+        go : (i : ℕ) → has (without left r) i ≡ false → (b : Bool) → eqb i r ≡ b → has (pick (test r) (with found r) found) i ≡ (has s i && test i)
+        go i n true e =
+            let q : i ≡ r = eqb-true i r e in
+            ap (has (pick (test r) (with found r) found)) q ∙ itself ∙ sym (rw (q, w .inside r m))
+        go i n false e =
+            let q = eqb-false i r e in
+            other i q ∙ w .gone i (sym (without-other left r i m q) ∙ n)
+
+-- one role fewer is to come
+pub fewer-left : (s left less r : ℕ) → s < 2 ^ 64 → Sub left s → Lowest left r → less ≡ without left r → count 64 less < count 64 left
+fewer-left s left less r h sub low e =
+    omega (arith, sub-le left s sub, ap (count 64) e, count-without 64 left r (lt-of-le-of-lt (sub-le left s sub) h) (low .small) (low .member))
+
+-- ---- the rows of all, joined: those so far and those of the roles to come
+module _ (row : ℕ → ℕ) (s : ℕ) where
+  pub rows-start : (all : ℕ) → all ≡ 0 → union all (unionTo row s 64) ≡ unionTo row s 64
+  rows-start all e = rw e
+
+  pub rows-end : (all left : ℕ) → left ≡ 0 → union all (unionTo row left 64) ≡ unionTo row s 64 → all ≡ unionTo row s 64
+  rows-end all left e h = sym (or-zero-r all) ∙ ap (union all) (sym (carried-none row 64)) ∙ ap (λ (x : ℕ). union all (unionTo row x 64)) (sym e) ∙ h
+
+  pub rows-next : (all left r : ℕ) → left < 2 ^ 64 → r < 64 → has left r ≡ true → union all (unionTo row left 64) ≡ unionTo row s 64
+      → union (union all (row r)) (unionTo row (without left r) 64) ≡ unionTo row s 64
+  rows-next all left r l q m h =
+      or-comm (union all (row r)) (unionTo row (without left r) 64)
+      ∙ union-swap (unionTo row (without left r) 64) all (row r)
+      ∙ ap (union all) (sym (carried-with row 64 (without left r) r q) ∙ ap (λ (x : ℕ). unionTo row x 64) (with-without 64 left r l q m))
+      ∙ h

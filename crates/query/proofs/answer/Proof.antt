@@ -1,0 +1,19 @@
+-- `query::answer` meets its contract.
+-- Assumes nothing.
+use mathlib.Core.Path.{refl}
+use borrow.Author.Tests.{ne-eqb}
+use Rattle.model.specs.Tests.{pick}
+use Rattle.query.specs.Answer.{answerOf}
+use Rattle.query.proofs.answer.Statement.{statement}
+use Rattle.query.proofs.answer.Tie as tie
+
+returns : tie.Need-returns
+unfolding answerOf pick
+returns c = rw (c .if1 .taken)
+
+returns-2 : tie.Need-returns-2
+unfolding answerOf pick
+returns-2 c = rw (ne-eqb _ _ (c .if1 .left))
+
+pub answer-spec : {M : Type 1} → statement M
+answer-spec = tie.close (tie.spec returns returns-2)

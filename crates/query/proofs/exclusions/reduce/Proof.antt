@@ -1,0 +1,63 @@
+-- `query::exclusions::reduce` meets its contract: the exclusions before the next one are reduced.
+-- Assumes nothing.
+use borrow.Author.Needs.{needs}
+use native.Mathlib.Omega.{arith}
+use mathlib.Core.Path.{_≡_, refl}
+use Prim.Native.Nat.{_-_, _≤_}
+use lib.ListN.{length}
+use Rattle.model.specs.declared.Kind.the-variants.{SsDmer}
+use Rattle.model.specs.Line.{emptySession, sessionAt}
+use Rattle.query.proofs.Reductions.{Filled, filled-none, filled-next, reduces, length-mapped}
+use Rattle.query.proofs.exclusions.reduce.Statement.{statement}
+use Rattle.query.proofs.exclusions.reduce.Tie as tie
+
+abbrev Inv-loop : tie.InvT-loop
+Inv-loop k elsewhere own user list count masks₀ rooms₀ i₀ masks rooms i =
+    (i ≤ count) × (Filled list (record { kind = SsDmer; limit = 0; members = 0 }) elsewhere own user masks rooms i)
+
+abbrev μ-loop : tie.MeasureT-loop
+μ-loop k elsewhere own user list count masks₀ rooms₀ i₀ masks rooms i = count - i
+
+loop-holds : tie.Need-loop-holds Inv-loop μ-loop
+loop-holds c = (omega arith, filled-none _ _ _ _ _ _ _ refl refl)
+
+loop-again : tie.Need-loop-again Inv-loop μ-loop
+loop-again c =
+    let l = c .before .before .before .before .before in
+    (omega arith, filled-next _ _ _ _ _ (l .loop .masks) (l .loop .rooms) (l .loop .i) _ _ _ (omega arith) (l .loop .inv .1) (c .before .before .staying .ensures) (c .before .mask-of .ensures) (c .room-of .ensures))
+
+returns : tie.Need-returns Inv-loop μ-loop
+unfolding sessionAt emptySession
+returns c =
+    let l = c .before in
+    let s = l .before .before .before .before in
+    let n : length (s .args .line .sessions) ≡ 4 = search (needs, length-mapped) in
+    let m : length (s .args .exclusions .list) ≡ 32 = search (needs, length-mapped) in (
+      refl,
+      reduces (s .args .exclusions) _ (s .args .line) (s .args .k) _ _ (l .loop .i) (l .loop .masks) (l .loop .rooms) (omega arith) (omega arith) (omega arith)
+          (l .before .before .active-elsewhere .ensures) refl (l .loop .inv .1),
+    )
+
+pub reduce-spec : {M : Type 1} → statement M
+reduce-spec =
+    tie.close
+    (tie.spec
+    Inv-loop
+    μ-loop
+    (λ c κs. search needs)
+    (λ c. search needs)
+    (λ c. search needs)
+    loop-holds
+    (λ c. search needs)
+    (λ c. search needs)
+    (λ c κs. search needs)
+    (λ c κs. search needs)
+    (λ c. search needs)
+    (λ c. search needs)
+    (λ c κs. search needs)
+    (λ c. search needs)
+    (λ c. search needs)
+    (λ c. search needs)
+    (λ c. search needs)
+    loop-again
+    returns)

@@ -1,0 +1,39 @@
+-- `query::solve` meets its contract: what a search finds is the model's choice.
+-- Assumes nothing.
+use mathlib.Core.Path.{_≡_, sym, _∙_}
+use borrow.Author.Needs.{needs}
+use borrow.Author.Tests.{not-true, not-false}
+use denote.Ref.{now}
+use Rattle.sets.specs.Words.{value}
+use Rattle.query.specs.Search.{taskOf}
+use Rattle.query.proofs.RoomLaws.{roomy-less}
+use Rattle.query.proofs.Solved.{is-chosen, none-chosen}
+use Rattle.query.proofs.solve.Statement.{statement}
+use Rattle.query.proofs.solve.Tie as tie
+
+returns : tie.Need-returns
+returns c m l k given =
+    let s = c .before .before in
+    let g = s .args in
+    none-chosen (taskOf (now (g .rows)) (g .lower) (now (g .masks)) (now (g .rooms)) (g .job)) (value (g .upper)) (g .authorized) (s .fits .authorized .fits) m l k given
+    (roomy-less (now (g .masks)) (now (g .rooms)) (g .job .count)) (sym (c .before .room-for .ensures) ∙ not-true _ (c .if1 .taken))
+
+returns-2 : tie.Need-returns-2
+returns-2 c m l k given =
+    let b = c .before in
+    let u = b .before in
+    let s = u .before .before .before in
+    let g = s .args in
+    is-chosen (taskOf (now (g .rows)) (g .lower) (now (g .masks)) (now (g .rooms)) (g .job)) (value (g .upper)) (g .authorized) (s .fits .authorized .fits) m l k given (u .usable .result) (u .usable .ensures)
+    (b .best-of .result) (c .answer .result) (c .answer .ensures) (b .best-of .ensures)
+
+pub solve-spec : {M : Type 1} → statement M
+solve-spec =
+    tie.close
+    (tie.spec
+    (λ c κs. search needs)
+    returns
+    (λ c κs. search needs)
+    (λ c κs. (c .before .before .before .pre, sym (c .before .before .room-for .ensures) ∙ not-false _ (c .before .if1 .left)))
+    (λ c κs. search needs)
+    returns-2)

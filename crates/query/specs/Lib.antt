@@ -1,0 +1,5 @@
+-- What the contracts of the searches say, over the model's definitions.
+pub mod Rooms
+pub mod Search
+pub mod Answer
+pub mod Reduction

@@ -1,0 +1,86 @@
+// What roles carry: the roles within a bound, the roles that carry a permission, the permissions of a role set. A role set is walked
+// by its lowest member.
+ghost use mathlib.Core.Path.{_≡_};
+ghost use mathlib.Core.Bool.{false};
+ghost use Prim.Native.Nat.{_<_};
+ghost use Rattle.model.specs.Tests.{pick};
+ghost use Rattle.model.specs.Sets.{has, with as withOf, within, unionTo};
+ghost use Rattle.sets.specs.Words.{value};
+ghost use Rattle.query.specs.Search.{rowsOf, Keeps, Missing};
+use model::Permission;
+use model::Role;
+
+// The set, with the role r where it is on.
+fn joined(set: u64, r: Role, on: bool) -> u64
+    requires { ⌜ r .0 < 64 ⌝ }
+    ensures { λ s. ⌜ s ≡ pick on (withOf set (r .0)) set ⌝ }
+{
+    if on {
+        return sets::with(set, r);
+    }
+    set
+}
+
+// The roles of a set that carry nothing outside the upper bound.
+pub fn usable(rows: &[[u64; 4]; 64], upper: [u64; 4], set: u64) -> u64
+    ensures { λ s. ⌜ Keeps (λ i. within (rowsOf (now (rows .entry)) i) (value upper)) set s ⌝ }
+{
+    let mut left = set;
+    let mut found: u64 = 0;
+    while left != 0 {
+        let r = sets::lowest(left);
+        let i = r.0 as usize;
+        let next = joined(found, r, sets::perm_within(rows[i], upper));
+        found = next;
+        left = sets::without(left, r);
+    }
+    found
+}
+
+// The roles of a set that carry the permission p.
+pub fn holders(rows: &[[u64; 4]; 64], p: Permission, set: u64) -> u64
+    ensures { λ s. ⌜ Keeps (λ i. has (rowsOf (now (rows .entry)) i) (p .0)) set s ⌝ }
+{
+    let mut left = set;
+    let mut found: u64 = 0;
+    while left != 0 {
+        let r = sets::lowest(left);
+        let i = r.0 as usize;
+        let next = joined(found, r, sets::perm_has(rows[i], p));
+        found = next;
+        left = sets::without(left, r);
+    }
+    found
+}
+
+// What the roles of a set carry.
+pub fn carried_by(rows: &[[u64; 4]; 64], set: u64) -> [u64; 4]
+    ensures { λ c. ⌜ value c ≡ unionTo (rowsOf (now (rows .entry))) set 64 ⌝ }
+{
+    let mut left = set;
+    let mut all = [0u64; 4];
+    while left != 0 {
+        let r = sets::lowest(left);
+        let i = r.0 as usize;
+        let next = sets::perm_union(all, rows[i]);
+        all = next;
+        left = sets::without(left, r);
+    }
+    all
+}
+
+// A permission of a that b lacks, where there is one.
+pub fn missing(a: [u64; 4], b: [u64; 4]) -> Permission
+    ensures { λ p. ⌜ (within (value a) (value b) ≡ false → Missing (value a) (value b) (p .0)) ⌝ }
+{
+    let mut i: usize = 0;
+    while i < 4 {
+        let x = a[i] ^ (a[i] & b[i]);
+        if x != 0 {
+            let k = sets::lowest(x);
+            return Permission(k.0 + 64 * (i as u8));
+        }
+        i += 1;
+    }
+    Permission(0)
+}

@@ -1,0 +1,106 @@
+// The exclusions reduced, once per ask, to what roles put in for one session may still add (000, Theorem 4.4.1).
+ghost use mathlib.Core.Path.{_≡_};
+ghost use Prim.Native.Nat.{_≤_, _<_};
+ghost use Rattle.model.specs.Line.{activeIn};
+ghost use Rattle.model.specs.Conditions.{others};
+ghost use Rattle.query.specs.Rooms.{stay, maskOf, roomOf};
+ghost use Rattle.query.specs.Reduction.{Reduces};
+use model::Exclusions;
+use model::Kind;
+use model::Line;
+use model::SESSIONS;
+use model::Session;
+
+// Each exclusion by the members that are not counted yet and by its room, one more than the number of them that may still join: the
+// first `count` of both lists.
+pub struct Reduced {
+    pub masks: [u64; 32],
+    pub rooms: [u32; 32],
+    pub count: usize,
+}
+
+// The roles active in any of the sessions.
+fn active_in(sessions: [Session; SESSIONS]) -> u64
+    ensures { λ r. ⌜ r ≡ activeIn sessions ⌝ }
+{
+    let mut left: usize = SESSIONS;
+    let mut roles: u64 = 0;
+    while 0 < left {
+        left -= 1;
+        roles = sessions[left].active | roles;
+    }
+    roles
+}
+
+// The roles active in the sessions other than session k.
+fn active_elsewhere(sessions: [Session; SESSIONS], k: usize) -> u64
+    requires { ⌜ k < 4 ⌝ }
+    ensures { λ r. ⌜ r ≡ activeIn (others k sessions) ⌝ }
+{
+    let mut rest = sessions;
+    rest[k] = Session {
+        active: 0,
+        history: 0,
+    };
+    active_in(rest)
+}
+
+// What stays counted for a kind, whatever roles are put in: of the session's own active roles nothing, since they are replaced.
+fn staying(kind: Kind, elsewhere: u64, session: u64, user: u64) -> u64
+    ensures { λ r. ⌜ r ≡ stay kind elsewhere session user ⌝ }
+{
+    match kind {
+        Kind::SsDmer => 0,
+        Kind::MsDmer => elsewhere,
+        Kind::SsHmer => session,
+        Kind::MsHmer => user,
+    }
+}
+
+// The members that are not counted yet.
+fn mask_of(members: u64, base: u64) -> u64
+    ensures { λ r. ⌜ r ≡ maskOf members base ⌝ }
+{
+    members ^ (members & base)
+}
+
+// One more than the number of members that may still join, or 0 where the limit is reached.
+fn room_of(members: u64, limit: u8, base: u64) -> u32
+    ensures { λ r. ⌜ r ≡ roomOf members limit base ⌝ }
+{
+    let most = limit as u32;
+    let used = sets::size(sets::inter(members, base));
+    if used < most {
+        return most - used;
+    }
+    0
+}
+
+// The exclusions, for roles to be put in for session k of the line.
+pub fn reduce(exclusions: Exclusions, line: Line, k: usize) -> Reduced
+    requires { ⌜ (exclusions .count ≤ 32) × (k < 4) ⌝ }
+    ensures { λ r. ⌜ (r .count ≡ exclusions .count) × (Reduces exclusions line k (r .masks) (r .rooms)) ⌝ }
+{
+    let sessions = line.sessions;
+    let elsewhere = active_elsewhere(sessions, k);
+    let own = sessions[k].history;
+    let user = line.history;
+    let list = exclusions.list;
+    let count = exclusions.count;
+    let mut masks = [0u64; 32];
+    let mut rooms = [0u32; 32];
+    let mut i: usize = 0;
+    while i < count {
+        let x = list[i];
+        let kind = x.kind;
+        let base = staying(kind, elsewhere, own, user);
+        masks[i] = mask_of(x.members, base);
+        rooms[i] = room_of(x.members, x.limit, base);
+        i += 1;
+    }
+    Reduced {
+        masks: masks,
+        rooms: rooms,
+        count: count,
+    }
+}
