@@ -1,0 +1,4 @@
+-- The laws of sets in machine words.
+pub mod Digits
+pub mod Machine
+pub mod Taken

@@ -1,0 +1,18 @@
+-- `sets::only` meets its contract.
+-- Assumes nothing.
+use borrow.Author.Tests.{eq-eqb, ne-eqb}
+use Rattle.model.specs.Tests.{pick}
+use Rattle.sets.specs.Words.{onlyAt}
+use Rattle.sets.proofs.only.Statement.{statement}
+use Rattle.sets.proofs.only.Tie as tie
+
+returns : tie.Need-returns
+unfolding onlyAt pick
+returns c = rw (eq-eqb _ _ (c .if1 .taken))
+
+returns-2 : tie.Need-returns-2
+unfolding onlyAt pick
+returns-2 c = rw (ne-eqb _ _ (c .if1 .left))
+
+pub only-spec : {M : Type 1} → statement M
+only-spec = tie.close (tie.spec returns returns-2)

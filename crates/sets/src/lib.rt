@@ -1,0 +1,148 @@
+// Sets in machine words: role sets in a `u64`, permission sets in a `[u64; 4]` by value. Each function computes what the model's
+// definition of the same name says of the sets that the words hold.
+ghost use mathlib.Core.Path.{_≡_};
+ghost use mathlib.Core.Bool.{Bool};
+ghost use Prim.Native.Nat.{_<_};
+ghost use lib.Dec.{ltb};
+ghost use Rattle.model.specs.Sets.{has as hasOf, union as unionOf, inter as interOf, with as withOf, within as withinOf, count};
+ghost use Rattle.sets.specs.Members.{without as withoutOf, Lowest};
+ghost use Rattle.sets.specs.Words.{value, onlyAt, Splits};
+use model::Permission;
+use model::Role;
+
+// ---- role sets
+
+pub fn has(set: u64, r: Role) -> bool
+    requires { ⌜ r .0 < 64 ⌝ }
+    ensures { λ a. ⌜ a ≡ hasOf set (r .0) ⌝ }
+{
+    (set >> r.0) % 2 == 1
+}
+
+// The set and the role r.
+pub fn with(set: u64, r: Role) -> u64
+    requires { ⌜ r .0 < 64 ⌝ }
+    ensures { λ s. ⌜ s ≡ withOf set (r .0) ⌝ }
+{
+    set | (1 << r.0)
+}
+
+// The set without its member r.
+pub fn without(set: u64, r: Role) -> u64
+    requires { ⌜ r .0 < 64 ⌝ }
+    ensures { λ s. ⌜ s ≡ withoutOf set (r .0) ⌝ }
+{
+    set ^ (1 << r.0)
+}
+
+pub fn union(a: u64, b: u64) -> u64
+    ensures { λ s. ⌜ s ≡ unionOf a b ⌝ }
+{
+    a | b
+}
+
+pub fn inter(a: u64, b: u64) -> u64
+    ensures { λ s. ⌜ s ≡ interOf a b ⌝ }
+{
+    a & b
+}
+
+// Every role of a is one of b.
+pub fn within(a: u64, b: u64) -> bool
+    ensures { λ s. ⌜ s ≡ withinOf a b ⌝ }
+{
+    a & b == a
+}
+
+// How many roles the set has.
+pub fn size(a: u64) -> u32
+    ensures { λ n. ⌜ n ≡ count 64 a ⌝ }
+{
+    u64::count_ones(a)
+}
+
+// Fewer than n of the members are in the set.
+pub fn fewer(set: u64, members: u64, n: u32) -> bool
+    ensures { λ s. ⌜ s ≡ ltb (count 64 (interOf set members)) n ⌝ }
+{
+    u64::count_ones(set & members) < n
+}
+
+// The lowest role of a set that has one.
+pub fn lowest(set: u64) -> Role
+    requires { ⌜ 0 < set ⌝ }
+    ensures { λ r. ⌜ Lowest set (r .0) ⌝ }
+{
+    Role(u64::trailing_zeros(set) as u8)
+}
+
+// ---- permission sets
+
+// Where a permission stands: bit `bit` of the word at `place` of the four.
+pub struct Spot {
+    pub place: usize,
+    pub bit: u8,
+}
+
+pub fn split(p: Permission) -> Spot
+    ensures { λ s. ⌜ Splits (p .0) (s .place) (s .bit) ⌝ }
+{
+    Spot {
+        place: (p.0 / 64) as usize,
+        bit: p.0 % 64,
+    }
+}
+
+pub fn perm_has(set: [u64; 4], p: Permission) -> bool
+    ensures { λ a. ⌜ a ≡ hasOf (value set) (p .0) ⌝ }
+{
+    let spot = split(p);
+    let place = spot.place;
+    (set[place] >> spot.bit) % 2 == 1
+}
+
+// x where k is j, else 0.
+fn only(k: usize, j: usize, x: u64) -> u64
+    ensures { λ r. ⌜ r ≡ onlyAt j x k ⌝ }
+{
+    if k == j {
+        return x;
+    }
+    0
+}
+
+// The set and the permission p. Each word is joined with its own, so that no word is stored alone and read back with its row.
+pub fn perm_with(set: [u64; 4], p: Permission) -> [u64; 4]
+    ensures { λ s. ⌜ value s ≡ withOf (value set) (p .0) ⌝ }
+{
+    let spot = split(p);
+    let j = spot.place;
+    let bit = 1 << spot.bit;
+    let one = [
+        only(0, j, bit),
+        only(1, j, bit),
+        only(2, j, bit),
+        only(3, j, bit),
+    ];
+    perm_union(set, one)
+}
+
+pub fn perm_union(a: [u64; 4], b: [u64; 4]) -> [u64; 4]
+    ensures { λ s. ⌜ value s ≡ unionOf (value a) (value b) ⌝ }
+{
+    [a[0] | b[0], a[1] | b[1], a[2] | b[2], a[3] | b[3]]
+}
+
+// Every permission of a is one of b.
+pub fn perm_within(a: [u64; 4], b: [u64; 4]) -> bool
+    ensures { λ s. ⌜ s ≡ withinOf (value a) (value b) ⌝ }
+{
+    (a[0] & b[0] == a[0]) & (a[1] & b[1] == a[1]) & (a[2] & b[2] == a[2]) & (a[3] & b[3] == a[3])
+}
+
+// How many permissions the set has.
+pub fn perm_size(a: [u64; 4]) -> u32
+    ensures { λ n. ⌜ n ≡ count 256 (value a) ⌝ }
+{
+    u64::count_ones(a[0]) + u64::count_ones(a[1]) + u64::count_ones(a[2]) + u64::count_ones(a[3])
+}
