@@ -4,6 +4,7 @@ pub mod call;
 pub mod damage;
 pub mod ledger;
 pub mod policy;
+pub mod script;
 
 /// A sequence of numbers that a seed determines (splitmix64).
 #[derive(Clone, Debug)]
