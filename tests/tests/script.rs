@@ -97,9 +97,9 @@ fn a_line_of_megabytes_is_one_unreadable_line() {
 
 #[test]
 fn many_lines_keep_their_numbers() {
-    let script = b"open 0\nclose 0 0\n".repeat(150_000);
+    let script = b"open 0\nclose 0 0\n".repeat(40_000);
     let printed = text(Some(&ward::image_a()), &script);
-    assert!(printed.ends_with("\n300000 0 0 0 0\n"));
+    assert!(printed.ends_with("\n80000 0 0 0 0\n"));
 }
 
 /// Cuts a script at lines until it is as short as it can be and still fails.
