@@ -2,3 +2,4 @@
 pub mod FirstSteps
 pub mod Opens
 pub mod Closes
+pub mod Images

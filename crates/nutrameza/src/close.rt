@@ -14,7 +14,14 @@ use model::Head;
 use model::SESSIONS;
 
 // The user's session is closed; the user's history stays.
-pub fn close(ledger: &mut [u8], head: Head, assigned: &[u64; 64], xs: Exclusions, user: u64, session: u64) -> u64
+pub fn close_session(
+    ledger: &mut [u8],
+    head: Head,
+    assigned: &[u64; 64],
+    xs: Exclusions,
+    user: u64,
+    session: u64,
+) -> u64
     requires { ⌜ (head .users ≤ 64) × (xs .count ≤ 32) ⌝ }
     ensures { λ r. ⌜ ((p : Policy) → Known head (now (assigned .entry)) xs p
         → Gives (stepOn 4 p (now (ledger .entry)) (closeBy user session)) r (now (ledger .exit))) ⌝ }

@@ -22,7 +22,13 @@ pub fn refusal_of(c: Checked) -> u64
 }
 
 // 9 for a ledger that does not fit, 10 for a user without a line, 11 for a line that is not sound, else 0.
-pub fn first_refusal(ledger: &[u8], head: Head, assigned: &[u64; 64], xs: Exclusions, user: u64) -> u64
+pub fn first_refusal(
+    ledger: &[u8],
+    head: Head,
+    assigned: &[u64; 64],
+    xs: Exclusions,
+    user: u64,
+) -> u64
     requires { ⌜ (head .users ≤ 64) × (xs .count ≤ 32) ⌝ }
     ensures { λ r. ⌜ ((p : Policy) → Known head (now (assigned .entry)) xs p → r ≡ firstRefusal 4 p (now (ledger .entry)) user) ⌝ }
 {

@@ -36,7 +36,7 @@ pub extern "C" fn nutrameza_open(image: &[u8], ledger: &mut [u8], user: u64) -> 
         return first::refusal_of(c);
     };
     let xs = all.exclusions;
-    open::open(ledger, head, &assigned, xs, user)
+    open::open_session(ledger, head, &assigned, xs, user)
 }
 
 // Closes the user's session.
@@ -54,5 +54,5 @@ pub extern "C" fn nutrameza_close(image: &[u8], ledger: &mut [u8], user: u64, se
         return first::refusal_of(c);
     };
     let xs = all.exclusions;
-    close::close(ledger, head, &assigned, xs, user, session)
+    close::close_session(ledger, head, &assigned, xs, user, session)
 }

@@ -14,7 +14,13 @@ use model::Head;
 use model::SESSIONS;
 
 // The user's lowest closed session is opened, and returned as the extra.
-pub fn open(ledger: &mut [u8], head: Head, assigned: &[u64; 64], xs: Exclusions, user: u64) -> u64
+pub fn open_session(
+    ledger: &mut [u8],
+    head: Head,
+    assigned: &[u64; 64],
+    xs: Exclusions,
+    user: u64,
+) -> u64
     requires { ⌜ (head .users ≤ 64) × (xs .count ≤ 32) ⌝ }
     ensures { λ r. ⌜ ((p : Policy) → Known head (now (assigned .entry)) xs p
         → Gives (stepOn 4 p (now (ledger .entry)) (openBy user)) r (now (ledger .exit))) ⌝ }

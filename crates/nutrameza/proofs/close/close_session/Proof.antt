@@ -1,4 +1,4 @@
--- `nutrameza::close::close` meets its contract: each return names the tests that led there.
+-- `nutrameza::close::close_session` meets its contract: each return names the tests that led there.
 -- Assumes nothing.
 use mathlib.Core.Path.{_≡_, sym, ap, _∙_}
 use native.Mathlib.Omega.{arith}
@@ -10,8 +10,8 @@ use Rattle.model.specs.Run.{closeBy, withLine}
 use Rattle.nutrameza.specs.Calls.{lineOf}
 use Rattle.nutrameza.proofs.FirstSteps.{gives-refusal, stopped, ready-for, room-for}
 use Rattle.nutrameza.proofs.Closes.{close12, close13, close0}
-use Rattle.nutrameza.proofs.close.close.Statement.{statement}
-use Rattle.nutrameza.proofs.close.close.Tie as tie
+use Rattle.nutrameza.proofs.close.close_session.Statement.{statement}
+use Rattle.nutrameza.proofs.close.close_session.Tie as tie
 
 returns : tie.Need-returns
 unfolding closeBy
@@ -64,12 +64,12 @@ returns-4 c p h =
     record {
       number = g .number;
       bytes =
-        c .before .before .put-line .ensures
-            ∙ ap (λ (x : Line). withLine (lineSize 4) (a .user) (writeLine x) (a .ledger .now)) (c .before .before .before .before .closed .ensures ∙ ap (closing (a .session)) l)
-            ∙ g .bytes;
+          c .before .before .put-line .ensures
+          ∙ ap (λ (x : Line). withLine (lineSize 4) (a .user) (writeLine x) (a .ledger .now)) (c .before .before .before .before .closed .ensures ∙ ap (closing (a .session)) l)
+          ∙ g .bytes;
     }
 
-pub close-spec : {M : Type 1} → statement M
-close-spec =
+pub close-session-spec : {M : Type 1} → statement M
+close-session-spec =
     tie.close
     (tie.spec (λ c κs. search needs) (λ c. search needs) returns (λ c. search needs) returns-2 line-of-requires (λ c κs. search needs) (λ c. search needs) returns-3 closed-requires put-line-requires (λ c. search needs) returns-4)

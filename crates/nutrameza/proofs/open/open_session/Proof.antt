@@ -1,4 +1,4 @@
--- `nutrameza::open::open` meets its contract: each return names the tests that led there.
+-- `nutrameza::open::open_session` meets its contract: each return names the tests that led there.
 -- Assumes nothing.
 use mathlib.Core.Path.{_≡_, sym, ap, ap₂, _∙_}
 use Prim.Native.Nat.{ℕ, _*_}
@@ -12,8 +12,8 @@ use Rattle.model.specs.Run.{openBy, withLine}
 use Rattle.nutrameza.specs.Calls.{policyBy, lineOf}
 use Rattle.nutrameza.proofs.FirstSteps.{gives-refusal, stopped, ready-for, ready-by, room-for}
 use Rattle.nutrameza.proofs.Opens.{open-bits, open14, may-open, open0}
-use Rattle.nutrameza.proofs.open.open.Statement.{statement}
-use Rattle.nutrameza.proofs.open.open.Tie as tie
+use Rattle.nutrameza.proofs.open.open_session.Statement.{statement}
+use Rattle.nutrameza.proofs.open.open_session.Tie as tie
 
 returns : tie.Need-returns
 unfolding openBy
@@ -84,7 +84,7 @@ returns-3 c p h =
       bytes = c .before .before .put-line .ensures ∙ ap (λ (x : Line). withLine (lineSize 4) (a .user) (writeLine x) (a .ledger .now)) o ∙ g .bytes;
     }
 
-pub open-spec : {M : Type 1} → statement M
-open-spec =
+pub open-session-spec : {M : Type 1} → statement M
+open-session-spec =
     tie.close
     (tie.spec (λ c κs. search needs) (λ c. search needs) returns line-of-requires (λ c κs. search needs) (λ c. search needs) (λ c. search needs) returns-2 (λ c κs. search needs) opened-requires put-line-requires mul-result (λ c. search needs) returns-3)
