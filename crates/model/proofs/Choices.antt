@@ -1,7 +1,7 @@
 -- The choice gives the best admissible set.
 -- Assumes nothing.
 use mathlib.Core.Path.{_≡_, refl, ap, _∙_, subst}
-use mathlib.Core.Logic.{_⊎_, inl, inr}
+use mathlib.Core.Logic.{inl, inr}
 use mathlib.Core.Bool.{Bool, true, false}
 use mathlib.Core.Option.{Option, none, some}
 use mathlib.Core.List.{List, [], _∷_, List·Memᴰ, List·Memᴰ·not-nil, List·Memᴰ·cases-cons}
@@ -53,6 +53,7 @@ module _ (ok : ℕ → Bool) (lt : ℕ → ℕ → Bool)
       go false q =
           (h .0, λ t m k. elim (List·Memᴰ·cases-cons m) [ inl p ↦ ap (λ (y : ℕ). lt y s) p ∙ q | inr j ↦ h .1 t j k ])
 
+  -- `best` gives the best of the list
   pub best-in : (l : List ℕ) → IsBestIn ok lt l (best ok lt l)
   unfolding best
   best-in [] = λ t m. absurd (List·Memᴰ·not-nil m)
@@ -63,7 +64,7 @@ module _ (ok : ℕ → Bool) (lt : ℕ → ℕ → Bool)
       go true e h = keep x l (best ok lt l) e h
       go false e h = skip x l (best ok lt l) e h
 
--- a set within another is no larger a number
+-- a set within one of members below d has members below d
 pub within-below : (s t d : ℕ) → t < 2 ^ d → within s t ≡ true → s < 2 ^ d
 unfolding within
 within-below s t d h e =

@@ -1,11 +1,11 @@
 -- A set is admissible exactly if it meets the conditions of 001.
 -- Assumes nothing.
 use mathlib.Core.Path.{_≡_, refl, sym, ap, _∙_, subst}
-use mathlib.Core.Logic.{_↔_, _≢_}
+use mathlib.Core.Logic.{_↔_}
 use mathlib.Core.Bool.{Bool, true, false, _&&_}
-use mathlib.Core.List.{List, [], _∷_, _++_, List·Memᴰ}
+use mathlib.Core.List.{List·Memᴰ}
 use Prim.Native.Nat.{ℕ, suc, _<_}
-use lib.Dec.{eqb, ltb}
+use lib.Dec.{eqb}
 use lib.ListN.{length, getD, take, drop, set, length-set}
 use lib.Seq.{getD-set-same, getD-set-other, set-split}
 use borrow.Author.Tests.{eqb-true, eqb-false, ltb-true, lt-ltb}
@@ -15,13 +15,14 @@ use Rattle.model.specs.declared.Exclusion.{Exclusion}
 use Rattle.model.specs.declared.Session.{Session}
 use Rattle.model.specs.declared.Line.{Line}
 use Rattle.model.specs.Tests.{pick, all}
-use Rattle.model.specs.Sets.{has, union, inter, within, count}
+use Rattle.model.specs.Sets.{union, inter, within, count}
 use Rattle.model.specs.Policy.{Policy, authorized, met, meaning}
 use Rattle.model.specs.Line.{emptySession, sessionAt, activeIn, counted, exclusionsMet, putIn}
 use Rattle.model.specs.Choice.{carriedBy, admissible}
 use Rattle.model.specs.Conditions.{others, countedAfter, MetAfter, Conditions, Solution}
 use Rattle.model.proofs.Bools.{and-l, and-r, both}
-use Rattle.model.proofs.AnyWidth.{within-iff, union-swap}
+use Rattle.model.proofs.AnyWidth.{within-iff}
+use Rattle.model.proofs.Actives.{active-middle}
 use Rattle.model.proofs.Every.{all-mem, mem-all, all-at, at-all}
 
 -- ---- the exclusions of a line
@@ -30,32 +31,34 @@ use Rattle.model.proofs.Every.{all-mem, mem-all, all-at, at-all}
 abbrev pub Met : (Kind → ℕ) → Exclusion → Type 0
 Met f x = count 64 (inter (x .members) (f (x .kind))) < x .limit
 
+-- the test of an exclusion tells that
 pub met-iff : (f : Kind → ℕ) (x : Exclusion) → (met f x ≡ true) ↔ Met f x
 unfolding met
 met-iff f x =
     (λ e. ltb-true (count 64 (inter (x .members) (f (x .kind)))) (x .limit) e, λ h. lt-ltb (count 64 (inter (x .members) (f (x .kind)))) (x .limit) h)
 
--- every exclusion is met: each one of the policy's, at each session
-pub exclusionsMet-iff : (p : Policy) (u : ℕ) (l : Line)
-    → (exclusionsMet (meaning p u) l ≡ true)
-    ↔ ((x : Exclusion) → List·Memᴰ x (p .exclusions) → (j : ℕ) → j < length (l .sessions) → Met (counted l (sessionAt l j)) x)
+-- every exclusion of the policy is met at every session
+abbrev pub AllMet : Policy → Line → Type 0
+AllMet p l = (x : Exclusion) → List·Memᴰ x (p .exclusions) → (j : ℕ) → j < length (l .sessions) → Met (counted l (sessionAt l j)) x
+
+pub exclusionsMet-iff : (p : Policy) (u : ℕ) (l : Line) → (exclusionsMet (meaning p u) l ≡ true) ↔ AllMet p l
 unfolding exclusionsMet meaning sessionAt
-exclusionsMet-iff p u l = (
-  λ e x m j h. met-iff (counted l (sessionAt l j)) x .0 (all-mem (met (counted l (sessionAt l j))) (p .exclusions) (all-at (at-session) (l .sessions) emptySession e j h) x m),
-  λ h. at-all at-session (l .sessions) emptySession (λ j b. mem-all (met (counted l (sessionAt l j))) (p .exclusions) (λ x m. met-iff (counted l (sessionAt l j)) x .1 (h x m j b))),
-)
+exclusionsMet-iff p u l = (to, from)
   where
     at-session : Session → Bool
     at-session s = all (met (counted l s)) (p .exclusions)
 
--- ---- what each kind counts once a set is put in
+    to : all at-session (l .sessions) ≡ true → AllMet p l
+    to e x m j h =
+        met-iff (counted l (sessionAt l j)) x .0
+        (all-mem (met (counted l (sessionAt l j))) (p .exclusions) (all-at at-session (l .sessions) emptySession e j h) x m)
 
--- a session's active roles may be taken first in the union of all
-pub active-middle : (xs : List Session) (a : Session) (ys : List Session) → activeIn (xs ++ a ∷ ys) ≡ union (a .active) (activeIn (xs ++ ys))
-unfolding activeIn
-active-middle [] a ys = refl
-active-middle (x ∷ xs) a ys =
-    ap (λ (t : ℕ). union (x .active) t) (active-middle xs a ys) ∙ union-swap (x .active) (a .active) (activeIn (xs ++ ys))
+    from : AllMet p l → all at-session (l .sessions) ≡ true
+    from h =
+        at-all at-session (l .sessions) emptySession
+        (λ j b. mem-all (met (counted l (sessionAt l j))) (p .exclusions) (λ x m. met-iff (counted l (sessionAt l j)) x .1 (h x m j b)))
+
+-- ---- what each kind counts once a set is put in
 
 module _ (l : Line) (k s : ℕ) (h : k < length (l .sessions)) where
   -- session k as it is then
@@ -85,6 +88,7 @@ module _ (l : Line) (k s : ℕ) (h : k < length (l .sessions)) where
   pick-history j true e = ap (λ (i : ℕ). union (sessionAt l i .history) s) (sym (eqb-true j k e))
   pick-history j false e = refl
 
+  -- each kind counts on the line with s put in what it counts after the put-in
   pub counted-after : (j : ℕ) (c : Kind) → counted (putIn k s l) (sessionAt (putIn k s l) j) c ≡ countedAfter l k s j c
   unfolding counted countedAfter putIn others
   counted-after j SsDmer = ap (λ (a : Session). a .active) (after j) ∙ pick-active (eqb j k) (sessionAt l j)
@@ -94,19 +98,28 @@ module _ (l : Line) (k s : ℕ) (h : k < length (l .sessions)) where
   counted-after j MsHmer = refl
 
   -- the exclusions of the policy once s is put in
-  met-after : (p : Policy) (u : ℕ)
-      → (exclusionsMet (meaning p u) (putIn k s l) ≡ true)
-      ↔ ((x : Exclusion) → List·Memᴰ x (p .exclusions) → (j : ℕ) → j < length (l .sessions) → MetAfter l k s j x)
-  met-after p u = (
-    λ e x m j b. subst (at-limit x) (counted-after j (x .kind)) (exclusionsMet-iff p u (putIn k s l) .0 e x m j (subst (λ (n : ℕ). j < n) (sym same-length) b)),
-    λ f. exclusionsMet-iff p u (putIn k s l) .1 (λ x m j b. subst (at-limit x) (sym (counted-after j (x .kind))) (f x m j (subst (λ (n : ℕ). j < n) same-length b))),
-  )
-    where
-      at-limit : Exclusion → ℕ → Type 0
-      at-limit x n = count 64 (inter (x .members) n) < x .limit
+  abbrev AllMetAfter : Policy → Type 0
+  AllMetAfter p = (x : Exclusion) → List·Memᴰ x (p .exclusions) → (j : ℕ) → j < length (l .sessions) → MetAfter l k s j x
 
-      same-length : length (putIn k s l .sessions) ≡ length (l .sessions)
-      same-length = unfold putIn in length-set (l .sessions) k replaced
+  same-length : length (putIn k s l .sessions) ≡ length (l .sessions)
+  unfolding putIn
+  same-length = length-set (l .sessions) k replaced
+
+  met-after : (p : Policy) (u : ℕ) → (exclusionsMet (meaning p u) (putIn k s l) ≡ true) ↔ AllMetAfter p
+  met-after p u = (to, from)
+    where
+      within-limit : Exclusion → ℕ → Type 0
+      within-limit x n = count 64 (inter (x .members) n) < x .limit
+
+      to : exclusionsMet (meaning p u) (putIn k s l) ≡ true → AllMetAfter p
+      to e x m j b =
+          subst (within-limit x) (counted-after j (x .kind))
+          (exclusionsMet-iff p u (putIn k s l) .0 e x m j (subst (λ (n : ℕ). j < n) (sym same-length) b))
+
+      from : AllMetAfter p → exclusionsMet (meaning p u) (putIn k s l) ≡ true
+      from f =
+          exclusionsMet-iff p u (putIn k s l) .1
+          (λ x m j b. subst (within-limit x) (sym (counted-after j (x .kind))) (f x m j (subst (λ (n : ℕ). j < n) same-length b)))
 
 -- ---- the other sessions
 module _ (l : Line) (k s : ℕ) where
@@ -128,6 +141,7 @@ module _ (l : Line) (k s : ℕ) where
       go false e = as-before (λ (n : ℕ). count 64 (inter (x .members) n) < x .limit) j e (x .kind) a b
 
 -- ---- the conditions
+-- four tests that all hold
 four : (a b c d : Bool) → (a && b && c && d) ≡ true → (a ≡ true) × (b ≡ true) × (c ≡ true) × (d ≡ true)
 four a b c d e =
     let f = and-l (a && b && c) d e in
@@ -178,11 +192,5 @@ module _ (p : Policy) (u : ℕ) (l : Line) (k lb ub s : ℕ) where
 
         from : Solution p u l k lb ub s → admissible (meaning p u) l k lb ub s ≡ true
         from c =
-            conditions .1 (
-            record {
-              own = c .own;
-              lower = c .lower;
-              upper = c .upper;
-              exclusions = λ x m j b. elsewhere l k s x j (c .exclusions x m) (exclusionsMet-iff p u l .0 e x m j b);
-            }
-            )
+            let everywhere : AllMetAfter l k s h p = λ x m j b. elsewhere l k s x j (c .exclusions x m) (exclusionsMet-iff p u l .0 e x m j b) in
+            conditions .1 (record { own = c .own; lower = c .lower; upper = c .upper; exclusions = everywhere })

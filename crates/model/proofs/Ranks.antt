@@ -63,6 +63,7 @@ Earlier-trans p q r x y z s t u (inr (e, inl h)) (inr (f, inr (d, k))) = inr (e 
 Earlier-trans p q r x y z s t u (inr (e, inr (d, h))) (inr (f, inl k)) = inr (e ∙ f, inl (omega arith))
 Earlier-trans p q r x y z s t u (inr (e, inr (d, h))) (inr (f, inr (g, k))) = inr (e ∙ f, inr (d ∙ g, omega arith))
 
+-- what is earlier than an earlier one is earlier
 pub earlier-trans : (p q r x y z s t u : ℕ) → earlier p q x y s t ≡ true → earlier q r y z t u ≡ true → earlier p r x z s u ≡ true
 earlier-trans p q r x y z s t u e f =
     is-earlier p r x z s u (Earlier-trans p q r x y z s t u (earlier-true p q x y s t e) (earlier-true q r y z t u f))
@@ -103,6 +104,7 @@ module _ (m : Meaning) (a b : ℕ) where
   unfolding better
   better-irrefl s = earlier-irrefl (permissionCost m a s) (roleCost b s) s
 
+  -- what is better than a better set is better
   pub better-trans : (r s t : ℕ) → better m a b r s ≡ true → better m a b s t ≡ true → better m a b r t ≡ true
   unfolding better
   better-trans r s t =

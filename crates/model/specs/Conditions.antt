@@ -2,6 +2,7 @@
 -- counted by 001's table 1: for the roles s as the active ones of session k, in place of the old ones.
 -- Assumes nothing.
 use mathlib.Core.Path.{_≡_}
+use mathlib.Core.Logic.{_≢_}
 use mathlib.Core.Bool.{true}
 use mathlib.Core.List.{List, _++_, List·Memᴰ}
 use Prim.Native.Nat.{ℕ, suc, _<_}
@@ -17,10 +18,15 @@ use Rattle.model.specs.Sets.{has, union, inter, count}
 use Rattle.model.specs.Policy.{Policy, authorized, meaning}
 use Rattle.model.specs.Line.{sessionAt, activeIn}
 use Rattle.model.specs.Choice.{carriedBy}
+use Rattle.model.specs.Chains.{Provides}
 
 -- the sessions other than session k
 unfoldable pub others : ℕ → List Session → List Session
 others k ss = take k ss ++ drop (suc k) ss
+
+-- role r is active in a session other than session k
+abbrev pub ActiveElsewhere : Line → ℕ → ℕ → Type 0
+ActiveElsewhere l k r = (i : ℕ) × (i < length (l .sessions)) × (i ≢ k) × (has (sessionAt l i .active) r ≡ true)
 
 -- what each kind counts at session j once s is put in for session k: the roles active in session j, where the replaced ones do not count;
 -- s and the roles active in the other sessions; session j's history, with s where it is session k; the user's history with s
@@ -48,3 +54,11 @@ pub record Solution (p : Policy) (u : ℕ) (l : Line) (k lb ub s : ℕ) : Type 0
   pub lower : (q : ℕ) → has lb q ≡ true → has (carriedBy (meaning p u) s) q ≡ true
   pub upper : (q : ℕ) → has (carriedBy (meaning p u) s) q ≡ true → has ub q ≡ true
   pub exclusions : (x : Exclusion) → List·Memᴰ x (p .exclusions) → MetAfter l k s k x
+
+-- the same in the words of a policy: what the roles provide is what a grant gives to a role reached from one of them by a chain of
+-- senior words (001's π)
+pub record Admitted (p : Policy) (u : ℕ) (l : Line) (k lb ub s : ℕ) : Type 0 where
+  pub own : (r : ℕ) → has s r ≡ true → has (authorized p u) r ≡ true
+  pub lower : (q : ℕ) → has lb q ≡ true → Provides p s q
+  pub upper : (q : ℕ) → Provides p s q → has ub q ≡ true
+  pub exclusions : (x : Exclusion) → List·Memᴰ x (p .exclusions) → (j : ℕ) → j < length (l .sessions) → MetAfter l k s j x

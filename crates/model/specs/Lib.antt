@@ -7,7 +7,13 @@ pub mod Line
 pub mod Choice
 pub mod Session
 pub mod Run
+pub mod Independence
+pub mod Frames
 pub mod Ward
 pub mod Refusals
+pub mod Chains
+pub mod Read
 pub mod Chosen
 pub mod Conditions
+pub mod Ranges
+pub mod Kept

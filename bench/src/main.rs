@@ -1,0 +1,30 @@
+//! The kit beside the same jobs in plain Rust, in one process: times as medians, ratios as medians of rounds.
+//! Before a job is timed, both are held to the same answers, ledgers and answer bytes.
+
+#[cfg(feature = "asks")]
+mod families;
+mod jobs;
+#[cfg_attr(not(feature = "asks"), allow(dead_code))]
+mod plain;
+#[cfg(feature = "script")]
+mod program;
+mod timing;
+
+fn main() {
+    println!(
+        "Kit and plain Rust in one process, thread time, median of {} to {} rounds;",
+        timing::FEWEST_ROUNDS,
+        timing::MOST_ROUNDS
+    );
+    println!("ratio: median of the rounds' kit / plain. Buffers are not cleared between calls,");
+    println!("only the user's line is set back before a call that changes it.");
+    println!();
+    println!("{:<44} {:>12} {:>12} {:>7}", "job", "kit ns", "plain ns", "ratio");
+    jobs::check();
+    #[cfg(feature = "calls")]
+    jobs::calls();
+    #[cfg(feature = "asks")]
+    families::asks();
+    #[cfg(feature = "script")]
+    program::lines();
+}

@@ -1,0 +1,148 @@
+-- One turn of the walk over an image's words, as the scan has it.
+-- Assumes nothing.
+use mathlib.Core.Path.{_≡_, refl, sym, ap, _∙_}
+use mathlib.Core.Bool.{Bool, true, false, not, _&&_, _||_, false≢true}
+use mathlib.Core.List.{List}
+use Prim.Native.Nat.{ℕ, zero, suc, _+_, _-_, _%_, _^_, _≤_, _<_}
+use native.Mathlib.Omega.{arith}
+use lib.Dec.{eqb, leb}
+use borrow.Author.Tests.{eq-eqb, ne-eqb, eqb-true, eqb-false, leb-false}
+use Rattle.model.specs.declared.Head.{Head}
+use Rattle.model.specs.declared.Exclusion.{Exclusion}
+use Rattle.model.specs.declared.Scan.{Scan}
+use Rattle.model.specs.declared.Word.{Word}
+use Rattle.model.specs.declared.Entry.{Entry}
+use Rattle.model.specs.declared.Entry.the-variants.{Assignment, Grant, Senior, Exclude, Member, End, Unknown}
+use Rattle.model.specs.declared.Checked.{Checked}
+use Rattle.model.specs.declared.Checked.the-variants.{Accepted, Refused}
+use Rattle.model.specs.Tests.{pick}
+use Rattle.model.specs.Image.{wordAt, decode, wrongKind, inRange, repeats, crowds, entryFault, sparing, fault, assigning, next, scan, balanced}
+use Rattle.model.specs.Policy.{granting, ordering}
+use Rattle.image.specs.Bounds.{Due}
+use Rattle.image.specs.Tables.{noting, Step}
+
+-- ---- a word without fault is due
+
+none-of : (a b c d e : Bool) → pick {X = ℕ} a 3 (pick b 4 (pick c 5 (pick d 6 (pick e 7 0)))) ≡ 0 → (a ≡ false) × (e ≡ false)
+unfolding pick
+none-of true b c d e z = absurd (omega arith)
+none-of false true c d e z = absurd (omega arith)
+none-of false false true d e z = absurd (omega arith)
+none-of false false false true e z = absurd (omega arith)
+none-of false false false false true z = absurd (omega arith)
+none-of false false false false false z = (refl, refl)
+
+not-first : (a b : Bool) → (a || b) ≡ false → b ≡ false
+not-first false b e = e
+not-first true b e = absurd (false≢true (sym e))
+
+due-entry : (rows : List ℕ) (t : Scan) (final : Bool) (e : Entry) → wrongKind final (t .due) e ≡ false → crowds rows t e ≡ false → Due t e
+unfolding wrongKind crowds Due
+due-entry rows t final (Assignment u r) k x = omega arith
+due-entry rows t final (Grant r p) k x = omega arith
+due-entry rows t final (Senior a b) k x = omega arith
+due-entry rows t final (Exclude y m) k x = leb-false 32 (t .exclusions) x
+due-entry rows t final (Member r) k x = let n = eqb-false (t .due) 0 (not-first final (eqb (t .due) 0) k) in omega arith
+due-entry rows t final End k x = omega arith
+due-entry rows t final Unknown k x = omega arith
+
+pub due-of : (h : Head) (rows : List ℕ) (t : Scan) (final : Bool) (d : Word) (f : ℕ)
+    → f ≡ fault h rows t final d → f ≡ 0 → Due t (d .entry)
+unfolding fault entryFault pick
+due-of h rows t final d f e z =
+    let n =
+    none-of (wrongKind final (t .due) (d .entry)) (not (eqb (d .spare) 0)) (not (inRange h (d .entry))) (repeats t (d .entry))
+    (crowds rows t (d .entry)) (sym e ∙ z) in
+    due-entry rows t final (d .entry) (n .0) (n .1)
+
+-- an exclusion word without fault finds room
+pub room : (h : Head) (rows : List ℕ) (t : Scan) (x : Exclusion) (m spare n : ℕ) → n ≡ sparing spare (entryFault h rows t (Exclude x m)) → n ≡ 0
+    → t .exclusions < 32
+unfolding entryFault crowds pick
+room h rows t x m spare n e z =
+    leb-false 32 (t .exclusions)
+    (none-of false (not (eqb spare 0)) (not (inRange h (Exclude x m))) (repeats t (Exclude x m)) (leb 32 (t .exclusions)) (sym e ∙ z) .1)
+
+-- ---- one word, judged and taken in
+pub took : {h : Head} {t : Scan} {final : Bool} {place : ℕ} {w : Word} {a₀ g₀ j₀ p₀ : List ℕ} {n : ℕ} {a g j p : List ℕ} (e : Entry)
+    → w .entry ≡ e → wrongKind final (t .due) (w .entry) ≡ false → n ≡ sparing (w .spare) (entryFault h a₀ t e)
+    → (n ≡ 0 → a ≡ assigning a₀ e) → (n ≡ 0 → g ≡ granting g₀ e) → (n ≡ 0 → j ≡ ordering j₀ e) → (n ≡ 0 → p ≡ noting place (t .exclusions) p₀ e)
+    → Step h t final place w a₀ g₀ j₀ p₀ n a g j p
+unfolding fault pick
+took {h} {t} {final} {place} {w} {a₀} {g₀} {j₀} {p₀} e ee ek en fa fg fj fp =
+    record {
+      faulty =
+          en ∙ ap (λ (x : Entry). sparing (w .spare) (entryFault h a₀ t x)) (sym ee)
+          ∙ ap (λ (b : Bool). pick b 3 (sparing (w .spare) (entryFault h a₀ t (w .entry)))) (sym ek);
+      assigned-is = λ z. fa z ∙ ap (assigning a₀) (sym ee);
+      granted-is = λ z. fg z ∙ ap (granting g₀) (sym ee);
+      juniors-is = λ z. fj z ∙ ap (ordering j₀) (sym ee);
+      places-is = λ z. fp z ∙ ap (noting place (t .exclusions) p₀) (sym ee);
+    }
+
+-- a word of the wrong kind
+pub mistook : {h : Head} {t : Scan} {final : Bool} {place : ℕ} {w : Word} {a₀ g₀ j₀ p₀ : List ℕ} {a g j p : List ℕ}
+    → wrongKind final (t .due) (w .entry) ≡ true → Step h t final place w a₀ g₀ j₀ p₀ 3 a g j p
+unfolding fault pick
+mistook {h} {t} {final} {place} {w} {a₀} ek =
+    record {
+      faulty = ap (λ (b : Bool). pick b 3 (sparing (w .spare) (entryFault h a₀ t (w .entry)))) (sym ek);
+      assigned-is = λ z. absurd (omega arith);
+      granted-is = λ z. absurd (omega arith);
+      juniors-is = λ z. absurd (omega arith);
+      places-is = λ z. absurd (omega arith);
+    }
+
+-- ---- one turn
+
+final-is : (n p : ℕ) → p < n → eqb (n - (p + 1)) 0 ≡ eqb (p + 1) n
+final-is n p l = go (eqb (p + 1) n) refl
+  where
+    go : (b : Bool) → eqb (p + 1) n ≡ b → eqb (n - (p + 1)) 0 ≡ b
+    go true e = eq-eqb (n - (p + 1)) 0 (omega (arith, eqb-true (p + 1) n e))
+    go false e = ne-eqb (n - (p + 1)) 0 (λ z. eqb-false (p + 1) n e (omega arith))
+
+module _ (s : List ℕ) (h : Head) (n p : ℕ) (rows : List ℕ) (t : Scan) (sum : ℕ) where
+  -- the word at p has the fault f, and m words stand behind it
+  abbrev turn : ℕ → ℕ → Bool → Checked
+  turn m f right =
+      elim right [
+        | true ↦ scan s h m (p + 1) (assigning rows (decode (wordAt s p) .entry)) (next t (decode (wordAt s p) .entry)) ((sum + wordAt s p) % 2 ^ 32)
+        | false ↦ Refused f p
+      ]
+
+  faultHere : Bool → ℕ
+  faultHere final = fault h rows t final (decode (wordAt s p))
+
+  opened : (f : ℕ) → p < n → faultHere (eqb (p + 1) n) ≡ f → scan s h (n - p) p rows t sum ≡ turn (n - (p + 1)) f (eqb f 0)
+  unfolding scan faultHere
+  opened f l e =
+      let k : n - p ≡ suc (n - (p + 1)) = omega arith in
+      ap (λ (m : ℕ). scan s h m p rows t sum) k
+      ∙ ap (λ (x : ℕ). turn (n - (p + 1)) x (eqb x 0)) (ap faultHere (final-is n p l) ∙ e)
+
+  module _ (w : ℕ) (d : Word) (f : ℕ) (l : p < n) (ew : w ≡ wordAt s p) (ed : d ≡ decode w)
+      (ef : f ≡ fault h rows t (eqb (p + 1) n) d) where
+    here : faultHere (eqb (p + 1) n) ≡ f
+    unfolding faultHere
+    here = cc
+
+    pub stops : (f ≡ 0 → ⊥) → Refused f p ≡ scan s h (n - p) p rows t sum
+    stops z = sym (opened f l here ∙ ap (turn (n - (p + 1)) f) (ne-eqb f 0 z))
+
+    pub goes : f ≡ 0 → (rows′ : List ℕ) (t′ : Scan) (sum′ : ℕ) → rows′ ≡ assigning rows (d .entry) → t′ ≡ next t (d .entry)
+        → sum′ ≡ (sum + w) % 2 ^ 32 → scan s h (n - (p + 1)) (p + 1) rows′ t′ sum′ ≡ scan s h (n - p) p rows t sum
+    goes z rows′ t′ sum′ eh es em = rw (eh, es, em, ed, ew) (sym (opened f l here ∙ ap (turn (n - (p + 1)) f) (eq-eqb f 0 z)))
+
+  pub ends : n ≤ p → p ≤ n → scan s h (n - p) p rows t sum ≡ balanced h n sum
+  unfolding scan
+  ends l m = let k : p ≡ n = omega arith in let z : n - n ≡ 0 = omega arith in rw (k, z)
+
+-- all words read: the sum decides
+pub sum-right : (h : Head) (n sum : ℕ) → sum % 2 ^ 28 ≡ 0 → balanced h n sum ≡ Accepted h
+unfolding balanced pick
+sum-right h n sum e = rw (eq-eqb _ _ e)
+
+pub sum-wrong : (h : Head) (n sum : ℕ) → (sum % 2 ^ 28 ≡ 0 → ⊥) → balanced h n sum ≡ Refused 8 (n - 1)
+unfolding balanced pick
+sum-wrong h n sum e = rw (ne-eqb _ _ e)

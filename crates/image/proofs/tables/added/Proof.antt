@@ -1,0 +1,15 @@
+-- `image::tables::added` meets its contract.
+-- Assumes nothing.
+use Rattle.image.proofs.Closing.{added-on, added-off}
+use borrow.Author.Needs.{needs}
+use Rattle.image.proofs.tables.added.Statement.{statement}
+use Rattle.image.proofs.tables.added.Tie as tie
+
+returns : tie.Need-returns
+returns c = search (needs, added-on)
+
+returns-2 : tie.Need-returns-2
+returns-2 c = search (needs, added-off)
+
+pub added-spec : {M : Type 1} → statement M
+added-spec = tie.close (tie.spec (λ c κs. search needs) returns returns-2)

@@ -1,0 +1,257 @@
+// The check: each word judged by the words before it, the earliest bad word decides, and the sum of all words comes last.
+ghost use mathlib.Core.Path.{_≡_};
+ghost use mathlib.Core.Bool.{Bool};
+ghost use mathlib.Core.List.{List};
+ghost use Prim.Native.Nat.{ℕ, _+_, _-_, _*_, _≤_, _<_};
+ghost use lib.ListN.{length};
+ghost use Rattle.model.specs.Image.{wrongKind, sparing, entryFault, fault as faultOf, assigning, next as nextOf, scan, emptyRows, start, judge};
+ghost use Rattle.image.specs.Bounds.{Small, Due};
+use crate::word::decode;
+use crate::word::head_of;
+use crate::word::head_right;
+use model::Checked;
+use model::Entry;
+use model::Exclusion;
+use model::Head;
+use model::Permission;
+use model::Role;
+use model::Scan;
+use model::User;
+use model::Word;
+
+// ---- the faults of a word behind the head; `assigned` has the roles assigned so far, a row a user
+
+// 3
+pub fn wrong_kind(last: bool, due: u32, e: Entry) -> bool
+    ensures { λ r. ⌜ r ≡ wrongKind last due e ⌝ }
+{
+    match e {
+        Entry::Member(_) => last | (due == 0),
+        Entry::End => !last | (due != 0),
+        Entry::Unknown => true,
+        Entry::Assignment(_, _) => last | (due != 0),
+        Entry::Grant(_, _) => last | (due != 0),
+        Entry::Senior(_, _) => last | (due != 0),
+        Entry::Exclude(_, _) => last | (due != 0),
+    }
+}
+
+// 5 to 7, or 0
+pub fn assignment_fault(h: Head, assigned: &[u64; 64], u: User, r: Role) -> u8
+    requires { ⌜ (u .0 < 64) × (r .0 < 64) ⌝ }
+    ensures { λ n. ⌜ ((t : Scan) → n ≡ entryFault h (now (assigned .entry)) t (Entry.Assignment u r)) ⌝ }
+{
+    if h.users <= u.0 {
+        return 5;
+    }
+    if h.roles <= r.0 {
+        return 5;
+    }
+    let who = u.0 as usize;
+    let mine = assigned[who];
+    if sets::has(mine, r) {
+        return 0;
+    }
+    if sets::size(mine) < 16 {
+        return 0;
+    }
+    7
+}
+
+pub fn grant_fault(h: Head, r: Role, p: Permission) -> u8
+    ensures { λ n. ⌜ ((rows : List ℕ) (t : Scan) → n ≡ entryFault h rows t (Entry.Grant r p)) ⌝ }
+{
+    if h.roles <= r.0 {
+        return 5;
+    }
+    if h.permissions <= p.0 as u16 {
+        return 5;
+    }
+    0
+}
+
+pub fn senior_fault(h: Head, a: Role, b: Role) -> u8
+    ensures { λ n. ⌜ ((rows : List ℕ) (t : Scan) → n ≡ entryFault h rows t (Entry.Senior a b)) ⌝ }
+{
+    if h.roles <= a.0 {
+        return 5;
+    }
+    if h.roles <= b.0 {
+        return 5;
+    }
+    if a.0 == b.0 {
+        return 6;
+    }
+    0
+}
+
+pub fn exclusion_fault(h: Head, t: Scan, x: Exclusion, m: u8) -> u8
+    ensures { λ n. ⌜ ((rows : List ℕ) → n ≡ entryFault h rows t (Entry.Exclude x m)) ⌝ }
+{
+    if m < 1 {
+        return 5;
+    }
+    if h.roles < m {
+        return 5;
+    }
+    if x.limit < 1 {
+        return 5;
+    }
+    if m < x.limit {
+        return 5;
+    }
+    if 32 <= t.exclusions {
+        return 7;
+    }
+    0
+}
+
+pub fn member_fault(h: Head, t: Scan, r: Role) -> u8
+    requires { ⌜ r .0 < 64 ⌝ }
+    ensures { λ n. ⌜ ((rows : List ℕ) → n ≡ entryFault h rows t (Entry.Member r)) ⌝ }
+{
+    if h.roles <= r.0 {
+        return 5;
+    }
+    if sets::has(t.members, r) {
+        return 6;
+    }
+    0
+}
+
+// 4 where there are spare bits, else the number.
+pub fn spared(spare: u32, number: u8) -> u8
+    ensures { λ n. ⌜ n ≡ sparing spare number ⌝ }
+{
+    if spare != 0 {
+        return 4;
+    }
+    number
+}
+
+// 4 to 7, or 0. The spare bits are tested in each arm, so that one jump goes to the arm.
+fn entry_fault(h: Head, assigned: &[u64; 64], t: Scan, spare: u32, e: Entry) -> u8
+    requires { ⌜ Small e ⌝ }
+    ensures { λ n. ⌜ n ≡ sparing spare (entryFault h (now (assigned .entry)) t e) ⌝ }
+{
+    match e {
+        Entry::Assignment(u, r) => spared(spare, assignment_fault(h, assigned, u, r)),
+        Entry::Grant(r, p) => spared(spare, grant_fault(h, r, p)),
+        Entry::Senior(a, b) => spared(spare, senior_fault(h, a, b)),
+        Entry::Exclude(x, m) => spared(spare, exclusion_fault(h, t, x, m)),
+        Entry::Member(r) => spared(spare, member_fault(h, t, r)),
+        Entry::End => spared(spare, 0),
+        Entry::Unknown => spared(spare, 0),
+    }
+}
+
+// 3 to 7, or 0.
+fn fault(h: Head, assigned: &[u64; 64], t: Scan, last: bool, w: Word) -> u8
+    requires { ⌜ Small (w .entry) ⌝ }
+    ensures { λ n. ⌜ n ≡ faultOf h (now (assigned .entry)) t last w ⌝ }
+{
+    let e = w.entry;
+    if wrong_kind(last, t.due, e) {
+        return 3;
+    }
+    entry_fault(h, assigned, t, w.spare, e)
+}
+
+// ---- a word without fault, taken in
+
+// The roles assigned so far, with the one that an assignment gives.
+fn assign(assigned: &mut [u64; 64], e: Entry)
+    requires { ⌜ Small e ⌝ }
+    ensures { λ r. ⌜ now (assigned .exit) ≡ assigning (now (assigned .entry)) e ⌝ }
+{
+    match e {
+        Entry::Assignment(u, r) => {
+            let who = u.0 as usize;
+            let mine = sets::with(assigned[who], r);
+            assigned[who] = mine;
+        }
+        Entry::Grant(_, _) => {}
+        Entry::Senior(_, _) => {}
+        Entry::Exclude(_, _) => {}
+        Entry::Member(_) => {}
+        Entry::End => {}
+        Entry::Unknown => {}
+    }
+}
+
+pub fn next(t: Scan, e: Entry) -> Scan
+    requires { ⌜ Small e × Due t e ⌝ }
+    ensures { λ r. ⌜ r ≡ nextOf t e ⌝ }
+{
+    match e {
+        Entry::Exclude(_, m) => Scan {
+            exclusions: t.exclusions + 1,
+            due: m as u32,
+            members: 0,
+        },
+        Entry::Member(r) => Scan {
+            exclusions: t.exclusions,
+            due: t.due - 1,
+            members: sets::with(t.members, r),
+        },
+        Entry::Assignment(_, _) => t,
+        Entry::Grant(_, _) => t,
+        Entry::Senior(_, _) => t,
+        Entry::End => t,
+        Entry::Unknown => t,
+    }
+}
+
+// ---- the words behind the head, and the whole
+
+fn check_words(image: &[u8], words: usize, h: Head, first: u32) -> Checked
+    requires { ⌜ (4 * words ≤ length (now image)) × (1 ≤ words) × (words ≤ 4096) ⌝ }
+    ensures { λ r. ⌜ r ≡ scan (now (image .entry)) h (words - 1) 1 emptyRows start first ⌝ }
+{
+    let mut assigned = [0u64; 64];
+    let mut t = Scan {
+        exclusions: 0,
+        due: 0,
+        members: 0,
+    };
+    let mut sum = first;
+    for place in 1..words {
+        let w = octets::word_at(image, place);
+        let word = decode(w);
+        let number = fault(h, &assigned, t, place + 1 == words, word);
+        if number != 0 {
+            return Checked::Refused(number, place as u16);
+        }
+        let e = word.entry;
+        assign(&mut assigned, e);
+        t = next(t, e);
+        sum = std::num::wrapping_add_u32(sum, w);
+    }
+    if sum % 268435456 == 0 {
+        Checked::Accepted(h)
+    } else {
+        Checked::Refused(8, (words - 1) as u16)
+    }
+}
+
+// Judges an image: accepted with the head's numbers, or refused with a number and a place.
+pub fn check(image: &[u8]) -> Checked
+    ensures { λ r. ⌜ r ≡ judge (now (image .entry)) ⌝ }
+{
+    let len = image.len();
+    if len % 4 != 0 {
+        return Checked::Refused(1, 0);
+    }
+    if len < 8 {
+        return Checked::Refused(1, 0);
+    }
+    if 16384 < len {
+        return Checked::Refused(1, 0);
+    }
+    let w = octets::word_at(image, 0);
+    if head_right(w) {
+        check_words(image, len / 4, head_of(w), w)
+    } else {
+        Checked::Refused(2, 0)
+    }
+}

@@ -1,0 +1,60 @@
+-- Laws of a line's soundness: the roles active in any session and the soundness of every session, one session a turn; the exclusions one
+-- by one.
+-- Assumes nothing.
+use mathlib.Core.Path.{_≡_, refl, sym, ap, ap₂, _∙_}
+use mathlib.Core.Bool.{Bool, true, false, _&&_}
+use mathlib.Core.List.{List, [], _∷_}
+use Prim.Native.Nat.{ℕ, suc, _+_, _-_, _≤_, _<_}
+use native.Mathlib.Omega.{arith}
+use native.Mathlib.Numerals.{add-one}
+use lib.Bits.{bitOr}
+use lib.ListN.{length, getD, take, drop, drop-of-length-le}
+use lib.Seq.{drop-cons}
+use Rattle.model.specs.declared.Kind.{Kind}
+use Rattle.model.specs.declared.Exclusion.{Exclusion}
+use Rattle.model.specs.declared.Exclusions.{Exclusions}
+use Rattle.model.specs.declared.Session.{Session}
+use Rattle.model.specs.declared.Line.{Line}
+use Rattle.model.specs.Tests.{all}
+use Rattle.model.specs.Policy.{Meaning, met}
+use Rattle.model.specs.Line.{activeIn, counted, exclusionsMet, sessionSound, sessionsSound}
+use Rattle.ledger.specs.Held.{metAt, Listed}
+use Rattle.ledger.proofs.All.{all-cong, all-swap}
+
+-- ---- the roles active in the sessions from k on
+pub active-next : (ss : List Session) (d : Session) (k : ℕ) → 0 < k → k ≤ length ss
+    → bitOr (getD ss (k - 1) d .active) (activeIn (drop k ss)) ≡ activeIn (drop (k - 1) ss)
+unfolding activeIn
+active-next ss d k h i =
+    let e : k ≡ suc (k - 1) = omega arith in
+    let l : k - 1 < length ss = omega arith in
+    ap (λ (j : ℕ). bitOr (getD ss (k - 1) d .active) (activeIn (drop j ss))) e ∙ sym (ap activeIn (drop-cons ss (k - 1) d l))
+
+pub active-none : (ss : List Session) (k : ℕ) → length ss ≤ k → 0 ≡ activeIn (drop k ss)
+unfolding activeIn
+active-none ss k h = rw (drop-of-length-le ss h)
+
+-- ---- the sessions from k on are sound
+module _ (m : Meaning) (l : Line) (d : Session) (ss : List Session) (k : ℕ) where
+  sound-at : k < length ss → sessionsSound m l k (drop k ss) ≡ (sessionSound m l k (getD ss k d) && sessionsSound m l (k + 1) (drop (k + 1) ss))
+  unfolding sessionsSound
+  sound-at h = rw (add-one k, drop-cons ss k d h)
+
+  pub sound-next : k < length ss → sessionSound m l k (getD ss k d) ≡ true
+      → sessionsSound m l (k + 1) (drop (k + 1) ss) ≡ sessionsSound m l k (drop k ss)
+  sound-next h e = sym (sound-at h ∙ ap (λ (x : Bool). x && sessionsSound m l (k + 1) (drop (k + 1) ss)) e)
+
+  pub sound-stop : k < length ss → sessionSound m l k (getD ss k d) ≡ false → false ≡ sessionsSound m l k (drop k ss)
+  sound-stop h e = sym (sound-at h ∙ ap (λ (x : Bool). x && sessionsSound m l (k + 1) (drop (k + 1) ss)) e)
+
+  pub sound-end : length ss ≤ k → true ≡ sessionsSound m l k (drop k ss)
+  unfolding sessionsSound
+  sound-end h = rw (drop-of-length-le ss h)
+
+-- ---- every exclusion at every session, by the exclusions
+pub by-exclusion : (m : Meaning) (l : Line) (xs : Exclusions) → Listed xs m → all (metAt l) (take (xs .count) (xs .list)) ≡ exclusionsMet m l
+unfolding exclusionsMet metAt
+by-exclusion m l xs h =
+    sym (all-swap (λ s. met (counted l s)) (l .sessions) (take (xs .count) (xs .list)))
+    ∙ sym (all-cong (λ s. m .allMet (counted l s)) (λ s. all (met (counted l s)) (take (xs .count) (xs .list))) (l .sessions)
+    (λ s. h (counted l s)))

@@ -1,0 +1,22 @@
+-- `ledger::change::opened` meets its contract. A session's bit and the open bits make no number beyond 64 bits.
+-- Assumes nothing.
+use mathlib.Core.Path.{sym, ap}
+use Prim.Native.Nat.{_^_, _<_}
+use native.Mathlib.Omega.{arith}
+use lib.Pow.{pow-lt}
+use borrow.Author.Needs.{needs}
+use Rattle.model.specs.Line.{opening}
+use Rattle.ledger.proofs.change.opened.Statement.{statement}
+use Rattle.ledger.proofs.change.opened.Tie as tie
+
+add-next : tie.Need-add-next
+add-next c =
+    let h = pow-lt {i = c .before .before .args .k} {j = 4} (search needs) in
+    omega (arith, h)
+
+returns : tie.Need-returns
+unfolding opening
+returns c = cc
+
+pub opened-spec : {M : Type 1} → statement M
+opened-spec = tie.close (tie.spec (λ c κs. search needs) add-next returns)

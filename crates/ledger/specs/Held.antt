@@ -1,0 +1,27 @@
+-- What code judges a line by: each exclusion at every session, and the parts of a policy's meaning for one user that it holds.
+-- Assumes nothing.
+use mathlib.Core.Path.{_≡_}
+use mathlib.Core.Bool.{Bool}
+use Prim.Native.Nat.{ℕ}
+use lib.ListN.{take}
+use Rattle.model.specs.declared.Kind.{Kind}
+use Rattle.model.specs.declared.Exclusion.{Exclusion}
+use Rattle.model.specs.declared.Exclusions.{Exclusions}
+use Rattle.model.specs.declared.Line.{Line}
+use Rattle.model.specs.Tests.{all}
+use Rattle.model.specs.Policy.{Meaning, met}
+use Rattle.model.specs.Line.{counted}
+
+-- the exclusion is met at every session
+unfoldable pub metAt : Line → Exclusion → Bool
+metAt l x = all (λ s. met (counted l s) x) (l .sessions)
+
+-- every exclusion of the meaning is met exactly where the listed ones are
+abbrev pub Listed : Exclusions → Meaning → Type 0
+Listed xs m = (counted : Kind → ℕ) → m .allMet counted ≡ all (met counted) (take (xs .count) (xs .list))
+
+-- the number of roles, the roles that the user may activate and the exclusions are those of the meaning
+pub record Held (roles authorized : ℕ) (xs : Exclusions) (m : Meaning) : Type 0 where
+  pub number : m .roles ≡ roles
+  pub allowed : m .authorized ≡ authorized
+  pub exclusions : Listed xs m

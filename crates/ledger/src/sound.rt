@@ -1,0 +1,130 @@
+// Whether a line is sound: its open bits, histories and sessions have their form, and every exclusion is met.
+ghost use mathlib.Core.Path.{_≡_};
+ghost use mathlib.Core.Bool.{Bool};
+ghost use Prim.Native.Nat.{_≤_, _<_, _^_};
+ghost use lib.Dec.{ltb};
+ghost use Rattle.model.specs.Policy.{Meaning, met};
+ghost use Rattle.model.specs.Line.{activeIn, counted as countedBy, exclusionsMet, sessionSound, sessionsSound, sound as soundBy};
+ghost use Rattle.ledger.specs.Held.{metAt, Listed, Held};
+use model::Exclusion;
+use model::Exclusions;
+use model::Kind;
+use model::Line;
+use model::SESSIONS;
+use model::Session;
+
+// ---- exclusions
+
+// The roles active in any session.
+pub fn active_in(sessions: [Session; SESSIONS]) -> u64
+    ensures { λ r. ⌜ r ≡ activeIn sessions ⌝ }
+{
+    let mut roles = 0u64;
+    let mut k = SESSIONS;
+    while 0 < k {
+        k -= 1;
+        let s = sessions[k];
+        roles = s.active | roles;
+    }
+    roles
+}
+
+// What a kind of exclusion counts at a session of the line.
+pub fn counted(l: Line, s: Session, kind: Kind) -> u64
+    ensures { λ r. ⌜ r ≡ countedBy l s kind ⌝ }
+{
+    let sessions = l.sessions;
+    match kind {
+        Kind::SsDmer => s.active,
+        Kind::MsDmer => active_in(sessions),
+        Kind::SsHmer => s.history,
+        Kind::MsHmer => l.history,
+    }
+}
+
+// The exclusion is met at the session.
+fn met_at(l: Line, s: Session, x: Exclusion) -> bool
+    ensures { λ r. ⌜ r ≡ met (countedBy l s) x ⌝ }
+{
+    let kind = x.kind;
+    sets::fewer(x.members, counted(l, s, kind), x.limit as u32)
+}
+
+// The exclusion is met at every session.
+fn exclusion_met(l: Line, x: Exclusion) -> bool
+    ensures { λ r. ⌜ r ≡ metAt l x ⌝ }
+{
+    for k in 0..SESSIONS {
+        let s = l.sessions[k];
+        if !met_at(l, s, x) {
+            return false;
+        }
+    }
+    true
+}
+
+// Every exclusion is met at every session.
+pub fn exclusions_met(l: Line, xs: Exclusions) -> bool
+    requires { ⌜ xs .count ≤ 32 ⌝ }
+    ensures { λ r. ⌜ ((m : Meaning) → Listed xs m → r ≡ exclusionsMet m l) ⌝ }
+{
+    let count = xs.count;
+    for i in 0..count {
+        let x = xs.list[i];
+        if !exclusion_met(l, x) {
+            return false;
+        }
+    }
+    true
+}
+
+// ---- sessions
+
+// Session k is zero where it is closed, its active roles are in its history, that in the user's, and it has no role active that the user
+// may not activate.
+fn session_sound(l: Line, k: usize, s: Session, authorized: u64) -> bool
+    requires { ⌜ k < 64 ⌝ }
+    ensures { λ r. ⌜ ((m : Meaning) → m .authorized ≡ authorized → r ≡ sessionSound m l k s) ⌝ }
+{
+    let zero = (s.active == 0) & (s.history == 0);
+    let formed = crate::change::is_open(l, k) | zero;
+    let inner = sets::within(s.active, s.history);
+    let outer = sets::within(s.history, l.history);
+    formed & inner & outer & sets::within(s.active, authorized)
+}
+
+// Every session is sound.
+fn sessions_sound(l: Line, authorized: u64) -> bool
+    ensures { λ r. ⌜ ((m : Meaning) → m .authorized ≡ authorized → r ≡ sessionsSound m l 0 (l .sessions)) ⌝ }
+{
+    for k in 0..SESSIONS {
+        let s = l.sessions[k];
+        if !session_sound(l, k, s, authorized) {
+            return false;
+        }
+    }
+    true
+}
+
+// ---- the line
+
+// The set has numbers below n alone.
+fn below(set: u64, n: u8) -> bool
+    ensures { λ r. ⌜ r ≡ ltb set (2 ^ n) ⌝ }
+{
+    if n < 64 {
+        return set < (1 << n);
+    }
+    true
+}
+
+// The line is sound.
+pub fn sound(l: Line, roles: u8, authorized: u64, xs: Exclusions) -> bool
+    requires { ⌜ xs .count ≤ 32 ⌝ }
+    ensures { λ r. ⌜ ((m : Meaning) → Held roles authorized xs m → r ≡ soundBy 4 m l) ⌝ }
+{
+    let opened = below(l.opened, SESSIONS as u8);
+    let history = below(l.history, roles);
+    let sessions = sessions_sound(l, authorized);
+    opened & history & sessions & exclusions_met(l, xs)
+}

@@ -1,0 +1,313 @@
+-- What holds of a policy whose image is accepted: every number is in its range, and every limit of the register is kept.
+-- Assumes nothing.
+use mathlib.Core.Path.{_≡_, refl, sym, ap, _∙_, subst}
+use mathlib.Core.Bool.{Bool, true, false, _&&_, not, true≢false}
+use mathlib.Core.List.{List, [], _∷_, _++_}
+use Prim.Native.Nat.{ℕ, zero, suc, _+_, _^_, _≤_, _<_, zero-le}
+use native.Mathlib.Nat.{zero-add, lt-of-lt-of-le}
+use native.Mathlib.Omega.{arith}
+use lib.Pow.{pow-pos, pow-lt, pow-mono}
+use lib.Bits.{or-lt}
+use lib.Dec.{ltb, leb}
+use lib.ListN.{length, getD, set, take, replicate}
+use borrow.Author.Tests.{ltb-true, leb-true, leb-false}
+use Rattle.model.specs.declared.Head.{Head}
+use Rattle.model.specs.declared.Exclusion.{Exclusion}
+use Rattle.model.specs.declared.Entry.{Entry}
+use Rattle.model.specs.declared.Entry.the-variants.{Assignment, Grant, Senior, Exclude, Member, End, Unknown}
+use Rattle.model.specs.declared.Scan.{Scan}
+use Rattle.model.specs.declared.Checked.{Checked}
+use Rattle.model.specs.declared.Checked.the-variants.{Accepted, Refused}
+use Rattle.model.specs.Tests.{between}
+use Rattle.model.specs.Sets.{has, with, count}
+use Rattle.model.specs.Image.{wordAt, behindHead, inRange, repeats, crowds, assigning, next, scan, headOf, headRight, lengthRight, emptyRows, start, judge, field, isKind}
+use Rattle.model.specs.Policy.{entriesOf, granting, ordering, fold, joining, withMembers, exclusionsOf, policyOf}
+use Rattle.model.specs.Ranges.{Each, OneTo, ExclusionInRange, TableInRange, RowsBelow, InRange}
+use Rattle.model.proofs.Bools.{and-l, and-r, not-both}
+use Rattle.model.proofs.SetLaws.{count-with, with-member}
+use Rattle.model.proofs.TableLaws.{set-keeps, getD-filled, count-empty, put-in-range, put-below, fold-keeps}
+use Rattle.model.proofs.UnionLaws.{has-none}
+use Rattle.model.proofs.Scanned.{Fine, Valid, Judged, scan-judged}
+
+-- ---- the tables
+
+-- a table in range, its rows as sets and as numbers
+abbrev Table : ℕ → ℕ → List ℕ → Type 0
+Table m n rows = TableInRange m n rows × RowsBelow n rows
+
+-- an empty table is in range
+empty-table : (m n : ℕ) → Table m n emptyRows
+unfolding emptyRows
+empty-table m n = (
+  (λ i j e. not-both (has (getD (replicate 64 0) i 0) j) e (ap (λ (s : ℕ). has s j) (getD-filled 0 64 i) ∙ has-none j)),
+  (λ i. subst (λ (s : ℕ). s < 2 ^ n) (sym (getD-filled 0 64 i)) (pow-pos n)),
+)
+
+-- in an empty table nobody has a role
+few-none : (u : ℕ) → count 64 (getD emptyRows u 0) ≤ 16
+unfolding emptyRows
+few-none u = subst (λ (n : ℕ). n ≤ 16) (sym (ap (count 64) (getD-filled 0 64 u) ∙ count-empty 64)) zero-le
+
+-- a member put in where both numbers are in range
+put-keeps : (m n : ℕ) (rows : List ℕ) (i k : ℕ) → (ltb i m && ltb k n) ≡ true → Table m n rows
+    → Table m n (set rows i (with (getD rows i 0) k))
+put-keeps m n rows i k e t =
+    let a = ltb-true i m (and-l (ltb i m) (ltb k n) e) in
+    let b = ltb-true k n (and-r (ltb i m) (ltb k n) e) in
+    (put-in-range rows i k m n (t .0) a b, put-below rows i k n (t .1) b)
+
+module _ (h : Head) where
+  -- an assignment in range keeps the table of roles by user in range
+  assigning-keeps : (rows : List ℕ) (e : Entry) → inRange h e ≡ true → Table (h .users) (h .roles) rows
+      → Table (h .users) (h .roles) (assigning rows e)
+  unfolding assigning inRange
+  assigning-keeps rows (Assignment u r) e t = put-keeps (h .users) (h .roles) rows (u .0) (r .0) e t
+  assigning-keeps rows (Grant r p) e t = t
+  assigning-keeps rows (Senior a b) e t = t
+  assigning-keeps rows (Exclude x m) e t = t
+  assigning-keeps rows (Member r) e t = t
+  assigning-keeps rows End e t = t
+  assigning-keeps rows Unknown e t = t
+
+  -- a grant in range keeps the table of permissions by role in range
+  granting-keeps : (rows : List ℕ) (e : Entry) → inRange h e ≡ true → Table (h .roles) (h .permissions) rows
+      → Table (h .roles) (h .permissions) (granting rows e)
+  unfolding granting inRange
+  granting-keeps rows (Assignment u r) e t = t
+  granting-keeps rows (Grant r p) e t = put-keeps (h .roles) (h .permissions) rows (r .0) (p .0) e t
+  granting-keeps rows (Senior a b) e t = t
+  granting-keeps rows (Exclude x m) e t = t
+  granting-keeps rows (Member r) e t = t
+  granting-keeps rows End e t = t
+  granting-keeps rows Unknown e t = t
+
+  -- a senior word in range keeps the table of juniors by role in range
+  ordering-keeps : (rows : List ℕ) (e : Entry) → inRange h e ≡ true → Table (h .roles) (h .roles) rows
+      → Table (h .roles) (h .roles) (ordering rows e)
+  unfolding ordering inRange
+  ordering-keeps rows (Assignment u r) e t = t
+  ordering-keeps rows (Grant r p) e t = t
+  ordering-keeps rows (Senior a b) e t = put-keeps (h .roles) (h .roles) rows (a .0) (b .0) e t
+  ordering-keeps rows (Exclude x m) e t = t
+  ordering-keeps rows (Member r) e t = t
+  ordering-keeps rows End e t = t
+  ordering-keeps rows Unknown e t = t
+
+  -- valid entries are in range
+  ranges : (rows : List ℕ) (t : Scan) (es : List Entry) → Valid h rows t es → Each (λ e. inRange h e ≡ true) es
+  ranges rows t [] v = tt
+  ranges rows t (e ∷ es) v = (v .0 .range, ranges (assigning rows e) (next t e) es (v .1))
+
+-- ---- at most 16 roles for a user, at most 32 exclusions
+abbrev Few : List ℕ → Type 0
+Few rows = (u : ℕ) → count 64 (getD rows u 0) ≤ 16
+
+-- not crowded: a further role leaves room for it
+not-crowded : (a b : Bool) → (not a && b) ≡ false → a ≡ false → b ≡ false
+not-crowded true b e z = absurd (true≢false z)
+not-crowded false b e z = e
+
+module _ (h : Head) (small : h .roles ≤ 64) where
+  -- a role again, or one more where there is room
+  few-with : (row r : ℕ) → row < 2 ^ h .roles → r < h .roles → (not (has row r) && leb 16 (count 64 row)) ≡ false → count 64 row ≤ 16
+      → count 64 (with row r) ≤ 16
+  few-with row r b l e f = go (has row r) refl
+    where
+      go : (x : Bool) → has row r ≡ x → count 64 (with row r) ≤ 16
+      go true p =
+          subst (λ (s : ℕ). count 64 s ≤ 16) (sym (with-member 64 row r (lt-of-lt-of-le b (pow-mono small)) (lt-of-lt-of-le l small) p)) f
+      go false p =
+          let q = leb-false 16 (count 64 row) (not-crowded (has row r) (leb 16 (count 64 row)) e p) in
+          subst (λ (n : ℕ). n ≤ 16) (sym (count-with 64 row r (lt-of-lt-of-le l small) p)) q
+
+  -- an entry that does not crowd leaves every user at most 16 roles
+  few-step : (rows : List ℕ) (t : Scan) (e : Entry) → Fine h rows t e → Table (h .users) (h .roles) rows → Few rows
+      → Few (assigning rows e)
+  unfolding assigning inRange crowds
+  few-step rows t (Assignment u r) f b k =
+      set-keeps (λ (i s : ℕ). count 64 s ≤ 16) rows (u .0) (with (getD rows (u .0) 0) (r .0)) k
+      (few-with (getD rows (u .0) 0) (r .0) (b .1 (u .0)) (ltb-true (r .0) (h .roles) (and-r (ltb (u .0) (h .users)) (ltb (r .0) (h .roles)) (f .range)))
+      (f .room) (k (u .0)))
+  few-step rows t (Grant r p) f b k = k
+  few-step rows t (Senior a b) f c k = k
+  few-step rows t (Exclude x m) f b k = k
+  few-step rows t (Member r) f b k = k
+  few-step rows t End f b k = k
+  few-step rows t Unknown f b k = k
+
+  -- so do valid entries, one after the other
+  few-kept : (rows : List ℕ) (t : Scan) (es : List Entry) → Valid h rows t es → Table (h .users) (h .roles) rows → Few rows
+      → Few (fold assigning rows es)
+  unfolding fold
+  few-kept rows t [] v b k = k
+  few-kept rows t (e ∷ es) v b k =
+      few-kept (assigning rows e) (next t e) es (v .1) (assigning-keeps h rows e (v .0 .range) b) (few-step rows t e (v .0) b k)
+
+  -- the exclusions so far and those to come are at most 32
+  few-exclusions : (rows : List ℕ) (t : Scan) (es : List Entry) → Valid h rows t es → t .exclusions ≤ 32
+      → t .exclusions + length (exclusionsOf es) ≤ 32
+  unfolding exclusionsOf next crowds
+  few-exclusions rows t [] v k = omega arith
+  few-exclusions rows t (Assignment u r ∷ es) v k = few-exclusions (assigning rows (Assignment u r)) t es (v .1) k
+  few-exclusions rows t (Grant r p ∷ es) v k = few-exclusions (assigning rows (Grant r p)) t es (v .1) k
+  few-exclusions rows t (Senior a b ∷ es) v k = few-exclusions (assigning rows (Senior a b)) t es (v .1) k
+  few-exclusions rows t (Exclude x m ∷ es) v k =
+      let q = leb-false 32 (t .exclusions) (v .0 .room) in
+      omega (arith, q, few-exclusions (assigning rows (Exclude x m)) (next t (Exclude x m)) es (v .1) (omega (arith, q)))
+  few-exclusions rows t (Member r ∷ es) v k = few-exclusions (assigning rows (Member r)) (next t (Member r)) es (v .1) k
+  few-exclusions rows t (End ∷ es) v k = few-exclusions (assigning rows End) t es (v .1) k
+  few-exclusions rows t (Unknown ∷ es) v k = few-exclusions (assigning rows Unknown) t es (v .1) k
+
+  -- ---- where d members are due, the next d entries are different members, none of them had yet
+  members-due : (d : ℕ) (rows : List ℕ) (t : Scan) (es : List Entry) → t .due ≡ d → Valid h rows t es → t .members < 2 ^ h .roles
+      → (count 64 (fold joining (t .members) (take d es)) ≡ count 64 (t .members) + d)
+      × (fold joining (t .members) (take d es) < 2 ^ h .roles)
+  unfolding fold joining next inRange repeats
+  members-due zero rows t es q v b = (omega arith, b)
+  members-due (suc d) rows t [] q v b = absurd (omega arith)
+  members-due (suc d) rows t (Assignment u r ∷ es) q v b = absurd (omega (arith, v .0 .turn))
+  members-due (suc d) rows t (Grant r p ∷ es) q v b = absurd (omega (arith, v .0 .turn))
+  members-due (suc d) rows t (Senior a c ∷ es) q v b = absurd (omega (arith, v .0 .turn))
+  members-due (suc d) rows t (Exclude x m ∷ es) q v b = absurd (omega (arith, v .0 .turn))
+  members-due (suc d) rows t (Member r ∷ es) q v b =
+      let l : r .0 < h .roles = ltb-true (r .0) (h .roles) (v .0 .range) in
+      let ih = members-due d (assigning rows (Member r)) (next t (Member r)) es (omega arith) (v .1) (or-lt (h .roles) (t .members) (2 ^ r .0) b (pow-lt l)) in
+      (ih .0 ∙ ap (λ (n : ℕ). n + d) (count-with 64 (t .members) (r .0) (lt-of-lt-of-le l small) (v .0 .fresh)) ∙ omega arith, ih .1)
+  members-due (suc d) rows t (End ∷ es) q v b = absurd (omega (arith, v .0 .turn))
+  members-due (suc d) rows t (Unknown ∷ es) q v b = absurd (v .0 .turn)
+
+  -- an exclusion word is followed by as many different members as it says
+  module _ (rows : List ℕ) (t : Scan) (x : Exclusion) (m : ℕ) (es : List Entry) (v : Valid h rows t (Exclude x m ∷ es)) where
+    -- their number is m, and each of them is a role
+    due-members : (count 64 (withMembers x (take m es) .members) ≡ m) × (withMembers x (take m es) .members < 2 ^ h .roles)
+    unfolding withMembers next
+    due-members =
+        let k = members-due m (assigning rows (Exclude x m)) (next t (Exclude x m)) es refl (v .1) (pow-pos (h .roles)) in
+        subst (λ (s : ℕ). (count 64 (fold joining s (take m es)) ≡ m) × (fold joining s (take m es) < 2 ^ h .roles)) (sym (v .0 .plain))
+        (k .0 ∙ ap (λ (n : ℕ). n + m) (count-empty 64) ∙ zero-add m, k .1)
+
+    -- the exclusion with its members is in range
+    exclusion-in-range : ExclusionInRange (h .roles) (withMembers x (take m es))
+    unfolding inRange withMembers
+    exclusion-in-range =
+        let a = leb 1 m in
+        let b = leb m (h .roles) in
+        let c = leb 1 (x .limit) in
+        let d = leb (x .limit) m in
+        let g = v .0 .range in
+        let n = sym (due-members .0) in
+        record {
+          size = subst (OneTo (h .roles)) n (leb-true 1 m (and-l a b (and-l (a && b) (c && d) g)), leb-true m (h .roles) (and-r a b (and-l (a && b) (c && d) g)));
+          limit = subst (λ (k : ℕ). OneTo k (x .limit)) n (leb-true 1 (x .limit) (and-l c d (and-r (a && b) (c && d) g)), leb-true (x .limit) m (and-r c d (and-r (a && b) (c && d) g)));
+          members = due-members .1;
+        }
+
+  -- so is each exclusion of valid entries
+  exclusions-in-range : (rows : List ℕ) (t : Scan) (es : List Entry) → Valid h rows t es → Each (ExclusionInRange (h .roles)) (exclusionsOf es)
+  unfolding exclusionsOf
+  exclusions-in-range rows t [] v = tt
+  exclusions-in-range rows t (Assignment u r ∷ es) v = exclusions-in-range (assigning rows (Assignment u r)) (next t (Assignment u r)) es (v .1)
+  exclusions-in-range rows t (Grant r p ∷ es) v = exclusions-in-range (assigning rows (Grant r p)) (next t (Grant r p)) es (v .1)
+  exclusions-in-range rows t (Senior a b ∷ es) v = exclusions-in-range (assigning rows (Senior a b)) (next t (Senior a b)) es (v .1)
+  exclusions-in-range rows t (Exclude x m ∷ es) v =
+      (exclusion-in-range rows t x m es v, exclusions-in-range (assigning rows (Exclude x m)) (next t (Exclude x m)) es (v .1))
+  exclusions-in-range rows t (Member r ∷ es) v = exclusions-in-range (assigning rows (Member r)) (next t (Member r)) es (v .1)
+  exclusions-in-range rows t (End ∷ es) v = exclusions-in-range (assigning rows End) (next t End) es (v .1)
+  exclusions-in-range rows t (Unknown ∷ es) v = exclusions-in-range (assigning rows Unknown) (next t Unknown) es (v .1)
+
+  -- the same behind any entries before the exclusion word
+  due-behind : (before : List Entry) (rows : List ℕ) (t : Scan) (x : Exclusion) (m : ℕ) (es : List Entry)
+      → Valid h rows t (before ++ (Exclude x m ∷ es)) → count 64 (withMembers x (take m es) .members) ≡ m
+  due-behind [] rows t x m es v = due-members rows t x m es v .0
+  due-behind (e ∷ before) rows t x m es v = due-behind before (assigning rows e) (next t e) x m es (v .1)
+
+-- ---- an accepted image: its head is right, and its entries are valid from the start
+abbrev Known : List ℕ → Checked → Type 0
+Known s (Accepted k) =
+    (headRight (wordAt s 0) ≡ true) × Valid (headOf (wordAt s 0)) emptyRows start (entriesOf s) × (headOf (wordAt s 0) ≡ k)
+Known s (Refused n place) = Unit {0}
+
+-- what the scan says of the entries, with the test of the head
+known-by : (s : List ℕ) (v : Checked) → headRight (wordAt s 0) ≡ true → Judged (headOf (wordAt s 0)) emptyRows start (entriesOf s) v
+    → Known s v
+known-by s (Accepted k) e j = (e, j .0, j .1)
+known-by s (Refused n place) e j = tt
+
+-- by the tests of the length and the head
+known : (s : List ℕ) → Known s (judge s)
+unfolding judge entriesOf start
+known s = go (lengthRight (length s)) (headRight (wordAt s 0)) refl
+  where
+    rest : Checked
+    rest = scan s (headOf (wordAt s 0)) (behindHead s) 1 emptyRows start (wordAt s 0)
+
+    go : (a b : Bool) → headRight (wordAt s 0) ≡ b
+        → Known s (elim a [ false ↦ Refused 1 0 | true ↦ elim b [ false ↦ Refused 2 0 | true ↦ rest ] ])
+    go false b e = tt
+    go true false e = tt
+    go true true e =
+        known-by s rest e (scan-judged s (headOf (wordAt s 0)) (behindHead s) 1 emptyRows start (wordAt s 0) (λ _. refl))
+
+-- the tests of a right head
+head-tests : (k a b c d : Bool) → (k && a && b && c && d) ≡ true → (a ≡ true) × (b ≡ true) × (c ≡ true)
+head-tests k a b c d e =
+    let f = and-l (k && a && b && c) d e in
+    let g = and-l (k && a && b) c f in
+    (and-r k a (and-l (k && a) b g), and-r (k && a) b g, and-r (k && a && b) c f)
+
+-- a test of a range, as the range
+one-to : (n b : ℕ) → between 1 n b ≡ true → OneTo b n
+one-to n b e = (leb-true 1 n (and-l (leb 1 n) (leb n b) e), leb-true n b (and-r (leb 1 n) (leb n b) e))
+
+module _ (s : List ℕ) (h : Head) (accepted : judge s ≡ Accepted h) where
+  -- what is known of this image
+  facts : Known s (Accepted h)
+  facts = subst (Known s) accepted (known s)
+
+  -- its numbers of users, roles and permissions
+  head-in-range : OneTo 64 (policyOf s .head .users) × OneTo 64 (policyOf s .head .roles) × OneTo 256 (policyOf s .head .permissions)
+  unfolding policyOf headOf headRight
+  head-in-range =
+      let w = wordAt s 0 in
+      let t = head-tests (isKind w 1) (between 1 (field w 21 7) 64) (between 1 (field w 14 7) 64) (between 1 (field w 5 9) 256) _ (facts .0) in
+      (one-to (field w 21 7) 64 (t .0), one-to (field w 14 7) 64 (t .1), one-to (field w 5 9) 256 (t .2))
+
+  -- the policy's head is the one that the image is accepted with
+  pub accepted-head : policyOf s .head ≡ h
+  unfolding policyOf
+  accepted-head = facts .2
+
+  -- the policy of an accepted image is in range
+  pub accepted-in-range : InRange (policyOf s)
+  unfolding policyOf
+  accepted-in-range =
+      let k = headOf (wordAt s 0) in
+      let v = facts .1 in
+      let small = head-in-range .1 .1 in
+      let r = ranges k emptyRows start (entriesOf s) v in
+      let Q : Entry → Type 0 = λ e. inRange k e ≡ true in
+      let a = fold-keeps assigning Q (Table (k .users) (k .roles)) (assigning-keeps k) (entriesOf s) r emptyRows (empty-table (k .users) (k .roles)) in
+      let g = fold-keeps granting Q (Table (k .roles) (k .permissions)) (granting-keeps k) (entriesOf s) r emptyRows (empty-table (k .roles) (k .permissions)) in
+      let j = fold-keeps ordering Q (Table (k .roles) (k .roles)) (ordering-keeps k) (entriesOf s) r emptyRows (empty-table (k .roles) (k .roles)) in
+      record {
+        users = head-in-range .0;
+        roles = head-in-range .1;
+        permissions = head-in-range .2;
+        assigned = a .0;
+        granted = g .0;
+        juniors = j .0;
+        assigned-rows = a .1;
+        granted-rows = g .1;
+        junior-rows = j .1;
+        few-roles = few-kept k small emptyRows start (entriesOf s) v (empty-table (k .users) (k .roles)) few-none;
+        few-exclusions = unfold start in (subst (λ (n : ℕ). n ≤ 32) (zero-add (length (exclusionsOf (entriesOf s)))) (few-exclusions k small emptyRows start (entriesOf s) v zero-le));
+        exclusions = exclusions-in-range k small emptyRows start (entriesOf s) v;
+      }
+
+  -- an exclusion word with m is followed by m member words that name m different roles
+  pub accepted-members : (before : List Entry) (x : Exclusion) (m : ℕ) (after : List Entry) → entriesOf s ≡ before ++ (Exclude x m ∷ after)
+      → count 64 (withMembers x (take m after) .members) ≡ m
+  unfolding policyOf
+  accepted-members before x m after e =
+      due-behind (headOf (wordAt s 0)) (head-in-range .1 .1) before emptyRows start x m after
+      (subst (Valid (headOf (wordAt s 0)) emptyRows start) e (facts .1))

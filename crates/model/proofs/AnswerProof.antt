@@ -1,0 +1,108 @@
+-- The answer buffer of a call keeps its length: an answer fills nothing, or 40 bytes of a buffer that was tested to have 40.
+-- Assumes nothing.
+use mathlib.Core.Path.{_≡_, refl, sym, ap, _∙_}
+use mathlib.Core.Logic.{_⊎_, inl, inr}
+use mathlib.Core.Bool.{Bool, true, false, not}
+use mathlib.Core.Option.{Option, none, some}
+use mathlib.Core.List.{List, [], _∷_, _++_}
+use Prim.Native.Nat.{ℕ, suc, _*_}
+use native.Mathlib.Omega.{arith}
+use lib.Dec.{eqb, ltb}
+use lib.ListN.{length}
+use borrow.Author.Tests.{eqb-true, not-false}
+use Rattle.model.specs.declared.Checked.{Checked}
+use Rattle.model.specs.declared.Checked.the-variants.{Accepted, Refused}
+use Rattle.model.specs.Tests.{pick, first}
+use Rattle.model.specs.Image.{judge}
+use Rattle.model.specs.Policy.{Policy, Meaning, policyOf, meaning}
+use Rattle.model.specs.Line.{lineSize, readLine}
+use Rattle.model.specs.Session.{Operation, open-session, close-session, ask, short-ask, show, sessionOf, queryOf, Reply, refuse, done, Refusal, bad-line, bad-session, is-closed, bad-set, bad-permission, bad-bounds, bad-aim, bad-room, no-set, canGive, applies, perform, unless, rule}
+use Rattle.model.specs.Run.{Call, lineAt, ruled, stepOn, stepBy, step, filledWith, answered}
+use Rattle.model.specs.Frames.{AnswerKeepsLength}
+use Rattle.model.proofs.CallLaws.{first-none}
+use Rattle.model.proofs.FramesProof.{step-frame}
+
+-- where none of a list passes the test, none of it behind some others does
+later : (f : Refusal → Bool) (xs : List Refusal) (x : Refusal) (ys : List Refusal) → first f (xs ++ (x ∷ ys)) ≡ none → f x ≡ false
+later f [] x ys e = first-none f x ys e .0
+later f (y ∷ xs) x ys e = later f xs x ys (first-none f y (xs ++ (x ∷ ys)) e .1)
+
+-- an answer fills nothing, or the buffer of the call has 40 bytes
+abbrev Roomy : Operation → Reply → Type 0
+Roomy op r = (r .filled ≡ []) ⊎ (queryOf op .room ≡ 40)
+
+-- ---- the session rules
+module _ (W : ℕ) (m : Meaning) (bs : List ℕ) where
+  -- the refusals whose case holds
+  abbrev tests : Operation → Refusal → Bool
+  tests op = applies W m (readLine W bs) (sessionOf op) (queryOf op)
+
+  -- where the room is not refused, it is 40 bytes
+  room-right : (op : Operation) → tests op bad-room ≡ false → queryOf op .room ≡ 40
+  unfolding applies
+  room-right op e = eqb-true (queryOf op .room) 40 (not-false (eqb (queryOf op .room) 40) e)
+
+  -- a call that fills can refuse the room
+  perform-roomy : (op : Operation) → first (tests op) (canGive op) ≡ none → Roomy op (perform W m (readLine W bs) bs op .reply)
+  unfolding perform done canGive
+  perform-roomy open-session e = inl refl
+  perform-roomy (close-session k) e = inl refl
+  perform-roomy (ask k q) e =
+      inr
+      (room-right (ask k q)
+      (later (tests (ask k q)) (bad-line ∷ bad-session ∷ is-closed ∷ bad-set ∷ bad-permission ∷ bad-bounds ∷ bad-aim ∷ []) bad-room (no-set ∷ []) e))
+  perform-roomy (short-ask k lower upper room) e =
+      inr
+      (room-right (short-ask k lower upper room)
+      (later (tests (short-ask k lower upper room)) (bad-line ∷ bad-session ∷ is-closed ∷ bad-set ∷ bad-permission ∷ bad-bounds ∷ [])
+      bad-room (no-set ∷ []) e))
+  perform-roomy (show k room) e =
+      inr
+      (room-right (show k room) (later (tests (show k room)) (bad-line ∷ bad-session ∷ is-closed ∷ []) bad-room [] e))
+
+  rule-roomy : (op : Operation) → Roomy op (rule W m bs op .reply)
+  unfolding rule unless refuse
+  rule-roomy op = go (first (tests op) (canGive op)) refl
+    where
+      go : (o : Option Refusal) → first (tests op) (canGive op) ≡ o → Roomy op (unless o bs (perform W m (readLine W bs) bs op) .reply)
+      go none e = perform-roomy op e
+      go (some f) e = inl refl
+
+-- ---- a call on a ledger
+module _ (W : ℕ) (p : Policy) (l : List ℕ) (c : Call) where
+  stepOn-roomy : Roomy (c .operation) (stepOn W p l c .reply)
+  unfolding stepOn ruled pick refuse
+  stepOn-roomy = go (not (eqb (length l) (lineSize W * p .head .users))) (not (ltb (c .user) (p .head .users)))
+    where
+      go : (a b : Bool)
+          → Roomy (c .operation)
+          (pick a (record { reply = refuse 9 0; ledger = l }) (pick b (record { reply = refuse 10 0; ledger = l }) (ruled W p l c)) .reply)
+      go true b = inl refl
+      go false true = inl refl
+      go false false = rule-roomy W (meaning p (c .user)) (lineAt (lineSize W) (c .user) l) (c .operation)
+
+  stepBy-roomy : (v : Checked) → Roomy (c .operation) (stepBy W v p l c .reply)
+  unfolding stepBy refuse
+  stepBy-roomy (Accepted h) = stepOn-roomy
+  stepBy-roomy (Refused n place) = inl refl
+
+-- a buffer that is left alone, or filled with as many bytes, keeps its length
+filled-length : (buffer fs : List ℕ) → (fs ≡ []) ⊎ (length fs ≡ length buffer) → length (filledWith buffer fs) ≡ length buffer
+unfolding filledWith
+filled-length buffer [] h = refl
+filled-length buffer (b ∷ bs) (inl e) = let z : suc (length bs) ≡ 0 = ap length e in absurd (omega arith)
+filled-length buffer (b ∷ bs) (inr e) = e
+
+-- A call leaves an answer buffer of the same length.
+pub answer-keeps-length : (W : ℕ) → AnswerKeepsLength W
+unfolding answered
+answer-keeps-length W image ledger c buffer h =
+    filled-length buffer (r .filled) (go (step-frame W image ledger c .filled) (unfold step in stepBy-roomy W (policyOf image) ledger c (judge image)))
+  where
+    r : Reply
+    r = step W image ledger c .reply
+
+    go : (r .filled ≡ []) ⊎ (length (r .filled) ≡ 40) → Roomy (c .operation) r → (r .filled ≡ []) ⊎ (length (r .filled) ≡ length buffer)
+    go (inl e) q = inl e
+    go (inr e) (inl q) = inl q
+    go (inr e) (inr q) = inr (e ∙ sym q ∙ sym h)

@@ -1,0 +1,212 @@
+-- The closed table of seniority holds exactly the roles that chains of senior words reach, the carried table exactly what a role
+-- carries, and the union of its rows exactly what a set of roles carries.
+-- Assumes nothing.
+use mathlib.Core.Path.{_≡_, refl, sym, ap, _∙_, subst}
+use mathlib.Core.Logic.{_⊎_, inl, inr, _↔_}
+use mathlib.Core.Bool.{Bool, true, false, _&&_, _||_, or-false}
+use mathlib.Core.List.{List, [], _∷_, _++_}
+use Prim.Native.Nat.{ℕ, zero, suc, _^_, _≤_, _<_}
+use native.Mathlib.Nat.{lt-of-lt-of-le}
+use native.Mathlib.Decide.{decLt}
+use native.Mathlib.Omega.{arith}
+use lib.Dec.{eqb}
+use lib.ListN.{getD, length, List·getD-map, length-append, List·getD-append, List·getD-eq-default}
+use lib.Seq.{getD-at}
+use borrow.Author.Tests.{eqb-true, eq-eqb}
+use Rattle.model.specs.Tests.{pick}
+use Rattle.model.specs.Sets.{has, union, with, unionAt}
+use Rattle.model.specs.Policy.{Policy, taking, through, closed, tableOf, selfAndJuniors, reached, carriedTable}
+use Rattle.model.specs.Chains.{over, grants, Chain, here, step, Carries, Provides}
+use Rattle.model.proofs.Bools.{and-l, and-r, both, or-l, or-r, or-cases, not-both}
+use Rattle.model.proofs.SetLaws.{has-union, has-with}
+use Rattle.model.proofs.UnionLaws.{has-none, has-below, below-or-last, has-unionAt, unionAt-none}
+
+-- ---- a table made row by row
+-- its number of rows
+pub length-tableOf : (n : ℕ) (f : ℕ → ℕ) → length (tableOf n f) ≡ n
+unfolding tableOf
+length-tableOf zero f = refl
+length-tableOf (suc n) f = length-append (tableOf n f) (f n ∷ []) ∙ omega (arith, length-tableOf n f)
+
+-- its row i
+pub getD-tableOf : (n : ℕ) (f : ℕ → ℕ) (i : ℕ) → i < n → getD (tableOf n f) i 0 ≡ f i
+unfolding tableOf
+getD-tableOf zero f i h = absurd (omega arith)
+getD-tableOf (suc n) f i h = go (below-or-last i n h) (getD-tableOf n f i)
+  where
+    go : (i < n) ⊎ (i ≡ n) → (i < n → getD (tableOf n f) i 0 ≡ f i) → getD (tableOf n f ++ (f n ∷ [])) i 0 ≡ f i
+    go (inl k) ih = List·getD-append (tableOf n f) (f n ∷ []) 0 i (omega (arith, length-tableOf n f)) ∙ ih k
+    go (inr k) ih = getD-at (tableOf n f) (f n) [] 0 i (length-tableOf n f ∙ sym k) ∙ ap f (sym k)
+
+-- ---- one pass of the closure: row i takes in row k where it has k
+-- a row that takes in another where it has k
+has-taking : (k other row j : ℕ) → has (taking k other row) j ≡ (has row j || (has row k && has other j))
+unfolding taking pick
+has-taking k other row j = go (has row k)
+  where
+    go : (b : Bool) → has (pick b (union row other) row) j ≡ (has row j || (b && has other j))
+    go true = has-union row other j
+    go false = sym (or-false (has row j))
+
+-- the empty row takes in nothing
+taking-none : (k other : ℕ) → taking k other 0 ≡ 0
+unfolding taking pick
+taking-none k other = ap (λ (b : Bool). pick b (union 0 other) 0) (has-none k)
+
+-- every row of the table after the pass
+has-through : (k : ℕ) (rows : List ℕ) (i j : ℕ)
+    → has (getD (through k rows) i 0) j ≡ (has (getD rows i 0) j || (has (getD rows i 0) k && has (getD rows k 0) j))
+unfolding through
+has-through k rows i j =
+    ap (λ (x : ℕ). has x j)
+    (ap (λ (d : ℕ). getD (through k rows) i d) (sym (taking-none k (getD rows k 0))) ∙ List·getD-map (taking k (getD rows k 0)) rows i 0)
+    ∙ has-taking k (getD rows k 0) (getD rows i 0) j
+
+-- ---- Warshall's closure of a table: after the passes below n it is transitive through every role below n
+module _ (rows : List ℕ) where
+  -- row i holds j after the passes below k
+  at : ℕ → ℕ → ℕ → Bool
+  at k i j = has (getD (closed k rows) i 0) j
+
+  -- pass k
+  at-suc : (k i j : ℕ) → at (suc k) i j ≡ (at k i j || (at k i k && at k k j))
+  unfolding at closed
+  at-suc k i j = has-through k (closed k rows) i j
+
+  -- what pass k leaves was there before it, or goes by k
+  at-cases : (k i j : ℕ) → at (suc k) i j ≡ true → (at k i j ≡ true) ⊎ ((at k i k ≡ true) × (at k k j ≡ true))
+  at-cases k i j e =
+      elim (or-cases (at k i j) (at k i k && at k k j) (sym (at-suc k i j) ∙ e))
+      [ inl h ↦ inl h | inr h ↦ inr (and-l (at k i k) (at k k j) h, and-r (at k i k) (at k k j) h) ]
+
+  -- what was there stays
+  at-old : (k i j : ℕ) → at k i j ≡ true → at (suc k) i j ≡ true
+  at-old k i j e = at-suc k i j ∙ or-l (at k i j) (at k i k && at k k j) e
+
+  -- what goes by k comes in
+  at-new : (k i j : ℕ) → at k i k ≡ true → at k k j ≡ true → at (suc k) i j ≡ true
+  at-new k i j e f = at-suc k i j ∙ or-r (at k i j) (at k i k && at k k j) (both (at k i k) (at k k j) e f)
+
+  -- pass k adds nothing to what reaches k and to what k reaches
+  to-pass : (k i : ℕ) → at (suc k) i k ≡ true → at k i k ≡ true
+  to-pass k i e = elim (at-cases k i k e) [ inl h ↦ h | inr h ↦ h .0 ]
+
+  from-pass : (k j : ℕ) → at (suc k) k j ≡ true → at k k j ≡ true
+  from-pass k j e = elim (at-cases k k j e) [ inl h ↦ h | inr h ↦ h .1 ]
+
+  -- two steps by a role below k are one
+  at-trans : (k i m j : ℕ) → m < k → at k i m ≡ true → at k m j ≡ true → at k i j ≡ true
+  at-trans zero i m j h e f = absurd (omega arith)
+  at-trans (suc k) i m j h e f = go (below-or-last m k h) (λ a b c. at-trans k a m b c)
+    where
+      go : (m < k) ⊎ (m ≡ k) → ((a b : ℕ) → m < k → at k a m ≡ true → at k m b ≡ true → at k a b ≡ true) → at (suc k) i j ≡ true
+      go (inl q) ih = cases (at-cases k i m e) (at-cases k m j f)
+        where
+          cases : (at k i m ≡ true) ⊎ ((at k i k ≡ true) × (at k k m ≡ true)) → (at k m j ≡ true) ⊎ ((at k m k ≡ true) × (at k k j ≡ true))
+              → at (suc k) i j ≡ true
+          cases (inl a) (inl b) = at-old k i j (ih i j q a b)
+          cases (inl a) (inr (b, c)) = at-new k i j (ih i k q a b) c
+          cases (inr (a, b)) (inl c) = at-new k i j a (ih k j q b c)
+          cases (inr (a, b)) (inr (c, d)) = at-new k i j a d
+      go (inr q) ih =
+          at-new k i j (to-pass k i (subst (λ (x : ℕ). at (suc k) i x ≡ true) q e)) (from-pass k j (subst (λ (x : ℕ). at (suc k) x j ≡ true) q f))
+
+  -- what the table held at first stays
+  at-first : (k i j : ℕ) → at zero i j ≡ true → at k i j ≡ true
+  at-first zero i j e = e
+  at-first (suc k) i j e = at-old k i j (at-first k i j e)
+
+-- ---- chains
+-- two chains, one behind the other
+pub join : {p : Policy} {a b c : ℕ} → Chain p a b → Chain p b c → Chain p a c
+join here q = q
+join (step e c) q = step e (join c q)
+
+-- ---- the tables of a policy whose senior words name roles below R, where R is at most 64
+module _ (p : Policy) (few : p .head .roles ≤ 64)
+    (below : (a b : ℕ) → over p a b ≡ true → (a < p .head .roles) × (b < p .head .roles)) where
+  -- a chain from a role below 64 stays below 64
+  chain-below : {a b : ℕ} → a < 64 → Chain p a b → b < 64
+  chain-below h here = h
+  chain-below h (step {a} {b} e c) = chain-below (lt-of-lt-of-le (below a b e .1) few) c
+
+  -- before the first pass a row holds its own role and the direct juniors
+  first-at : (i j : ℕ) → i < 64 → at (selfAndJuniors (p .juniors)) zero i j ≡ (over p i j || eqb j i)
+  unfolding at closed selfAndJuniors over
+  first-at i j h =
+      ap (λ (x : ℕ). has x j) (getD-tableOf 64 (λ a. with (getD (p .juniors) a 0) a) i h) ∙ has-with (getD (p .juniors) i 0) i j
+
+  -- beyond the 64 rows there is nothing
+  first-none : (i j : ℕ) → 64 ≤ i → at (selfAndJuniors (p .juniors)) zero i j ≡ false
+  unfolding at closed selfAndJuniors
+  first-none i j h =
+      ap (λ (x : ℕ). has x j)
+      (List·getD-eq-default (selfAndJuniors (p .juniors)) 0 (rw length-tableOf h)) ∙ has-none j
+
+  -- what a row holds at first is reached by a chain of at most one senior word
+  first-chain : (i j : ℕ) → at (selfAndJuniors (p .juniors)) zero i j ≡ true → Chain p i j
+  first-chain i j e =
+      elim (decLt i 64) [
+        | yes h ↦
+            elim (or-cases (over p i j) (eqb j i) (sym (first-at i j h) ∙ e))
+            [ inl q ↦ step q here | inr q ↦ subst (λ (x : ℕ). Chain p i x) (sym (eqb-true j i q)) here ]
+        | no h ↦ not-both (at (selfAndJuniors (p .juniors)) zero i j) e (first-none i j (omega arith))
+      ]
+
+  -- what a row holds after the passes below k is reached by a chain
+  at-chain : (k i j : ℕ) → at (selfAndJuniors (p .juniors)) k i j ≡ true → Chain p i j
+  at-chain zero i j e = first-chain i j e
+  at-chain (suc k) i j e =
+      elim (at-cases (selfAndJuniors (p .juniors)) k i j e)
+      [ inl h ↦ at-chain k i j h | inr h ↦ join (at-chain k i k (h .0)) (at-chain k k j (h .1)) ]
+
+  -- what a chain reaches is held after the passes below R
+  chain-at : {i j : ℕ} → i < 64 → Chain p i j → at (selfAndJuniors (p .juniors)) (p .head .roles) i j ≡ true
+  chain-at {i} h here =
+      at-first (selfAndJuniors (p .juniors)) (p .head .roles) i i (first-at i i h ∙ or-r (over p i i) (eqb i i) (eq-eqb i i refl))
+  chain-at {i} {j} h (step {b = b} e c) =
+      let k = below i b e .1 in
+      at-trans (selfAndJuniors (p .juniors)) (p .head .roles) i b j k
+      (at-first (selfAndJuniors (p .juniors)) (p .head .roles) i b (first-at i b h ∙ or-l (over p i b) (eqb b i) e))
+      (chain-at (lt-of-lt-of-le k few) c)
+
+  -- a row of the closed table holds the roles that chains reach
+  pub reached-is : (a b : ℕ) → a < 64 → (has (getD (reached p) a 0) b ≡ true) ↔ Chain p a b
+  unfolding reached at
+  reached-is a b h = (at-chain (p .head .roles) a b, chain-at h)
+
+  -- row a of the carried table joins the grants of the roles reached from a
+  carried-at : (a : ℕ) → getD (carriedTable p) a 0 ≡ unionAt (p .granted) (getD (reached p) a 0)
+  unfolding carriedTable
+  carried-at a =
+      ap (λ (d : ℕ). getD (carriedTable p) a d) (sym (unionAt-none (p .granted))) ∙ List·getD-map (unionAt (p .granted)) (reached p) a 0
+
+  -- a row of the carried table holds what the role carries
+  pub carried-is : (a m : ℕ) → a < 64 → (has (getD (carriedTable p) a 0) m ≡ true) ↔ Carries p a m
+  unfolding grants
+  carried-is a m h = (
+    λ e.
+        let w = has-unionAt (p .granted) (getD (reached p) a 0) m .0 (ap (λ (x : ℕ). has x m) (sym (carried-at a)) ∙ e) in
+        record { giver = w .member; chain = reached-is a (w .member) h .0 (w .chosen); grant = w .holds },
+    λ c.
+        ap (λ (x : ℕ). has x m) (carried-at a)
+        ∙ has-unionAt (p .granted) (getD (reached p) a 0) m .1
+        (record {
+          member = c .giver;
+          below = chain-below h (c .chain);
+          chosen = reached-is a (c .giver) h .1 (c .chain);
+          holds = c .grant;
+        }),
+  )
+
+  -- the union of the carried table's rows at a set of roles holds what the set carries
+  pub provided-is : (s m : ℕ) → s < 2 ^ 64 → (has (unionAt (carriedTable p) s) m ≡ true) ↔ Provides p s m
+  provided-is s m h = (
+    λ e.
+        let w = has-unionAt (carriedTable p) s m .0 e in
+        record { member = w .member; chosen = w .chosen; carries = carried-is (w .member) m (w .below) .0 (w .holds) },
+    λ c.
+        let l = has-below 64 s (c .member) h (c .chosen) in
+        has-unionAt (carriedTable p) s m .1
+        (record { member = c .member; below = l; chosen = c .chosen; holds = carried-is (c .member) m l .1 (c .carries) }),
+  )

@@ -1,0 +1,144 @@
+-- What a call leaves alone of a ledger: all but its user's line, and all of it where the call is refused or a show.
+-- Assumes nothing.
+use mathlib.Core.Path.{_≡_, refl, ap, ap₂, _∙_}
+use mathlib.Core.Logic.{_⊎_, inl, inr}
+use mathlib.Core.Bool.{Bool, true, false, not}
+use mathlib.Core.Option.{Option, none, some}
+use mathlib.Core.List.{List, []}
+use Prim.Native.Nat.{ℕ, _+_, _*_, _<_}
+use lib.Dec.{eqb, ltb}
+use lib.ListN.{length, length-append}
+use borrow.Author.Tests.{eqb-true, ltb-true}
+use Rattle.model.specs.declared.Line.{Line}
+use Rattle.model.specs.declared.Checked.{Checked}
+use Rattle.model.specs.declared.Checked.the-variants.{Accepted, Refused}
+use Rattle.model.specs.Tests.{pick}
+use Rattle.model.specs.Bytes.{bytesOf}
+use Rattle.model.specs.Image.{judge}
+use Rattle.model.specs.Policy.{Policy, Meaning, policyOf, meaning}
+use Rattle.model.specs.Line.{lineSize, readLine}
+use Rattle.model.specs.Session.{Operation, open-session, close-session, ask, short-ask, show, refuse, done, given, Refusal, Result, asked, perform, unless, rule}
+use Rattle.model.specs.Run.{Call, lineAt, withLine, ruled, stepOn, stepBy, step, showBy}
+use Rattle.model.specs.Frames.{Frame, StepFrame, ShowKeeps}
+use Rattle.model.proofs.LineLaws.{unless-part, length-bytesOf}
+use Rattle.model.proofs.LedgerLaws.{patch-outside, apart, withLine-length, own-line, new-length}
+
+-- ---- what the session rules answer
+
+-- a refused call keeps the line and fills nothing; a done one fills nothing or 40 bytes
+record Quiet (bs : List ℕ) (r : Result) : Type 0 where
+  line : ¬ (r .reply .number ≡ 0) → r .line ≡ bs
+  filled : ¬ (r .reply .number ≡ 0) → r .reply .filled ≡ []
+  room : (r .reply .filled ≡ []) ⊎ (length (r .reply .filled) ≡ 40)
+
+-- the three sorts of answer: done, refused, done with roles and permissions
+done-quiet : (bs after : List ℕ) (x : ℕ) → Quiet bs (record { reply = done x; line = after })
+unfolding done
+done-quiet bs after x = record { line = λ h. absurd (h refl); filled = λ h. absurd (h refl); room = inl refl }
+
+refuse-quiet : (bs : List ℕ) (n x : ℕ) → Quiet bs (record { reply = refuse n x; line = bs })
+unfolding refuse
+refuse-quiet bs n x = record { line = λ h. refl; filled = λ h. refl; room = inl refl }
+
+given-quiet : (bs after : List ℕ) (roles permissions : ℕ) → Quiet bs (record { reply = given roles permissions; line = after })
+unfolding given
+given-quiet bs after roles permissions =
+    record {
+      line = λ h. absurd (h refl);
+      filled = λ h. absurd (h refl);
+      room = inr (length-append (bytesOf 8 roles) (bytesOf 32 permissions) ∙ ap₂ _+_ (length-bytesOf 8 roles) (length-bytesOf 32 permissions));
+    }
+
+-- an ask, any call that nothing refuses, and any call
+module _ (W : ℕ) (m : Meaning) (bs : List ℕ) where
+  asked-quiet : (l : Line) (k : ℕ) (o : Option ℕ) → Quiet bs (asked m l bs k o)
+  unfolding asked
+  asked-quiet l k none = refuse-quiet bs 20 0
+  asked-quiet l k (some s) = given-quiet bs _ _ _
+
+  perform-quiet : (l : Line) (op : Operation) → Quiet bs (perform W m l bs op)
+  unfolding perform
+  perform-quiet l open-session = done-quiet bs _ _
+  perform-quiet l (close-session k) = done-quiet bs _ _
+  perform-quiet l (ask k q) = asked-quiet l k _
+  perform-quiet l (short-ask k lower upper room) = asked-quiet l k _
+  perform-quiet l (show k room) = given-quiet bs _ _ _
+
+  unless-quiet : (o : Option Refusal) (r : Result) → Quiet bs r → Quiet bs (unless o bs r)
+  unfolding unless
+  unless-quiet none r h = h
+  unless-quiet (some f) r h = refuse-quiet bs _ 0
+
+  rule-quiet : (op : Operation) → Quiet bs (rule W m bs op)
+  unfolding rule
+  rule-quiet op = unless-quiet _ _ (perform-quiet (readLine W bs) op)
+
+-- ---- a call on a ledger
+
+-- a call that the session rules do not see
+refuse-frame : (z u : ℕ) (l : List ℕ) (n x : ℕ) → Frame z u l (record { reply = refuse n x; ledger = l })
+unfolding refuse
+refuse-frame z u l n x =
+    record { keeps-length = refl; outside = λ i h. refl; refused-ledger = λ h. refl; refused-filled = λ h. refl; filled = inl refl }
+
+-- a user with a line, under an accepted policy, under a judged image
+module _ (W : ℕ) (p : Policy) (l : List ℕ) (c : Call) where
+  ruled-frame : length l ≡ lineSize W * p .head .users → c .user < p .head .users → Frame (lineSize W) (c .user) l (ruled W p l c)
+  unfolding ruled
+  ruled-frame hl hu =
+      let z = lineSize W in
+      let u = c .user in
+      let r = rule W (meaning p u) (lineAt z u l) (c .operation) in
+      let q = rule-quiet W (meaning p u) (lineAt z u l) (c .operation) in
+      let n = new-length W p l hl c hu in
+      record {
+        keeps-length = withLine-length z u (p .head .users) (r .line) l n hl hu;
+        outside = λ i h. unfold withLine in patch-outside (z * u) z (r .line) l n (rw hl (apart z u (p .head .users) hu)) i 0 h;
+        refused-ledger = λ h. ap (λ (x : List ℕ). withLine z u x l) (q .line h) ∙ own-line z u l;
+        refused-filled = q .filled;
+        filled = q .room;
+      }
+
+  stepOn-frame : Frame (lineSize W) (c .user) l (stepOn W p l c)
+  unfolding stepOn pick
+  stepOn-frame = go (eqb (length l) (lineSize W * p .head .users)) refl (ltb (c .user) (p .head .users)) refl
+    where
+      go : (a : Bool) → eqb (length l) (lineSize W * p .head .users) ≡ a → (b : Bool) → ltb (c .user) (p .head .users) ≡ b
+          → Frame (lineSize W) (c .user) l
+          (pick (not a) (record { reply = refuse 9 0; ledger = l }) (pick (not b) (record { reply = refuse 10 0; ledger = l }) (ruled W p l c)))
+      go false e b f = refuse-frame (lineSize W) (c .user) l 9 0
+      go true e false f = refuse-frame (lineSize W) (c .user) l 10 0
+      go true e true f = ruled-frame (eqb-true (length l) (lineSize W * p .head .users) e) (ltb-true (c .user) (p .head .users) f)
+
+  stepBy-frame : (v : Checked) → Frame (lineSize W) (c .user) l (stepBy W v p l c)
+  unfolding stepBy
+  stepBy-frame (Accepted h) = stepOn-frame
+  stepBy-frame (Refused n place) = refuse-frame (lineSize W) (c .user) l n place
+
+-- A call changes nothing outside its user's line, and nothing at all where it is refused.
+pub step-frame : (W : ℕ) → StepFrame W
+unfolding step
+step-frame W image ledger c = stepBy-frame W (policyOf image) ledger c (judge image)
+
+-- ---- a call that keeps the line keeps the ledger
+module _ (W : ℕ) (p : Policy) (l : List ℕ) (c : Call) (keeps : (m : Meaning) (bs : List ℕ) → rule W m bs (c .operation) .line ≡ bs) where
+  stepOn-keeps : stepOn W p l c .ledger ≡ l
+  unfolding stepOn ruled pick
+  stepOn-keeps = go (not (eqb (length l) (lineSize W * p .head .users))) (not (ltb (c .user) (p .head .users)))
+    where
+      go : (a b : Bool)
+          → pick a (record { reply = refuse 9 0; ledger = l }) (pick b (record { reply = refuse 10 0; ledger = l }) (ruled W p l c)) .ledger ≡ l
+      go true b = refl
+      go false true = refl
+      go false false = ap (λ (x : List ℕ). withLine (lineSize W) (c .user) x l) (keeps _ _) ∙ own-line (lineSize W) (c .user) l
+
+  stepBy-keeps : (v : Checked) → stepBy W v p l c .ledger ≡ l
+  unfolding stepBy
+  stepBy-keeps (Accepted h) = stepOn-keeps
+  stepBy-keeps (Refused n place) = refl
+
+-- A show changes no byte of the ledger.
+pub show-keeps : (W : ℕ) → ShowKeeps W
+unfolding step rule perform showBy
+show-keeps W image ledger u k room =
+    stepBy-keeps W (policyOf image) ledger (showBy u k room) (λ m bs. unless-part bs (λ (x : List ℕ). x) _ _ refl) (judge image)

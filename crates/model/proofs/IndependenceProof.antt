@@ -1,0 +1,115 @@
+-- The independence rule, proved by induction on the calls: a call changes only the line of the user it names, and goes by that line
+-- and by the policy's meaning for that user.
+-- Assumes nothing.
+use mathlib.Core.Path.{_≡_, refl, sym, ap, ap₂, _∙_, subst}
+use mathlib.Core.Bool.{Bool, true, false}
+use mathlib.Core.List.{List, [], _∷_}
+use Prim.Native.Nat.{ℕ, _*_, _<_}
+use native.Mathlib.Nat.{lt-of-lt-of-le}
+use lib.Dec.{eqb}
+use lib.ListN.{length}
+use borrow.Author.Tests.{eqb-true, eqb-false}
+use Rattle.model.specs.declared.Head.{Head}
+use Rattle.model.specs.declared.Checked.{Checked}
+use Rattle.model.specs.declared.Checked.the-variants.{Accepted}
+use Rattle.model.specs.Image.{judge}
+use Rattle.model.specs.Policy.{Meaning, policyOf, meaning, onlyFor}
+use Rattle.model.specs.Line.{lineSize}
+use Rattle.model.specs.Session.{Result}
+use Rattle.model.specs.Run.{Call, lineAt, stepOn, stepBy, step, run}
+use Rattle.model.specs.Independence.{rules, callsOf, seenBy, Steady, no-call, own-call, other-call, SteadyFor, Run, eventsOf, viewOf, firstLine, SameFor, Independent}
+use Rattle.model.proofs.Accepted.{accepted-head, accepted-in-range}
+use Rattle.model.proofs.LedgerLaws.{step-length, step-own, step-other}
+use Rattle.model.proofs.Meanings.{agree-meaning, only-meaning}
+
+-- ---- a run under an accepted image, by induction on the calls
+module _ (W u : ℕ) (s : List ℕ) (g : Head) (e : judge s ≡ Accepted g) (hu : u < policyOf s .head .users) where
+  -- a call is judged by the ledger and the user alone
+  step-on : (l : List ℕ) (c : Call) → step W s l c ≡ stepOn W (policyOf s) l c
+  unfolding step stepBy
+  step-on l c = ap (λ (v : Checked). stepBy W v (policyOf s) l c) e
+
+  -- what u sees is what the session rules give
+  run-view : (l : List ℕ) → length l ≡ lineSize W * policyOf s .head .users → (cs : List Call)
+      → seenBy (lineSize W) u cs (run W s l cs) ≡ rules W (meaning (policyOf s) u) (lineAt (lineSize W) u l) (callsOf u cs)
+  unfolding seenBy run rules callsOf
+  run-view l hl [] = refl
+  run-view l hl (c ∷ cs) =
+      rw (step-on l c) (go (eqb (c .user) u) refl (run-view (stepOn W (policyOf s) l c .ledger) (step-length W (policyOf s) l hl c ∙ hl) cs))
+    where
+      go : (b : Bool) → eqb (c .user) u ≡ b
+          → seenBy (lineSize W) u cs (run W s (stepOn W (policyOf s) l c .ledger) cs)
+          ≡ rules W (meaning (policyOf s) u) (lineAt (lineSize W) u (stepOn W (policyOf s) l c .ledger)) (callsOf u cs)
+          → seenBy (lineSize W) u (c ∷ cs) (stepOn W (policyOf s) l c ∷ run W s (stepOn W (policyOf s) l c .ledger) cs)
+          ≡ rules W (meaning (policyOf s) u) (lineAt (lineSize W) u l) (callsOf u (c ∷ cs))
+      go true t ih =
+          let q = step-own W (policyOf s) l hl c u t hu in
+          rw (t, seenBy, callsOf)
+          (ap₂ {C = List Result} (λ (r : Result) (rs : List Result). r ∷ rs) q
+          (ih ∙ ap (λ (r : Result). rules W (meaning (policyOf s) u) (r .line) (callsOf u cs)) q))
+      go false t ih =
+          rw (t, seenBy, callsOf)
+          (ih ∙ ap (λ (x : List ℕ). rules W (meaning (policyOf s) u) x (callsOf u cs)) (step-other W (policyOf s) l hl c u t))
+
+  -- nobody else's call changes u's line
+  run-steady : (l : List ℕ) → length l ≡ lineSize W * policyOf s .head .users → (cs : List Call)
+      → Steady (lineSize W) u (lineAt (lineSize W) u l) cs (run W s l cs)
+  unfolding run
+  run-steady l hl [] = no-call
+  run-steady l hl (c ∷ cs) =
+      rw (step-on l c) (go (eqb (c .user) u) refl (run-steady (stepOn W (policyOf s) l c .ledger) (step-length W (policyOf s) l hl c ∙ hl) cs))
+    where
+      go : (b : Bool) → eqb (c .user) u ≡ b
+          → Steady (lineSize W) u (lineAt (lineSize W) u (stepOn W (policyOf s) l c .ledger)) cs (run W s (stepOn W (policyOf s) l c .ledger) cs)
+          → Steady (lineSize W) u (lineAt (lineSize W) u l) (c ∷ cs) (stepOn W (policyOf s) l c ∷ run W s (stepOn W (policyOf s) l c .ledger) cs)
+      go true t ih = own-call (eqb-true (c .user) u t) ih
+      go false t ih =
+          let q = step-other W (policyOf s) l hl c u t in
+          other-call (eqb-false (c .user) u t) q
+          (subst (λ (x : List ℕ). Steady (lineSize W) u x cs (run W s (stepOn W (policyOf s) l c .ledger) cs)) q ih)
+
+-- ---- one run
+module _ (W u : ℕ) (r : Run W) (hu : u < r .head .users) where
+  -- the run's head is its policy's
+  head-is : policyOf (r .image) .head ≡ r .head
+  head-is = accepted-head (r .image) (r .head) (r .accepted)
+
+  -- so the user has a line and the ledger fits
+  in-policy : u < policyOf (r .image) .head .users
+  in-policy = subst (λ (h : Head). u < h .users) (sym head-is) hu
+
+  fits-policy : length (r .ledger) ≡ lineSize W * policyOf (r .image) .head .users
+  fits-policy = r .fits ∙ ap (λ (h : Head). lineSize W * h .users) (sym head-is)
+
+  -- what the user sees goes by the session rules
+  view-by-rules : viewOf W u r ≡ rules W (meaning (policyOf (r .image)) u) (firstLine W u r) (callsOf u (r .calls))
+  unfolding viewOf eventsOf firstLine
+  view-by-rules = run-view W u (r .image) (r .head) (r .accepted) in-policy (r .ledger) fits-policy (r .calls)
+
+  -- nobody else's call changes the user's line
+  steady-run : SteadyFor W u r
+  unfolding eventsOf firstLine
+  steady-run = run-steady W u (r .image) (r .head) (r .accepted) in-policy (r .ledger) fits-policy (r .calls)
+
+  -- other users' assignments have no say in what the policy means for the user
+  only-means : meaning (policyOf (r .image)) u ≡ meaning (onlyFor u (policyOf (r .image))) u
+  only-means = only-meaning u (lt-of-lt-of-le hu (rw head-is at (accepted-in-range (r .image) (r .head) (r .accepted) .users .1))) (policyOf (r .image))
+
+-- ---- two runs
+
+-- The independence rule (demand 3).
+pub independence : (W u : ℕ) (r s : Run W) → SameFor W u r s → Independent W u r s
+independence W u r s h =
+    let below : u < s .head .users =
+    subst (λ (g : Head). u < g .users)
+    (sym (head-is W u r (h .below)) ∙ h .agree .heads ∙ accepted-head (s .image) (s .head) (s .accepted)) (h .below) in
+    record {
+      same =
+          view-by-rules W u r (h .below)
+          ∙ (λ i. rules W (agree-meaning u (policyOf (r .image)) (policyOf (s .image)) (h .agree) i) (h .line i) (h .calls i))
+          ∙ sym (view-by-rules W u s below);
+      by-rules =
+          view-by-rules W u r (h .below)
+          ∙ ap (λ (m : Meaning). rules W m (firstLine W u r) (callsOf u (r .calls))) (only-means W u r (h .below));
+      steady = (steady-run W u r (h .below), steady-run W u s below);
+    }

@@ -1,0 +1,120 @@
+-- Policies that agree in all but other users' assignments mean the same for the user.
+-- Assumes nothing.
+use mathlib.Core.Path.{_≡_, refl, sym, ap, _∙_}
+use mathlib.Core.Bool.{Bool, true, false, _&&_, _||_, true≢false}
+use mathlib.Core.List.{List, [], _∷_, map}
+use Prim.Native.Nat.{ℕ, _<_}
+use lib.Dec.{eqb}
+use lib.ListN.{getD}
+use borrow.Author.Tests.{eqb-true, eq-eqb}
+use Rattle.model.specs.declared.Kind.{Kind}
+use Rattle.model.specs.declared.Kind.the-variants.{SsDmer, MsDmer, SsHmer, MsHmer}
+use Rattle.model.specs.declared.Exclusion.{Exclusion}
+use Rattle.model.specs.Tests.{pick, any, all}
+use Rattle.model.specs.Sets.{unionAt}
+use Rattle.model.specs.Policy.{Policy, meaning, authorized, closed, selfAndJuniors, reached, carriedTable, met, onlyFor, kindNumber, sameExclusion, excludes, Agree}
+use Rattle.model.proofs.Bools.{and-l, and-r, or-r, bool-ext}
+use Rattle.model.proofs.Closure.{getD-tableOf}
+
+-- ---- a test of all members goes by membership alone
+module _ {A : Type 0} (same : A → A → Bool) (same-refl : (x : A) → same x x ≡ true) (same-eq : (x y : A) → same x y ≡ true → x ≡ y) where
+  -- x is one of the list, by the test
+  abbrev pub member : List A → A → Bool
+  member l x = any (λ y. same y x) l
+
+  -- a member of a list whose members all pass
+  all-at : (f : A → Bool) (l : List A) → all f l ≡ true → (x : A) → member l x ≡ true → f x ≡ true
+  unfolding all any
+  all-at f [] e x h = absurd (true≢false (sym h))
+  all-at f (y ∷ l) e x h = go (same y x) refl h (λ k. all-at f l (and-r (f y) (all f l) e) x k)
+    where
+      go : (b : Bool) → same y x ≡ b → (b || member l x) ≡ true → (member l x ≡ true → f x ≡ true) → f x ≡ true
+      go true q k ih = rw (← same-eq y x q) (and-l (f y) (all f l) e)
+      go false q k ih = ih k
+
+  -- every member passes
+  all-of : (f : A → Bool) (l : List A) → ((x : A) → member l x ≡ true → f x ≡ true) → all f l ≡ true
+  unfolding all any
+  all-of f [] h = refl
+  all-of f (y ∷ l) h = rw (h y (rw (same-refl y))) (all-of f l (λ x k. h x (or-r (same y x) (member l x) k)))
+
+  -- lists of the same members
+  pub all-same : (f : A → Bool) (l m : List A) → ((x : A) → member l x ≡ member m x) → all f l ≡ all f m
+  all-same f l m h =
+      bool-ext (all f l) (all f m) (λ e. all-of f m (λ x k. all-at f l e x (h x ∙ k))) (λ e. all-of f l (λ x k. all-at f m e x (sym (h x) ∙ k)))
+
+-- ---- exclusions
+-- kinds of the same number are the same
+kind-eq : (a b : Kind) → eqb (kindNumber a) (kindNumber b) ≡ true → a ≡ b
+unfolding kindNumber
+kind-eq SsDmer SsDmer e = refl
+kind-eq SsDmer MsDmer e = absurd (true≢false (sym e))
+kind-eq SsDmer SsHmer e = absurd (true≢false (sym e))
+kind-eq SsDmer MsHmer e = absurd (true≢false (sym e))
+kind-eq MsDmer SsDmer e = absurd (true≢false (sym e))
+kind-eq MsDmer MsDmer e = refl
+kind-eq MsDmer SsHmer e = absurd (true≢false (sym e))
+kind-eq MsDmer MsHmer e = absurd (true≢false (sym e))
+kind-eq SsHmer SsDmer e = absurd (true≢false (sym e))
+kind-eq SsHmer MsDmer e = absurd (true≢false (sym e))
+kind-eq SsHmer SsHmer e = refl
+kind-eq SsHmer MsHmer e = absurd (true≢false (sym e))
+kind-eq MsHmer SsDmer e = absurd (true≢false (sym e))
+kind-eq MsHmer MsDmer e = absurd (true≢false (sym e))
+kind-eq MsHmer SsHmer e = absurd (true≢false (sym e))
+kind-eq MsHmer MsHmer e = refl
+
+-- the test of exclusions is that of equality
+pub sameExclusion-eq : (x y : Exclusion) → sameExclusion x y ≡ true → x ≡ y
+unfolding sameExclusion
+sameExclusion-eq x y h =
+    let k = kind-eq (x .kind) (y .kind) (and-l _ _ (and-l _ _ h)) in
+    let n = eqb-true (x .limit) (y .limit) (and-r (eqb (kindNumber (x .kind)) (kindNumber (y .kind))) _ (and-l _ _ h)) in
+    let s = eqb-true (x .members) (y .members) (and-r (eqb (kindNumber (x .kind)) (kindNumber (y .kind)) && eqb (x .limit) (y .limit)) _ h) in
+    λ i. record { kind = k i; limit = n i; members = s i }
+
+pub sameExclusion-refl : (x : Exclusion) → sameExclusion x x ≡ true
+unfolding sameExclusion
+sameExclusion-refl x =
+    rw (eq-eqb (kindNumber (x .kind)) (kindNumber (x .kind)) refl, eq-eqb (x .limit) (x .limit) refl, eq-eqb (x .members) (x .members) refl)
+
+-- ---- policies that agree
+module _ (u : ℕ) (p q : Policy) (h : Agree u p q) where
+  -- the same exclusions are met
+  agree-met : (counted : Kind → ℕ) → all (met counted) (p .exclusions) ≡ all (met counted) (q .exclusions)
+  unfolding excludes
+  agree-met counted =
+      all-same sameExclusion sameExclusion-refl sameExclusion-eq (met counted) (p .exclusions) (q .exclusions) (h .exclusions)
+
+  -- the session rules see the same
+  pub agree-meaning : meaning p u ≡ meaning q u
+  unfolding meaning authorized carriedTable reached
+  agree-meaning = λ i.
+      record {
+        roles = h .heads i .roles;
+        permissions = h .heads i .permissions;
+        authorized = h .own i;
+        carried = map (unionAt (h .grants i)) (closed (h .heads i .roles) (selfAndJuniors (h .seniors i)));
+        allMet = λ counted. agree-met counted i;
+      }
+
+-- ---- the policy without other users' assignments
+module _ (u : ℕ) (small : u < 64) (p : Policy) where
+  -- it agrees with the policy
+  pub only-agree : Agree u p (onlyFor u p)
+  unfolding onlyFor excludes
+  only-agree =
+      record {
+        heads = refl;
+        own =
+            sym
+            (getD-tableOf 64 (λ v. pick (eqb v u) (getD (p .assigned) v 0) 0) u small
+            ∙ unfold pick in ap (λ (b : Bool). pick b (getD (p .assigned) u 0) 0) (eq-eqb u u refl));
+        grants = refl;
+        seniors = refl;
+        exclusions = λ x. refl;
+      }
+
+  -- and means the same for the user
+  pub only-meaning : meaning p u ≡ meaning (onlyFor u p) u
+  only-meaning = agree-meaning u p (onlyFor u p) only-agree

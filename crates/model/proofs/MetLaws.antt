@@ -1,0 +1,60 @@
+-- Exclusions and counts: fewer roles counted keep an exclusion met, and none counted meets every exclusion of a policy in range.
+-- Assumes nothing.
+use mathlib.Core.Path.{_≡_, refl, sym, ap, _∙_, subst}
+use mathlib.Core.Bool.{true}
+use mathlib.Core.List.{List, [], _∷_}
+use Prim.Native.Nat.{ℕ, _<_}
+use native.Mathlib.Nat.{lt-of-le-of-lt}
+use lib.Bits.{and-zero-r}
+use borrow.Author.Tests.{ltb-true, lt-ltb}
+use Rattle.model.specs.declared.Kind.{Kind}
+use Rattle.model.specs.declared.Exclusion.{Exclusion}
+use Rattle.model.specs.Tests.{all}
+use Rattle.model.specs.Sets.{inter, count}
+use Rattle.model.specs.Policy.{Policy, met, meaning}
+use Rattle.model.specs.Ranges.{Each, ExclusionInRange, InRange}
+use Rattle.model.specs.Kept.{Fewer, Antitone}
+use Rattle.model.proofs.Bools.{and-l, and-r, both}
+use Rattle.model.proofs.SetLaws.{count-within}
+use Rattle.model.proofs.TableLaws.{count-empty}
+use Rattle.model.proofs.Inclusion.{inter-within}
+
+module _ (f g : Kind → ℕ) (h : Fewer f g) where
+  -- fewer roles counted keep an exclusion met
+  pub met-antitone : (x : Exclusion) → met g x ≡ true → met f x ≡ true
+  unfolding met
+  met-antitone x e =
+      let a = inter (x .members) (f (x .kind)) in
+      let b = inter (x .members) (g (x .kind)) in
+      lt-ltb (count 64 a) (x .limit)
+      (lt-of-le-of-lt (count-within 64 a b (inter-within (x .members) (f (x .kind)) (g (x .kind)) (h (x .kind)))) (ltb-true (count 64 b) (x .limit) e))
+
+  -- so it is with all of them
+  all-antitone : (xs : List Exclusion) → all (met g) xs ≡ true → all (met f) xs ≡ true
+  unfolding all
+  all-antitone [] e = refl
+  all-antitone (x ∷ xs) e =
+      both (met f x) (all (met f) xs) (met-antitone x (and-l (met g x) (all (met g) xs) e)) (all-antitone xs (and-r (met g x) (all (met g) xs) e))
+
+-- for every user of every policy
+pub meaning-antitone : (p : Policy) (u : ℕ) → Antitone (meaning p u)
+unfolding meaning
+meaning-antitone p u f g h e = all-antitone f g h (p .exclusions) e
+
+-- a limit is at least 1, so an exclusion is met where nothing is counted
+met-none : (roles : ℕ) (x : Exclusion) → ExclusionInRange roles x → met (λ k. 0) x ≡ true
+unfolding met
+met-none roles x r =
+    lt-ltb (count 64 (inter (x .members) 0)) (x .limit)
+    (subst (λ (n : ℕ). n < x .limit) (sym (ap (count 64) (and-zero-r (x .members)) ∙ count-empty 64)) (r .limit .0))
+
+-- so are all of them
+all-none : (roles : ℕ) (xs : List Exclusion) → Each (ExclusionInRange roles) xs → all (met (λ k. 0)) xs ≡ true
+unfolding all
+all-none roles [] r = refl
+all-none roles (x ∷ xs) r = both (met (λ k. 0) x) (all (met (λ k. 0)) xs) (met-none roles x (r .0)) (all-none roles xs (r .1))
+
+-- for every user of a policy in range
+pub meaning-none : (p : Policy) (u : ℕ) → InRange p → meaning p u .allMet (λ k. 0) ≡ true
+unfolding meaning
+meaning-none p u r = all-none (p .head .roles) (p .exclusions) (r .exclusions)

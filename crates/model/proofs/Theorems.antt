@@ -1,0 +1,172 @@
+-- The theorems, each one claim. The arguments stand in the files that are cited; docs/PROOFS.md says which demand each one meets.
+-- Assumes nothing.
+use mathlib.Core.Path.{_≡_}
+use mathlib.Core.Logic.{_↔_}
+use mathlib.Core.Bool.{true}
+use mathlib.Core.List.{List, _∷_, _++_}
+use Prim.Native.Nat.{ℕ, _^_, _≤_, _<_}
+use native.Mathlib.Nat.{lt-of-lt-of-le}
+use lib.Pow.{pow-mono}
+use lib.ListN.{getD, length, take}
+use Rattle.model.specs.declared.Head.{Head}
+use Rattle.model.specs.declared.Exclusion.{Exclusion}
+use Rattle.model.specs.declared.Entry.{Entry}
+use Rattle.model.specs.declared.Entry.the-variants.{Exclude}
+use Rattle.model.specs.declared.Line.{Line}
+use Rattle.model.specs.declared.Checked.the-variants.{Accepted}
+use Rattle.model.specs.Tests.{all}
+use Rattle.model.specs.Sets.{has, count, unionAt}
+use Rattle.model.specs.Image.{judge}
+use Rattle.model.specs.Policy.{Policy, policyOf, entriesOf, withMembers, reached, carriedTable, authorized, meaning}
+use Rattle.model.specs.Choice.{carriedBy, admissible}
+use Rattle.model.specs.Ward.{holds, starred, settled}
+use Rattle.model.specs.Refusals.{isJudged, judgedImages}
+use Rattle.model.specs.Read.{ReadOff}
+use Rattle.model.specs.Chains.{over, Chain, Carries, Provides}
+use Rattle.model.specs.Ranges.{InRange}
+use Rattle.model.specs.Chosen.{ChoiceIs}
+use Rattle.model.specs.Conditions.{Conditions, Admitted}
+use Rattle.model.specs.Independence.{Run, SameFor, Independent}
+use Rattle.model.specs.Kept.{LineKept, RunKept}
+use Rattle.model.specs.Frames.{LineBytes, StepFrame, ShowKeeps, AnswerKeepsLength, SessionFrames}
+use Rattle.model.proofs.Cases
+use Rattle.model.proofs.Tables
+use Rattle.model.proofs.Accepted
+use Rattle.model.proofs.Closure
+use Rattle.model.proofs.AnyWidth
+use Rattle.model.proofs.Choices
+use Rattle.model.proofs.ConditionsProof
+use Rattle.model.proofs.IndependenceProof
+use Rattle.model.proofs.KeptProof
+use Rattle.model.proofs.RoundTrip
+use Rattle.model.proofs.FramesProof
+use Rattle.model.proofs.SessionFrameProof
+use Rattle.model.proofs.AnswerProof
+
+-- ---- listed cases, by computation from the bytes of images
+
+-- 01's starred cases
+pub starred-cases : all holds starred ≡ true
+starred-cases = Cases.starred-hold
+
+-- further cases on what 01 says in words
+pub settled-cases : all holds settled ≡ true
+settled-cases = Cases.settled-hold
+
+-- images with their refusals 1 to 8, each clause and each tie
+pub judged-cases : all isJudged judgedImages ≡ true
+judged-cases = Cases.judged-so
+
+-- ---- policies
+
+-- a policy is what the words of its image say
+pub read-off : (s : List ℕ) → ReadOff s
+read-off = Tables.read-off
+
+module _ (s : List ℕ) (h : Head) (accepted : judge s ≡ Accepted h) where
+  -- an accepted policy has the head's numbers, and is in range
+  pub head-is : policyOf s .head ≡ h
+  head-is = Accepted.accepted-head s h accepted
+
+  pub in-range : InRange (policyOf s)
+  in-range = Accepted.accepted-in-range s h accepted
+
+  -- an exclusion word with m is followed by member words that name m different roles
+  pub members-are-m : (before : List Entry) (x : Exclusion) (m : ℕ) (after : List Entry) → entriesOf s ≡ before ++ (Exclude x m ∷ after)
+      → count 64 (withMembers x (take m after) .members) ≡ m
+  members-are-m = Accepted.accepted-members s h accepted
+
+  few : policyOf s .head .roles ≤ 64
+  few = in-range .roles .1
+
+  below : (a b : ℕ) → over (policyOf s) a b ≡ true → (a < policyOf s .head .roles) × (b < policyOf s .head .roles)
+  unfolding over
+  below a b e = in-range .juniors a b e
+
+  -- the closed table is chains of senior words; what a role and a set of roles carry is 001's π
+  pub reached-is : (a b : ℕ) → a < 64 → (has (getD (reached (policyOf s)) a 0) b ≡ true) ↔ Chain (policyOf s) a b
+  reached-is = Closure.reached-is (policyOf s) few below
+
+  pub carried-is : (r m : ℕ) → r < 64 → (has (getD (carriedTable (policyOf s)) r 0) m ≡ true) ↔ Carries (policyOf s) r m
+  carried-is = Closure.carried-is (policyOf s) few below
+
+  -- ---- the choice: demand 2
+
+  own-below : (u : ℕ) → authorized (policyOf s) u < 2 ^ 64
+  unfolding authorized
+  own-below u = lt-of-lt-of-le (in-range .assigned-rows u) (pow-mono few)
+
+  -- the choice is the one admissible set that none is better than, and none exactly if no set is admissible
+  pub choice-is : (u : ℕ) (l : Line) (k lower upper a b : ℕ) → ChoiceIs (meaning (policyOf s) u) l k lower upper a b
+  choice-is u l k lower upper a b = Choices.choice (meaning (policyOf s) u) l k lower upper a b (unfold meaning in (own-below u))
+
+  module _ (u : ℕ) (l : Line) (k lb ub t : ℕ) (open-k : k < length (l .sessions)) where
+    -- below 2 ^ 64, what the set's roles carry is what the set provides
+    provided : t < 2 ^ 64 → (q : ℕ) → (has (carriedBy (meaning (policyOf s) u) t) q ≡ true) ↔ Provides (policyOf s) t q
+    unfolding carriedBy meaning
+    provided small q = Closure.provided-is (policyOf s) few below t q small
+
+    own-small : ((r : ℕ) → has t r ≡ true → has (authorized (policyOf s) u) r ≡ true) → t < 2 ^ 64
+    own-small own = Choices.within-below t (authorized (policyOf s) u) 64 (own-below u) (AnyWidth.within-iff t (authorized (policyOf s) u) .1 own)
+
+    admitted : Conditions (policyOf s) u l k lb ub t → Admitted (policyOf s) u l k lb ub t
+    admitted c =
+        let small = own-small (c .own) in
+        record {
+          own = c .own;
+          lower = λ q e. provided small q .0 (c .lower q e);
+          upper = λ q e. c .upper q (provided small q .1 e);
+          exclusions = c .exclusions;
+        }
+
+    conditions : Admitted (policyOf s) u l k lb ub t → Conditions (policyOf s) u l k lb ub t
+    conditions c =
+        let small = own-small (c .own) in
+        record {
+          own = c .own;
+          lower = λ q e. provided small q .1 (c .lower q e);
+          upper = λ q e. c .upper q (provided small q .0 e);
+          exclusions = c .exclusions;
+        }
+
+    -- admissible is 001's conditions 1 to 6
+    pub admissible-is : (admissible (meaning (policyOf s) u) l k lb ub t ≡ true) ↔ Admitted (policyOf s) u l k lb ub t
+    admissible-is =
+        let c = ConditionsProof.conditions (policyOf s) u l k lb ub t open-k in
+        (λ e. admitted (c .0 e), λ a. c .1 (conditions a))
+
+  -- ---- soundness is kept
+
+  -- exclusions pass to smaller counts, the zero line is sound, and every call on a sound line leaves a sound line
+  pub line-kept : (W : ℕ) → W ≤ 64 → (u : ℕ) → LineKept W (meaning (policyOf s) u)
+  line-kept W wide u = KeptProof.accepted-kept W wide s h accepted u
+
+  -- a run from the zero ledger never gives 11
+  pub run-kept : (W : ℕ) → W ≤ 64 → RunKept W s
+  run-kept W wide = KeptProof.run-kept W wide s h accepted
+
+-- ---- independence: demand 3
+
+-- two runs that are the same for a user tell that user the same, which is what the session rules give
+pub independence : (W u : ℕ) (r s : Run W) → SameFor W u r s → Independent W u r s
+independence = IndependenceProof.independence
+
+-- ---- bytes
+
+-- a line and its bytes determine each other
+pub line-bytes : (W : ℕ) → LineBytes W
+line-bytes = RoundTrip.line-bytes
+
+-- a call changes no byte outside its user's line, and a refused one no byte at all
+pub step-frame : (W : ℕ) → StepFrame W
+step-frame = FramesProof.step-frame
+
+pub show-keeps : (W : ℕ) → ShowKeeps W
+show-keeps = FramesProof.show-keeps
+
+pub answer-keeps-length : (W : ℕ) → AnswerKeepsLength W
+answer-keeps-length = AnswerProof.answer-keeps-length
+
+-- a call changes no byte of another session
+pub session-frame : (W : ℕ) → SessionFrames W
+session-frame = SessionFrameProof.session-frame

@@ -1,0 +1,139 @@
+-- The zero line is sound, and a ledger of zeros is made of zero lines.
+-- Assumes nothing.
+use mathlib.Core.Path.{_≡_, refl, sym, ap, ap₂, _∙_, subst}
+use mathlib.Core.Bool.{true}
+use mathlib.Core.List.{List, [], _∷_}
+use Prim.Native.Nat.{ℕ, zero, suc, _+_, _-_, _*_, _<_}
+use native.Mathlib.Nat.{zero-add, suc-add}
+use native.Mathlib.Omega.{arith}
+use lib.Pow.{pow-pos}
+use lib.Bits.{or-zero-l}
+use lib.ListN.{take, drop, replicate}
+use Rattle.model.specs.declared.Kind.the-variants.{SsDmer, MsDmer, SsHmer, MsHmer}
+use Rattle.model.specs.declared.Session.{Session}
+use Rattle.model.specs.declared.Line.{Line}
+use Rattle.model.specs.Bytes.{number}
+use Rattle.model.specs.Sets.{within}
+use Rattle.model.specs.Policy.{Meaning}
+use Rattle.model.specs.Line.{lineSize, readSessions, readLine, emptySession, activeIn, counted, exclusionsMet, sound}
+use Rattle.model.specs.Run.{lineAt}
+use Rattle.model.specs.Ranges.{Each}
+use Rattle.model.specs.Kept.{Fewer, Antitone, SoundBytes}
+use Rattle.model.proofs.Every.{at-all}
+use Rattle.model.proofs.TableLaws.{getD-filled}
+use Rattle.model.proofs.Inclusion.{none-within}
+use Rattle.model.proofs.SoundLaws.{SoundSession, SoundLine, empty-sound, parts-sound}
+use Rattle.model.proofs.LedgerLaws.{apart}
+
+-- ---- bytes that are all zero
+abbrev Zeros : List ℕ → Type 0
+Zeros bs = Each (λ (b : ℕ). b ≡ 0) bs
+
+-- n zeros
+zeros : (n : ℕ) → Zeros (replicate n 0)
+zeros zero = tt
+zeros (suc n) = (refl, zeros n)
+
+-- the first n of them
+zeros-take : (n : ℕ) (bs : List ℕ) → Zeros bs → Zeros (take n bs)
+zeros-take zero bs z = tt
+zeros-take (suc n) [] z = tt
+zeros-take (suc n) (b ∷ bs) z = (z .0, zeros-take n bs (z .1))
+
+-- all but the first n
+zeros-drop : (n : ℕ) (bs : List ℕ) → Zeros bs → Zeros (drop n bs)
+zeros-drop zero bs z = z
+zeros-drop (suc n) [] z = tt
+zeros-drop (suc n) (b ∷ bs) z = zeros-drop n bs (z .1)
+
+-- zeros make the number zero
+number-zeros : (bs : List ℕ) → Zeros bs → number bs ≡ 0
+unfolding number
+number-zeros [] z = refl
+number-zeros (b ∷ bs) z = omega (arith, z .0, number-zeros bs (z .1))
+
+-- the number of the first eight, and of the eight behind them
+first-zero : (bs : List ℕ) → Zeros bs → number (take 8 bs) ≡ 0
+first-zero bs z = number-zeros (take 8 bs) (zeros-take 8 bs z)
+
+second-zero : (bs : List ℕ) → Zeros bs → number (take 8 (drop 8 bs)) ≡ 0
+second-zero bs z = first-zero (drop 8 bs) (zeros-drop 8 bs z)
+
+-- zeros are read as empty sessions
+sessions-zero : (W : ℕ) (bs : List ℕ) → Zeros bs → readSessions W bs ≡ replicate W emptySession
+unfolding readSessions emptySession
+sessions-zero zero bs z = refl
+sessions-zero (suc W) bs z =
+    ap₂ {C = List Session} (λ (s : Session) (ss : List Session). s ∷ ss)
+    (λ i. record { active = first-zero bs z i; history = second-zero bs z i }) (sessions-zero W (drop 16 bs) (zeros-drop 16 bs z))
+
+-- ---- the line without an open session, a role or a history
+emptyLine : ℕ → Line
+emptyLine W = record { opened = 0; history = 0; sessions = replicate W emptySession }
+
+-- and as that line
+line-zero : (W : ℕ) (bs : List ℕ) → Zeros bs → readLine W bs ≡ emptyLine W
+unfolding readLine emptyLine
+line-zero W bs z = λ i. record { opened = first-zero bs z i; history = second-zero bs z i; sessions = sessions-zero W (drop 16 bs) (zeros-drop 16 bs z) i }
+
+-- no role is active in it
+none-active : (W : ℕ) → activeIn (replicate W emptySession) ≡ 0
+unfolding activeIn emptySession
+none-active zero = refl
+none-active (suc W) = or-zero-l (activeIn (replicate W emptySession)) ∙ none-active W
+
+module _ (W : ℕ) (m : Meaning) (anti : Antitone m) (none : m .allMet (λ k. 0) ≡ true) where
+  -- no kind of exclusion counts a role in it
+  none-counted : Fewer (counted (emptyLine W) emptySession) (λ k. 0)
+  unfolding counted emptyLine emptySession
+  none-counted SsDmer = none-within 0
+  none-counted MsDmer = subst (λ (s : ℕ). within s 0 ≡ true) (sym (none-active W)) (none-within 0)
+  none-counted SsHmer = none-within 0
+  none-counted MsHmer = none-within 0
+
+  -- every exclusion is met in it
+  empty-met : exclusionsMet m (emptyLine W) ≡ true
+  unfolding exclusionsMet emptyLine
+  empty-met =
+      at-all (λ s. m .allMet (counted (emptyLine W) s)) (replicate W emptySession) emptySession
+      (λ j i. subst (λ (s : Session). m .allMet (counted (emptyLine W) s) ≡ true) (sym (getD-filled emptySession W j))
+      (anti (counted (emptyLine W) emptySession) (λ k. 0) none-counted none))
+
+  -- it is sound
+  empty-line : SoundLine W m (emptyLine W)
+  unfolding emptyLine
+  empty-line =
+      record {
+        opened = pow-pos W;
+        history = pow-pos (m .roles);
+        each = λ j. subst (SoundSession m (emptyLine W) j) (sym (getD-filled emptySession W j)) (empty-sound m (emptyLine W) j);
+        met = empty-met;
+      }
+
+  -- the zero line is sound
+  pub zero-sound : SoundBytes W m (replicate (lineSize W) 0)
+  zero-sound =
+      subst (λ (l : Line). sound W m l ≡ true) (sym (line-zero W (replicate (lineSize W) 0) (zeros (lineSize W))))
+      (parts-sound m (emptyLine W) W empty-line)
+
+-- ---- the lines of a ledger of zeros
+
+-- k zeros taken off k and n
+drop-filled : (k n : ℕ) → drop k (replicate {A = ℕ} (k + n) 0) ≡ replicate n 0
+drop-filled zero n = ap (λ (x : ℕ). replicate x 0) (zero-add n)
+drop-filled (suc k) n = ap (λ (x : ℕ). drop (suc k) (replicate x 0)) (suc-add k n) ∙ drop-filled k n
+
+-- the first k of k and n
+take-filled : (k n : ℕ) → take k (replicate {A = ℕ} (k + n) 0) ≡ replicate k 0
+take-filled zero n = refl
+take-filled (suc k) n = ap (λ (x : ℕ). take (suc k) (replicate x 0)) (suc-add k n) ∙ ap (λ (bs : List ℕ). 0 ∷ bs) (take-filled k n)
+
+-- each user's line is a zero line
+pub zero-lines : (z u n : ℕ) → u < n → lineAt z u (replicate (z * n) 0) ≡ replicate z 0
+unfolding lineAt
+zero-lines z u n h =
+    let a = apart z u n h in
+    let e : z * n ≡ z * u + (z + (z * n - (z * u + z))) = omega arith in
+    ap (λ (x : ℕ). take z (drop (z * u) (replicate x 0))) e
+    ∙ ap (take z) (drop-filled (z * u) (z + (z * n - (z * u + z))))
+    ∙ take-filled z (z * n - (z * u + z))

@@ -1,0 +1,89 @@
+-- The independence rule: what a user sees of a run, what the session rules give that user, and the claim that these are the same,
+-- whatever the other users' assignments, lines and calls are.
+-- Assumes nothing.
+use mathlib.Core.Path.{_≡_}
+use mathlib.Core.Bool.{true, false}
+use mathlib.Core.List.{List, [], _∷_}
+use Prim.Native.Nat.{ℕ, _*_, _<_}
+use lib.Dec.{eqb}
+use lib.ListN.{length}
+use Rattle.model.specs.declared.Head.{Head}
+use Rattle.model.specs.declared.Checked.the-variants.{Accepted}
+use Rattle.model.specs.Image.{judge}
+use Rattle.model.specs.Policy.{Meaning, policyOf, meaning, onlyFor, Agree}
+use Rattle.model.specs.Line.{lineSize}
+use Rattle.model.specs.Session.{Operation, Result, rule}
+use Rattle.model.specs.Run.{Call, Event, lineAt, run}
+
+-- ---- the session rules alone
+
+-- the session rules over a list of one user's calls, each on the line that the one before left: every answer, with the line after it
+unfoldable pub rules : ℕ → Meaning → List ℕ → List Operation → List Result
+rules W m bs [] = []
+rules W m bs (o ∷ os) = let r = rule W m bs o in r ∷ rules W m (r .line) os
+
+-- ---- a run
+
+-- a run: an accepted image, a ledger of the fitting length, and calls by anybody
+pub record Run (W : ℕ) : Type 0 where
+  pub image : List ℕ
+  pub head : Head
+  pub accepted : judge image ≡ Accepted head
+  pub ledger : List ℕ
+  pub fits : length ledger ≡ lineSize W * head .users
+  pub calls : List Call
+
+-- the answers of a run, each with the ledger after it
+unfoldable pub eventsOf : (W : ℕ) → Run W → List Event
+eventsOf W r = run W (r .image) (r .ledger) (r .calls)
+
+-- ---- one user's part of a run
+
+-- the calls of user u, all others struck out
+unfoldable pub callsOf : ℕ → List Call → List Operation
+callsOf u [] = []
+callsOf u (c ∷ cs) = elim (eqb (c .user) u) [ true ↦ c .operation ∷ callsOf u cs | false ↦ callsOf u cs ]
+
+-- the answers at u's calls, each with u's line after it
+unfoldable pub seenBy : ℕ → ℕ → List Call → List Event → List Result
+seenBy z u [] es = []
+seenBy z u (c ∷ cs) [] = []
+seenBy z u (c ∷ cs) (e ∷ es) =
+    elim (eqb (c .user) u) [ true ↦ record { reply = e .reply; line = lineAt z u (e .ledger) } ∷ seenBy z u cs es | false ↦ seenBy z u cs es ]
+
+-- what user u sees of a run: number, extra and filled bytes of each answer, and the line after it
+unfoldable pub viewOf : (W u : ℕ) → Run W → List Result
+viewOf W u r = seenBy (lineSize W) u (r .calls) (eventsOf W r)
+
+-- the line of user u before the first call
+unfoldable pub firstLine : (W u : ℕ) → Run W → List ℕ
+firstLine W u r = lineAt (lineSize W) u (r .ledger)
+
+-- No call of another user changes the line of user u, which is bs before the first of the calls.
+pub data Steady (z u : ℕ) : List ℕ → List Call → List Event → Type 0 where
+  no-call : {bs : List ℕ} → Steady z u bs [] []
+  own-call : {bs : List ℕ} {c : Call} {cs : List Call} {e : Event} {es : List Event} → c .user ≡ u
+      → Steady z u (lineAt z u (e .ledger)) cs es → Steady z u bs (c ∷ cs) (e ∷ es)
+  other-call : {bs : List ℕ} {c : Call} {cs : List Call} {e : Event} {es : List Event} → ¬ (c .user ≡ u) → lineAt z u (e .ledger) ≡ bs
+      → Steady z u bs cs es → Steady z u bs (c ∷ cs) (e ∷ es)
+
+-- no call of another user changes u's line in the run
+abbrev pub SteadyFor : (W u : ℕ) → Run W → Type 0
+SteadyFor W u r = Steady (lineSize W) u (firstLine W u r) (r .calls) (eventsOf W r)
+
+-- ---- the claim
+
+-- two runs that are the same for user u, who has a line: the policies agree in all but other users' assignments, the first ledgers
+-- agree in u's line, and u makes the same calls in the same order
+pub record SameFor (W u : ℕ) (r s : Run W) : Type 0 where
+  pub agree : Agree u (policyOf (r .image)) (policyOf (s .image))
+  pub below : u < r .head .users
+  pub line : firstLine W u r ≡ firstLine W u s
+  pub calls : callsOf u (r .calls) ≡ callsOf u (s .calls)
+
+-- user u sees the same in both runs, and it is what the session rules give from u's own policy, first line and calls; nobody else's
+-- call changes u's line
+pub record Independent (W u : ℕ) (r s : Run W) : Type 0 where
+  pub same : viewOf W u r ≡ viewOf W u s
+  pub by-rules : viewOf W u r ≡ rules W (meaning (onlyFor u (policyOf (r .image))) u) (firstLine W u r) (callsOf u (r .calls))
+  pub steady : SteadyFor W u r × SteadyFor W u s

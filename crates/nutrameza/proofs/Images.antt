@@ -1,0 +1,53 @@
+-- A call by its image: the tables that a pass over it fills, and the call under a refused and under an accepted one.
+-- Assumes nothing.
+use mathlib.Core.Path.{_≡_, refl, sym, ap, subst, _∙_}
+use mathlib.Core.List.{List, map}
+use Prim.Native.Nat.{ℕ, _≤_}
+use lib.ListN.{replicate}
+use Rattle.model.specs.declared.Head.{Head}
+use Rattle.model.specs.declared.Exclusions.{Exclusions}
+use Rattle.model.specs.declared.Checked.the-variants.{Accepted, Refused}
+use Rattle.model.specs.Image.{emptyRows, judge, checkNumber}
+use Rattle.model.specs.Policy.{policyOf}
+use Rattle.model.specs.Session.{refuse}
+use Rattle.model.specs.Run.{Call, Event, stepOn, step, returned, filledWith, answered}
+use Rattle.model.proofs.HeadLaws.{accepted-head}
+use Rattle.sets.specs.Words.{value, values}
+use Rattle.image.specs.Tables.{Fresh, Tables}
+use Rattle.nutrameza.specs.Calls.{Known, Gives, Shows}
+use Rattle.nutrameza.proofs.FirstSteps.{step-accepted, step-refused}
+
+-- tables of zeros are fresh
+pub fresh : Fresh (replicate 64 0) (values (replicate 64 (replicate 4 0))) (replicate 64 0)
+unfolding emptyRows values value
+fresh = record { assigned-none = refl; granted-none = refl; juniors-none = refl }
+
+-- an accepted image's tables are known
+pub known-of : (s : List ℕ) (h : Head) (assigned granted juniors : List ℕ) (xs : Exclusions) → judge s ≡ Accepted h
+    → Tables (policyOf s) assigned granted juniors xs → Known h assigned xs (policyOf s)
+known-of s h assigned granted juniors xs e t =
+    record { head-is = accepted-head s h e; assigned-is = t .assigned-is; exclusions-are = t .exclusions-are }
+
+module _ (W : ℕ) (s ledger : List ℕ) (c : Call) where
+  -- a refused image ends the call there
+  pub gives-judged : (n place r : ℕ) → judge s ≡ Refused n place → r ≡ checkNumber (Refused n place) → Gives (step W s ledger c) r ledger
+  unfolding checkNumber returned refuse
+  gives-judged n place r e q =
+      let h = step-refused W s ledger c n place e in
+      record { number = q ∙ sym (ap (λ (x : Event). returned (x .reply)) h); bytes = sym (ap (λ (x : Event). x .ledger) h) }
+
+  pub shows-judged : (n place r : ℕ) (room : List ℕ) → judge s ≡ Refused n place → r ≡ checkNumber (Refused n place)
+      → Shows (step W s ledger c) r room room
+  unfolding checkNumber returned refuse answered filledWith
+  shows-judged n place r room e q =
+      let h = step-refused W s ledger c n place e in
+      record { number = q ∙ sym (ap (λ (x : Event). returned (x .reply)) h); buffer = sym (ap (λ (x : Event). answered room (x .reply)) h) }
+
+  -- under an accepted one it goes by the policy
+  pub gives-accepted : (h : Head) (n : ℕ) (after : List ℕ) → judge s ≡ Accepted h → Gives (stepOn W (policyOf s) ledger c) n after
+      → Gives (step W s ledger c) n after
+  gives-accepted h n after e g = subst (λ (x : Event). Gives x n after) (sym (step-accepted W s ledger c h e)) g
+
+  pub shows-accepted : (h : Head) (n : ℕ) (room answer : List ℕ) → judge s ≡ Accepted h
+      → Shows (stepOn W (policyOf s) ledger c) n room answer → Shows (step W s ledger c) n room answer
+  shows-accepted h n room answer e g = subst (λ (x : Event). Shows x n room answer) (sym (step-accepted W s ledger c h e)) g

@@ -1,0 +1,47 @@
+-- A call under an accepted policy: what code holds of the policy, the refusals that every call on a line can give first, and what a
+-- host gets.
+-- Assumes nothing.
+use mathlib.Core.Path.{_≡_}
+use mathlib.Core.Bool.{not}
+use mathlib.Core.List.{List, []}
+use Prim.Native.Nat.{ℕ, _*_}
+use lib.Dec.{eqb, ltb}
+use lib.ListN.{length, take}
+use Rattle.model.specs.declared.Head.{Head}
+use Rattle.model.specs.declared.Exclusions.{Exclusions}
+use Rattle.model.specs.declared.Line.{Line}
+use Rattle.model.specs.Tests.{pick}
+use Rattle.model.specs.Policy.{Policy, meaning}
+use Rattle.model.specs.Line.{lineSize, readLine, sound}
+use Rattle.model.specs.Run.{lineAt, Event, returned, answered}
+
+-- the head, the table of assigned roles and the exclusions are those of the policy
+pub record Known (head : Head) (assigned : List ℕ) (xs : Exclusions) (p : Policy) : Type 0 where
+  pub head-is : p .head ≡ head
+  pub assigned-is : assigned ≡ p .assigned
+  pub exclusions-are : take (xs .count) (xs .list) ≡ p .exclusions
+
+-- the policy that has these parts and no other
+unfoldable pub policyBy : Head → List ℕ → Exclusions → Policy
+policyBy head assigned xs =
+    record { head = head; assigned = assigned; granted = []; juniors = []; exclusions = take (xs .count) (xs .list) }
+
+-- the line of user u
+unfoldable pub lineOf : ℕ → List ℕ → ℕ → Line
+lineOf W ledger u = readLine W (lineAt (lineSize W) u ledger)
+
+-- 9 for a ledger that does not fit, 10 for a user without a line, 11 for a line that is not sound, else 0
+unfoldable pub firstRefusal : ℕ → Policy → List ℕ → ℕ → ℕ
+firstRefusal W p ledger u =
+    pick (not (eqb (length ledger) (lineSize W * p .head .users))) 9
+    (pick (not (ltb u (p .head .users))) 10 (pick (not (sound W (meaning p u) (lineOf W ledger u))) 11 0))
+
+-- the number returned and the ledger after the call are the event's
+pub record Gives (e : Event) (n : ℕ) (ledger : List ℕ) : Type 0 where
+  pub number : n ≡ returned (e .reply)
+  pub bytes : ledger ≡ e .ledger
+
+-- the number returned and the answer buffer after the call are the event's; the room is the buffer before
+pub record Shows (e : Event) (n : ℕ) (room answer : List ℕ) : Type 0 where
+  pub number : n ≡ returned (e .reply)
+  pub buffer : answer ≡ answered room (e .reply)

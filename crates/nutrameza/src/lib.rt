@@ -1,0 +1,58 @@
+// The calls of the session kit, as a C host makes them: numbers are u64, a slice is a pointer and a length, and the answer is a number
+// plus 256 times an extra. No call requires anything of its arguments.
+pub mod close; // close.rt: a session closed
+pub mod first; // first.rt: the refusals that every call on a line can give first
+pub mod open; // open.rt: a session opened
+
+ghost use mathlib.Core.Path.{_≡_};
+ghost use Rattle.model.specs.Image.{judge, checkNumber};
+ghost use Rattle.model.specs.Run.{step, openBy, closeBy, returned};
+use model::Checked;
+
+// Judges an image: 0, or the refusal's number plus 256 times the place of the refused word.
+#[no_mangle]
+pub extern "C" fn nutrameza_check(image: &[u8]) -> u64
+    ensures { λ r. ⌜ r ≡ checkNumber (judge (now (image .entry))) ⌝ }
+{
+    let c = image::check::check(image);
+    let Checked::Refused(number, place) = c else {
+        return 0;
+    };
+    (number as u64) + 256 * (place as u64)
+}
+
+// Opens the user's lowest closed session, and returns it as the extra.
+#[no_mangle]
+pub extern "C" fn nutrameza_open(image: &[u8], ledger: &mut [u8], user: u64) -> u64
+    ensures { λ r. ⌜ (r ≡ returned (step 4 (now (image .entry)) (now (ledger .entry)) (openBy user) .reply))
+        × (now (ledger .exit) ≡ step 4 (now (image .entry)) (now (ledger .entry)) (openBy user) .ledger) ⌝ }
+{
+    let mut assigned = [0u64; 64];
+    let mut granted = [[0u64; 4]; 64];
+    let mut juniors = [0u64; 64];
+    let all = image::read::read(image, &mut assigned, &mut granted, &mut juniors);
+    let c = all.checked;
+    let Checked::Accepted(head) = c else {
+        return first::refusal_of(c);
+    };
+    let xs = all.exclusions;
+    open::open_session(ledger, head, &assigned, xs, user)
+}
+
+// Closes the user's session.
+#[no_mangle]
+pub extern "C" fn nutrameza_close(image: &[u8], ledger: &mut [u8], user: u64, session: u64) -> u64
+    ensures { λ r. ⌜ (r ≡ returned (step 4 (now (image .entry)) (now (ledger .entry)) (closeBy user session) .reply))
+        × (now (ledger .exit) ≡ step 4 (now (image .entry)) (now (ledger .entry)) (closeBy user session) .ledger) ⌝ }
+{
+    let mut assigned = [0u64; 64];
+    let mut granted = [[0u64; 4]; 64];
+    let mut juniors = [0u64; 64];
+    let all = image::read::read(image, &mut assigned, &mut granted, &mut juniors);
+    let c = all.checked;
+    let Checked::Accepted(head) = c else {
+        return first::refusal_of(c);
+    };
+    let xs = all.exclusions;
+    close::close_session(ledger, head, &assigned, xs, user, session)
+}

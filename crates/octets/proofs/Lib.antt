@@ -1,0 +1,3 @@
+-- The laws of splices and of numbers in bytes.
+pub mod Splices
+pub mod Numbers

@@ -1,0 +1,15 @@
+-- `octets::word_at` meets its contract.
+-- Assumes nothing.
+use borrow.Author.Needs.{needs}
+use Rattle.model.specs.Image.{wordAt}
+use Rattle.octets.proofs.word_at.Statement.{statement}
+use Rattle.octets.proofs.word_at.Tie as tie
+
+returns : tie.Need-returns
+unfolding wordAt
+returns c = search needs
+
+pub word-at-spec : {M : Type 1} → statement M
+word-at-spec =
+    tie.close
+    (tie.spec (λ c. search needs) (λ c. search needs) (λ c. search needs) (λ c. search needs) (λ c. search needs) (λ c. search needs) (λ c. search needs) (λ c. search needs) (λ c κs. search needs) returns)

@@ -1,0 +1,157 @@
+/* A small clinic against include/nutrameza.h: two windows of one doctor under the ward's policy (01, image A).
+ *
+ *     cc -std=c99 -Wall -Wextra -Werror -Iinclude examples/host.c target/staticlib/libnutrameza.a -o host && ./host
+ *
+ * Prints what happens at each step and returns non-zero if an answer is not the paper's.
+ */
+#include "nutrameza.h"
+
+#include <inttypes.h>
+#include <stdio.h>
+#include <stdlib.h>
+#include <string.h>
+
+/* Roles: 0 Doctor, 1 Data_Manager, excluding each other over the open windows of a person. */
+static const char *const role_names[] = {"Doctor", "Data_Manager"};
+static const char *const permission_names[] = {"Read_id", "Read_health_records", "Prescribe", "Read_prescription", "Send_data"};
+
+enum { READ_ID = 1, READ_HEALTH_RECORDS = 2, SEND_DATA = 16, EVERYTHING = 31 };
+
+/* Image A of 01 as it stands there; build_image makes it from its meaning and compares. */
+static const uint32_t paper[] = {0x102080A0, 0x20000000, 0x20010000, 0x30000000, 0x30004000, 0x30008000, 0x3000C000,
+                                 0x30404000, 0x30410000, 0x54102000, 0x60000000, 0x60400000, 0xFB0B9F60};
+
+enum { WORDS = sizeof paper / sizeof paper[0], USER = 0, DOCTOR = 0, DATA_MANAGER = 1 };
+
+static uint8_t image[4 * WORDS];
+static uint8_t *ledger;
+static int wrong;
+
+/* One user with both roles; what each carries; the exclusion over the open windows; the end. */
+static void build_image(void)
+{
+    uint32_t words[WORDS];
+    words[0] = nutrameza_head_word(1, 2, 5);
+    words[1] = nutrameza_assignment_word(USER, DOCTOR);
+    words[2] = nutrameza_assignment_word(USER, DATA_MANAGER);
+    for (unsigned permission = 0; permission < 4; permission++)
+        words[3 + permission] = nutrameza_grant_word(DOCTOR, permission);
+    words[7] = nutrameza_grant_word(DATA_MANAGER, 1);
+    words[8] = nutrameza_grant_word(DATA_MANAGER, 4);
+    words[9] = nutrameza_exclusion_word(NUTRAMEZA_MS_DMER, 2, 2);
+    words[10] = nutrameza_member_word(DOCTOR);
+    words[11] = nutrameza_member_word(DATA_MANAGER);
+    words[12] = nutrameza_end_word(words, 12);
+    if (memcmp(words, paper, sizeof paper) != 0) {
+        printf("the image built differs from the paper's\n");
+        wrong = 1;
+    }
+    nutrameza_write_words(image, words, WORDS);
+}
+
+/* Says what a call answered, and holds it to the paper's number and extra. */
+static int answered(const char *what, uint64_t returned, unsigned number, uint64_t extra)
+{
+    unsigned seen = nutrameza_number_of(returned);
+    printf("%-44s %u %s", what, seen, nutrameza_word_of(seen));
+    if (nutrameza_extra_of(returned) != 0)
+        printf(" (%" PRIu64 ")", nutrameza_extra_of(returned));
+    printf("\n");
+    if (seen != number || nutrameza_extra_of(returned) != extra) {
+        printf("    the paper answers %u (%" PRIu64 ")\n", number, extra);
+        wrong = 1;
+    }
+    return seen == NUTRAMEZA_DONE;
+}
+
+/* Prints an answer's roles and permissions by name, and holds them to the paper's. */
+static void shown(const uint8_t *answer, uint8_t roles, uint8_t permissions)
+{
+    uint8_t expected[NUTRAMEZA_ANSWER_BYTES] = {0};
+    expected[0] = roles;
+    expected[NUTRAMEZA_ROLES_BYTES] = permissions;
+    printf("    roles");
+    for (unsigned role = 0; role < 2; role++)
+        if (answer[0] >> role & 1)
+            printf(" %s", role_names[role]);
+    printf("; permissions");
+    for (unsigned permission = 0; permission < 5; permission++)
+        if (answer[NUTRAMEZA_ROLES_BYTES] >> permission & 1)
+            printf(" %s", permission_names[permission]);
+    printf("\n");
+    if (memcmp(answer, expected, sizeof expected) != 0) {
+        printf("    the paper names roles %x, permissions %x\n", roles, permissions);
+        wrong = 1;
+    }
+}
+
+/* Asks for some permissions with as few as possible beside them. */
+static uint64_t ask(uint64_t session, uint8_t permissions, uint8_t *answer)
+{
+    uint8_t lower[NUTRAMEZA_SET_BYTES] = {0}, upper[NUTRAMEZA_SET_BYTES] = {0};
+    lower[0] = permissions;
+    upper[0] = EVERYTHING;
+    return nutrameza_ask(image, sizeof image, ledger, NUTRAMEZA_LINE_BYTES, USER, session, lower, sizeof lower, upper,
+                         sizeof upper, NUTRAMEZA_FEWEST, NUTRAMEZA_ANY, answer, NUTRAMEZA_ANSWER_BYTES);
+}
+
+static uint64_t show(uint64_t session, uint8_t *answer, size_t answer_len)
+{
+    return nutrameza_show(image, sizeof image, ledger, NUTRAMEZA_LINE_BYTES, USER, session, answer, answer_len);
+}
+
+/* Two windows: treating a patient in the first keeps the disclosure out of the second until the first is closed. */
+static void day(void)
+{
+    uint8_t answer[NUTRAMEZA_ANSWER_BYTES] = {0}, before[NUTRAMEZA_ANSWER_BYTES];
+
+    answered("open a window", nutrameza_open(image, sizeof image, ledger, NUTRAMEZA_LINE_BYTES, USER), NUTRAMEZA_DONE, 0);
+    if (answered("  read id and health records there", ask(0, READ_ID | READ_HEALTH_RECORDS, answer), NUTRAMEZA_DONE, 0))
+        shown(answer, 1, 0x0f);
+    answered("open a second window", nutrameza_open(image, sizeof image, ledger, NUTRAMEZA_LINE_BYTES, USER), NUTRAMEZA_DONE, 1);
+
+    memcpy(before, answer, sizeof before);
+    if (!answered("  send health records from there", ask(1, READ_HEALTH_RECORDS | SEND_DATA, answer), NUTRAMEZA_NONE, 0))
+        printf("    no role set: the first window holds Doctor, which excludes Data_Manager\n");
+    if (memcmp(before, answer, sizeof before) != 0) {
+        printf("    the refused ask touched the answer\n");
+        wrong = 1;
+    }
+    if (answered("  what is on in the first window", show(0, answer, sizeof answer), NUTRAMEZA_DONE, 0))
+        shown(answer, 1, 0x0f);
+    if (answered("  what is on in the second window", show(1, answer, sizeof answer), NUTRAMEZA_DONE, 0))
+        shown(answer, 0, 0);
+
+    answered("close the first window", nutrameza_close(image, sizeof image, ledger, NUTRAMEZA_LINE_BYTES, USER, 0),
+             NUTRAMEZA_DONE, 0);
+    if (answered("  send health records from the second", ask(1, READ_HEALTH_RECORDS | SEND_DATA, answer), NUTRAMEZA_DONE, 0))
+        shown(answer, 2, 0x12);
+    answered("show the window that is closed", show(0, answer, sizeof answer), NUTRAMEZA_CLOSED, 0);
+    answered("show into a buffer that is too small", show(1, answer, 39), NUTRAMEZA_ROOM, 0);
+    answered("open for a person beyond the policy",
+             nutrameza_open(image, sizeof image, ledger, NUTRAMEZA_LINE_BYTES, UINT64_MAX), NUTRAMEZA_PERSON, 0);
+}
+
+/* Refusals that a host meets when it loads a policy. */
+static void loading(void)
+{
+    uint8_t damaged[sizeof image];
+    memcpy(damaged, image, sizeof image);
+    damaged[4 * 9 + 2] ^= 0x18; /* n becomes 1, and the balance is off */
+    answered("check the policy", nutrameza_check(image, sizeof image), NUTRAMEZA_DONE, 0);
+    answered("check a policy with its exclusion changed", nutrameza_check(damaged, sizeof damaged), NUTRAMEZA_BALANCE, 12);
+    answered("check no policy at all", nutrameza_check(NULL, 0), NUTRAMEZA_LENGTH, 0);
+}
+
+int main(void)
+{
+    build_image();
+    ledger = calloc(1, NUTRAMEZA_LINE_BYTES);
+    if (ledger == NULL)
+        return 2;
+    loading();
+    day();
+    free(ledger);
+    printf(wrong ? "an answer differs from the paper's\n" : "every answer is the paper's\n");
+    return wrong;
+}

@@ -1,0 +1,225 @@
+/* The session kit: policy image, ledger and role choice, for hosts in C99 and later or C++.
+ *
+ * Each call takes any numbers and any buffers and either does what it is for or answers one refusal by number.
+ * A refused call changes no byte of ledger or answer. A buffer is its pointer, then its length in bytes; the
+ * pointer may be NULL where the length is 0. The host keeps to this: the buffers of a call do not overlap, one
+ * call at a time is made on a ledger, and a run's ledger is given to no call as any other buffer.
+ * docs/HOST.md says how a host uses the calls, what it persists and when.
+ */
+#ifndef NUTRAMEZA_H
+#define NUTRAMEZA_H
+
+#include <stddef.h>
+#include <stdint.h>
+
+#ifdef __cplusplus
+extern "C" {
+#endif
+
+/* Limits of a policy image. */
+#define NUTRAMEZA_MAX_USERS 64
+#define NUTRAMEZA_MAX_ROLES 64
+#define NUTRAMEZA_MAX_PERMISSIONS 256
+#define NUTRAMEZA_MAX_WORDS 4096
+#define NUTRAMEZA_WORD_BYTES 4
+#define NUTRAMEZA_MAX_IMAGE_BYTES 16384
+#define NUTRAMEZA_MAX_EXCLUSIONS 32
+#define NUTRAMEZA_MAX_USER_ROLES 16
+
+/* Sessions of a user (01: windows), numbered from 0. */
+#define NUTRAMEZA_SESSIONS 4
+
+/* Sizes in bytes: a user's line of the ledger, a permission set, an answer (roles, then permissions). */
+#define NUTRAMEZA_LINE_BYTES 80
+#define NUTRAMEZA_SET_BYTES 32
+#define NUTRAMEZA_ROLES_BYTES 8
+#define NUTRAMEZA_ANSWER_BYTES 40
+
+/* Answer numbers: done, or why a call is refused. */
+enum nutrameza_number {
+    NUTRAMEZA_DONE = 0,
+    NUTRAMEZA_LENGTH = 1,      /* image: byte count not a multiple of 4, below 8 or above 16,384 */
+    NUTRAMEZA_HEAD = 2,        /* image: first word not a head, a number outside its range, spare bits */
+    NUTRAMEZA_KIND = 3,        /* image: a word of a kind that may not stand there */
+    NUTRAMEZA_SPARE = 4,       /* image: spare bits set */
+    NUTRAMEZA_RANGE = 5,       /* image: a number not below U, R or P; an exclusion's m or n out of range */
+    NUTRAMEZA_REPEAT = 6,      /* image: a member already in this exclusion; senior equal to junior */
+    NUTRAMEZA_CROWD = 7,       /* image: a 17th different role for a user; a 33rd exclusion */
+    NUTRAMEZA_BALANCE = 8,     /* image: low 28 bits of the sum not zero */
+    NUTRAMEZA_LEDGER = 9,      /* ledger: byte count not 80 times U */
+    NUTRAMEZA_PERSON = 10,     /* user not below U */
+    NUTRAMEZA_LINE = 11,       /* this user's line not sound */
+    NUTRAMEZA_SESSION = 12,    /* session above 3 */
+    NUTRAMEZA_CLOSED = 13,     /* session not open */
+    NUTRAMEZA_FULL = 14,       /* all four sessions open */
+    NUTRAMEZA_SET = 15,        /* a bound not 32 bytes */
+    NUTRAMEZA_PERMISSION = 16, /* a bound with a permission not below P */
+    NUTRAMEZA_BOUNDS = 17,     /* lower bound not within the upper */
+    NUTRAMEZA_AIM = 18,        /* an aim above 2 */
+    NUTRAMEZA_ROOM = 19,       /* answer buffer not 40 bytes */
+    NUTRAMEZA_NONE = 20,       /* no admissible role set */
+    NUTRAMEZA_SCRIPT = 21      /* unreadable line, given by the program nutrameza_script alone */
+};
+
+/* Aims of an ask. */
+enum nutrameza_aim { NUTRAMEZA_ANY = 0, NUTRAMEZA_FEWEST = 1, NUTRAMEZA_MOST = 2 };
+
+/* What an exclusion counts: its members active in the session; in any open session of the user; in the session at
+ * any time since it was opened; in any session of the user at any time. */
+enum nutrameza_exclusion_kind {
+    NUTRAMEZA_SS_DMER = 0,
+    NUTRAMEZA_MS_DMER = 1,
+    NUTRAMEZA_SS_HMER = 2,
+    NUTRAMEZA_MS_HMER = 3
+};
+
+/* A call returns its number plus 256 times its extra: the place of the refused word for 1 to 8 (the head is
+ * place 0), the session that a done open took, else 0. */
+static inline unsigned nutrameza_number_of(uint64_t returned) { return (unsigned)(returned % 256); }
+static inline uint64_t nutrameza_extra_of(uint64_t returned) { return returned / 256; }
+
+/* The register's word for an answer number; "unknown" for one that no call gives. */
+static inline const char *nutrameza_word_of(unsigned number)
+{
+    static const char *const words[] = {
+        "done", "length", "head", "kind", "spare", "range", "repeat", "crowd", "balance", "ledger", "person",
+        "line", "session", "closed", "full", "set", "permission", "bounds", "aim", "room", "none", "script",
+    };
+    return number < sizeof words / sizeof words[0] ? words[number] : "unknown";
+}
+
+/* A permission set is 32 bytes, and permission p is bit p mod 8 of byte p div 8. This adds one; a number above 255
+ * is in no set and changes nothing. */
+static inline void nutrameza_add_permission(uint8_t *set, uint32_t permission)
+{
+    if (permission < NUTRAMEZA_MAX_PERMISSIONS)
+        set[permission / 8] = (uint8_t)(set[permission / 8] | 1u << permission % 8);
+}
+
+/* 1 if the set has the permission, else 0. */
+static inline int nutrameza_has_permission(const uint8_t *set, uint32_t permission)
+{
+    return permission < NUTRAMEZA_MAX_PERMISSIONS && (set[permission / 8] & 1u << permission % 8) != 0;
+}
+
+/* The roles of a filled answer: role r is bit r. */
+static inline uint64_t nutrameza_answer_roles(const uint8_t *answer)
+{
+    uint64_t roles = 0;
+    for (unsigned byte = NUTRAMEZA_ROLES_BYTES; byte > 0; byte--)
+        roles = roles << 8 | answer[byte - 1];
+    return roles;
+}
+
+/* The permission set of a filled answer: all that its roles carry. */
+static inline const uint8_t *nutrameza_answer_permissions(const uint8_t *answer)
+{
+    return answer + NUTRAMEZA_ROLES_BYTES;
+}
+
+/* The words of a policy image: a head, then the entries in any order, then the end. A number that does not fit its
+ * field gives the word 0, which every check refuses at its place; one that fits is left to the check. */
+
+/* The head: how many users, roles and permissions there are. */
+static inline uint32_t nutrameza_head_word(uint32_t users, uint32_t roles, uint32_t permissions)
+{
+    if (users > 127 || roles > 127 || permissions > 511)
+        return 0;
+    return UINT32_C(1) << 28 | users << 21 | roles << 14 | permissions << 5;
+}
+
+/* The user may switch the role on. */
+static inline uint32_t nutrameza_assignment_word(uint32_t user, uint32_t role)
+{
+    if (user > 63 || role > 63)
+        return 0;
+    return UINT32_C(2) << 28 | user << 22 | role << 16;
+}
+
+/* The role carries the permission. */
+static inline uint32_t nutrameza_grant_word(uint32_t role, uint32_t permission)
+{
+    if (role > 63 || permission > 255)
+        return 0;
+    return UINT32_C(3) << 28 | role << 22 | permission << 14;
+}
+
+/* The senior role carries what the junior one carries. */
+static inline uint32_t nutrameza_senior_word(uint32_t senior, uint32_t junior)
+{
+    if (senior > 63 || junior > 63)
+        return 0;
+    return UINT32_C(4) << 28 | senior << 22 | junior << 16;
+}
+
+/* Fewer than n of m members may be counted; the kind says over what. The m member words follow at once. */
+static inline uint32_t nutrameza_exclusion_word(uint32_t kind, uint32_t n, uint32_t m)
+{
+    if (kind > 3 || n > 127 || m > 127)
+        return 0;
+    return UINT32_C(5) << 28 | kind << 26 | n << 19 | m << 12;
+}
+
+/* A member of the exclusion before it. */
+static inline uint32_t nutrameza_member_word(uint32_t role)
+{
+    if (role > 63)
+        return 0;
+    return UINT32_C(6) << 28 | role << 22;
+}
+
+/* The end: it balances the words before it. */
+static inline uint32_t nutrameza_end_word(const uint32_t *words, size_t count)
+{
+    uint32_t sum = 0;
+    for (size_t place = 0; place < count; place++)
+        sum += words[place];
+    return UINT32_C(15) << 28 | ((UINT32_C(0) - sum) & UINT32_C(0x0FFFFFFF));
+}
+
+/* Writes a word as four bytes of an image, the lowest first. */
+static inline void nutrameza_write_word(uint8_t *bytes, uint32_t word)
+{
+    for (unsigned byte = 0; byte < NUTRAMEZA_WORD_BYTES; byte++)
+        bytes[byte] = (uint8_t)(word >> 8 * byte & 255);
+}
+
+/* Writes words as the bytes of an image. */
+static inline void nutrameza_write_words(uint8_t *image, const uint32_t *words, size_t count)
+{
+    for (size_t place = 0; place < count; place++)
+        nutrameza_write_word(image + NUTRAMEZA_WORD_BYTES * place, words[place]);
+}
+
+/* Check judges an image: 0 or 1 to 8. */
+uint64_t nutrameza_check(const uint8_t *image, size_t image_len);
+
+/* Open takes the user's lowest closed session, empty; the extra is that session. Refusals 1 to 11 and 14. */
+uint64_t nutrameza_open(const uint8_t *image, size_t image_len, uint8_t *ledger, size_t ledger_len, uint64_t user);
+
+/* Close ends a session; what was active in it stays in the user's history. Refusals 1 to 13. */
+uint64_t nutrameza_close(const uint8_t *image, size_t image_len, uint8_t *ledger, size_t ledger_len, uint64_t user,
+                         uint64_t session);
+
+/* Ask replaces the session's active roles by the best set that carries all of the lower bound and nothing outside
+ * the upper, and fills the answer: 8 bytes of roles, 32 of what they carry. Permission p is bit p mod 8 of byte
+ * p div 8. Refusals 1 to 13 and 15 to 20. */
+uint64_t nutrameza_ask(const uint8_t *image, size_t image_len, uint8_t *ledger, size_t ledger_len, uint64_t user,
+                       uint64_t session, const uint8_t *lower, size_t lower_len, const uint8_t *upper, size_t upper_len,
+                       uint64_t permission_aim, uint64_t role_aim, uint8_t *answer, size_t answer_len);
+
+/* A short ask is an ask whose aims are both any. Refusals as of ask, never 18. */
+uint64_t nutrameza_short_ask(const uint8_t *image, size_t image_len, uint8_t *ledger, size_t ledger_len, uint64_t user,
+                             uint64_t session, const uint8_t *lower, size_t lower_len, const uint8_t *upper,
+                             size_t upper_len, uint8_t *answer, size_t answer_len);
+
+/* Show fills the answer with the session's active roles and what they carry; it changes no ledger byte.
+ * Refusals 1 to 13 and 19. */
+uint64_t nutrameza_show(const uint8_t *image, size_t image_len, const uint8_t *ledger, size_t ledger_len, uint64_t user,
+                        uint64_t session, uint8_t *answer, size_t answer_len);
+
+#ifdef __cplusplus
+}
+#endif
+
+#endif

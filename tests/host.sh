@@ -1,0 +1,156 @@
+#!/usr/bin/env bash
+# The kit as a record maker meets it: the header in three languages, an install into a fresh prefix, hosts that are built from
+# pkg-config alone and outside the repository. It needs libnutrameza.a (target/staticlib, or the folder that NUTRAMEZA_LIB names);
+# without it the tests fail. The last line is 'N passed, M failed'.
+set -u
+root=$(cd "$(dirname "${BASH_SOURCE[0]}")/.." && pwd) || { echo '0 passed, 1 failed'; exit 1; }
+work=$(mktemp -d) || { echo '0 passed, 1 failed'; exit 1; }
+trap 'rm -rf "$work"' EXIT
+lib=$(cd "$root" && realpath -m "${NUTRAMEZA_LIB:-target/staticlib}")
+prefix=$work/prefix
+strict='-O2 -Wall -Wextra -Werror -pedantic'
+passed=0
+failed=0
+
+# it NAME COMMAND..: a test, which passes where the command's exit status is 0; it runs by itself, so its 'cd' ends with it
+it() {
+  local name=$1
+  shift
+  if ("$@") > "$work/said" 2>&1; then
+    passed=$((passed + 1))
+    echo "ok      $name"
+  else
+    failed=$((failed + 1))
+    echo "FAILED  $name"
+    sed 's/^/        /' "$work/said"
+  fi
+}
+
+# flags OPTION..: what pkg-config says of the installed kit; where the tool is missing, the .pc file is read here
+flags() {
+  if command -v pkg-config > /dev/null; then
+    PKG_CONFIG_LIBDIR=$prefix/lib/pkgconfig PKG_CONFIG_PATH= pkg-config "$@" nutrameza
+  else
+    read_pc "$@"
+  fi
+}
+
+# read_pc OPTION..: Cflags and Libs of the .pc file, with its variables put in
+read_pc() {
+  local pc=$prefix/lib/pkgconfig/nutrameza.pc line field out=''
+  local -A variable=()
+  while IFS= read -r line; do
+    while [[ $line =~ \$\{([a-z_]+)\} ]]; do line=${line//"${BASH_REMATCH[0]}"/${variable[${BASH_REMATCH[1]}]-}}; done
+    if [[ $line =~ ^([a-z_]+)=(.*)$ ]]; then variable[${BASH_REMATCH[1]}]=${BASH_REMATCH[2]}; fi
+    for field in "$@"; do
+      case $field:$line in
+        --cflags:Cflags:*) out+=" ${line#*:}" ;;
+        --libs:Libs:*) out+=" ${line#*:}" ;;
+        --modversion:Version:*) out+=" ${line#*:}" ;;
+      esac
+    done
+  done < "$pc" && echo $out
+}
+
+# compiled LANGUAGE STANDARD: the header's functions in a language, run, with the ward's image as what they write
+compiled() {
+  local compiler=cc
+  [ "$1" = c ] || compiler=g++
+  $compiler -x "$1" "-std=$2" $strict "-I$root/include" "$root/tests/host/words.c" -o "$work/words_$2" &&
+    "$work/words_$2" "$work/words_$2.img" && cmp "$work/words_$2.img" "$work/ward.img"
+}
+
+# alone LANGUAGE STANDARD: a file that includes the header and nothing else
+alone() {
+  local compiler=cc
+  [ "$1" = c ] || compiler=g++
+  echo '#include <nutrameza.h>' | $compiler -x "$1" "-std=$2" $strict "-I$root/include" -fsyntax-only -
+}
+
+ward_image() {
+  "$root/tools/policy" build "$root/examples/ward.policy" -o "$work/ward.img"
+}
+
+installed() {
+  make -s -C "$root" install "PREFIX=$prefix" "NUTRAMEZA_LIB=$lib" &&
+    cmp "$lib/libnutrameza.a" "$prefix/lib/libnutrameza.a" && cmp "$root/include/nutrameza.h" "$prefix/include/nutrameza.h" &&
+    test -s "$prefix/lib/pkgconfig/nutrameza.pc" && ! grep -q '@' "$prefix/lib/pkgconfig/nutrameza.pc"
+}
+
+# The program comes along if it is built, and nothing stands in bin/ without it.
+program_installed() {
+  test -d "$prefix/lib" || return 1
+  if [ -x "$root/target/bin/nutrameza_script" ]; then
+    cmp "$root/target/bin/nutrameza_script" "$prefix/bin/nutrameza_script"
+  else
+    [ ! -e "$prefix/bin" ]
+  fi
+}
+
+staged() {
+  make -s -C "$root" install "DESTDIR=$work/stage" PREFIX=/opt/kit "NUTRAMEZA_LIB=$lib" &&
+    test -s "$work/stage/opt/kit/lib/libnutrameza.a" && grep -qx 'prefix=/opt/kit' "$work/stage/opt/kit/lib/pkgconfig/nutrameza.pc"
+}
+
+same_flags() {
+  [ "$(read_pc --cflags --libs)" = "-I$prefix/include -L$prefix/lib -lnutrameza" ] &&
+    [ "$(flags --cflags --libs | xargs)" = "$(read_pc --cflags --libs)" ] && [ "$(flags --modversion)" = "$(read_pc --modversion)" ]
+}
+
+# host NAME SOURCE FLAG..: a host built in its own folder with nothing of the kit but what pkg-config says
+host() {
+  local name=$1 source=$2
+  shift 2
+  mkdir -p "$work/$name" && cd "$work/$name" && cc -std=c99 $strict $(flags --cflags) "$source" $(flags --libs) "$@" -o host
+}
+
+# block LANGUAGE: the only block of that language in docs/HOST.md
+block() {
+  sed -n "/^\`\`\`$1\$/,/^\`\`\`\$/p" "$root/docs/HOST.md" | sed '1d;$d'
+}
+
+worked_example() {
+  block c > "$work/example.c" && block text > "$work/example.out" && test -s "$work/example.out" &&
+    host example "$work/example.c" && ./host > said && diff said "$work/example.out"
+}
+
+# After the example the ledger has the second window open and both roles in the user's history.
+example_ledger() {
+  [ "$(od -An -v -tx8 "$work/example/ledger" | xargs)" = "$(printf '%016x ' 2 3 0 0 2 2 0 0 0 0 | xargs)" ]
+}
+
+example_cxx() {
+  g++ -x c++ -std=c++17 $strict $(flags --cflags) "$work/example.c" $(flags --libs) -o "$work/example_cxx" &&
+    cd "$work/example" && "$work/example_cxx" | diff - "$work/example.out"
+}
+
+judged() {
+  mkdir -p "$work/images" && python3 "$root/tests/host/images.py" "$work/images" 3000 &&
+    host judge "$root/tests/host/judge.c" && cd "$work/images" && "$work/judge/host" [0-9]* > "$work/judged" &&
+    diff "$work/judged" expected && [ "$(cut -d' ' -f1 expected | sort -u | wc -l)" -eq 9 ]
+}
+
+small_stack() {
+  host stack "$root/tests/host/stack.c" -pthread && timeout 300 ./host
+}
+
+it 'the library is there' test -s "$lib/libnutrameza.a"
+it 'the ward policy builds' ward_image
+for standard in c99 c11; do
+  it "the header compiles by itself as $standard" alone c $standard
+  it "the inline functions are right as $standard" compiled c $standard
+done
+it 'the header compiles by itself as c++17' alone c++ c++17
+it 'the inline functions are right as c++17' compiled c++ c++17
+it 'make install puts library, header and nutrameza.pc into a fresh prefix' installed
+it 'make install puts the program there exactly if it is built' program_installed
+it 'make install with DESTDIR keeps the prefix in nutrameza.pc' staged
+it 'pkg-config says where the header and the library are' same_flags
+it 'the example of docs/HOST.md is built from pkg-config alone and prints what is written there' worked_example
+it 'the example leaves the ledger on disk' example_ledger
+it 'the example is a C++ program too' example_cxx
+it 'the check and the policy tool judge 3,000 images alike, each number from 0 to 8 among them' judged
+it 'long and deep asks fit a stack of 64 KiB' small_stack
+
+echo "$passed passed, $failed failed"
+[ "$failed" -eq 0 ]

@@ -1,0 +1,113 @@
+/* The header's inline functions by themselves, with no library: each wrong value is told, and the image of the ward example is
+   written to the file that the first argument names. Compiles as C99, C11 and C++17. */
+#include <stdio.h>
+#include <string.h>
+
+#include "nutrameza.h"
+
+static int failures = 0;
+
+static void same(const char *what, uint64_t got, uint64_t expected) {
+    if (got != expected) {
+        printf("%s: %llx, expected %llx\n", what, (unsigned long long)got, (unsigned long long)expected);
+        failures++;
+    }
+}
+
+/* Each kind of word with the largest numbers of its fields, and 0 for one more. */
+static void test_words(void) {
+    same("head", nutrameza_head_word(1, 2, 5), 0x102080A0u);
+    same("head, largest", nutrameza_head_word(64, 64, 256), 0x18102000u);
+    same("head, fields full", nutrameza_head_word(127, 127, 511), 0x1FFFFFE0u);
+    same("head, users", nutrameza_head_word(128, 1, 1), 0);
+    same("head, roles", nutrameza_head_word(1, 128, 1), 0);
+    same("head, permissions", nutrameza_head_word(1, 1, 512), 0);
+    same("assignment", nutrameza_assignment_word(63, 63), 0x2FFF0000u);
+    same("assignment, user", nutrameza_assignment_word(64, 0), 0);
+    same("assignment, role", nutrameza_assignment_word(0, 64), 0);
+    same("grant", nutrameza_grant_word(63, 255), 0x3FFFC000u);
+    same("grant, role", nutrameza_grant_word(64, 0), 0);
+    same("grant, permission", nutrameza_grant_word(0, 256), 0);
+    same("senior", nutrameza_senior_word(1, 2), 0x40420000u);
+    same("senior, senior", nutrameza_senior_word(64, 0), 0);
+    same("senior, junior", nutrameza_senior_word(0, 64), 0);
+    same("exclusion", nutrameza_exclusion_word(NUTRAMEZA_MS_DMER, 2, 2), 0x54102000u);
+    same("exclusion, fields full", nutrameza_exclusion_word(NUTRAMEZA_MS_HMER, 127, 127), 0x5FFFF000u);
+    same("exclusion, kind", nutrameza_exclusion_word(4, 1, 1), 0);
+    same("exclusion, n", nutrameza_exclusion_word(NUTRAMEZA_SS_DMER, 128, 1), 0);
+    same("exclusion, m", nutrameza_exclusion_word(NUTRAMEZA_SS_HMER, 1, 128), 0);
+    same("member", nutrameza_member_word(63), 0x6FC00000u);
+    same("member, role", nutrameza_member_word(64), 0);
+    same("end of nothing", nutrameza_end_word(NULL, 0), 0xF0000000u);
+}
+
+static void test_returned_values(void) {
+    const char *last = nutrameza_word_of(NUTRAMEZA_SCRIPT);
+    same("number", nutrameza_number_of(5u + 256u * 3u), NUTRAMEZA_RANGE);
+    same("extra", nutrameza_extra_of(5u + 256u * 3u), 3);
+    same("number of done", nutrameza_number_of(256u * 2u), NUTRAMEZA_DONE);
+    same("largest extra", nutrameza_extra_of(8u + 256u * 4095u), 4095);
+    same("word of 0", (uint64_t)strcmp(nutrameza_word_of(NUTRAMEZA_DONE), "done"), 0);
+    same("word of 8", (uint64_t)strcmp(nutrameza_word_of(NUTRAMEZA_BALANCE), "balance"), 0);
+    same("word of 14", (uint64_t)strcmp(nutrameza_word_of(NUTRAMEZA_FULL), "full"), 0);
+    same("word of 20", (uint64_t)strcmp(nutrameza_word_of(NUTRAMEZA_NONE), "none"), 0);
+    same("word of 21", (uint64_t)strcmp(last, "script"), 0);
+    same("word of 22", (uint64_t)strcmp(nutrameza_word_of(22), "unknown"), 0);
+}
+
+static void test_sets(void) {
+    uint8_t answer[NUTRAMEZA_ANSWER_BYTES] = {0};
+    uint8_t *set = answer + 8;
+    uint32_t p;
+    for (p = 0; p < 300; p += 3) {
+        nutrameza_add_permission(set, p);
+    }
+    for (p = 0; p < 300; p++) {
+        same("permission of a set", (uint64_t)nutrameza_has_permission(nutrameza_answer_permissions(answer), p), p < 256 && p % 3 == 0);
+    }
+    same("roles, still none", nutrameza_answer_roles(answer), 0);
+    answer[0] = 1;
+    answer[7] = 0x80;
+    same("roles 0 and 63", nutrameza_answer_roles(answer), 0x8000000000000001u);
+}
+
+/* Image A of 01 by its entries. */
+static int write_ward(const char *path) {
+    uint32_t words[NUTRAMEZA_MAX_WORDS];
+    uint8_t image[NUTRAMEZA_MAX_IMAGE_BYTES];
+    size_t n = 0, written;
+    uint32_t k;
+    FILE *file;
+    words[n++] = nutrameza_head_word(1, 2, 5);
+    words[n++] = nutrameza_assignment_word(0, 0);
+    words[n++] = nutrameza_assignment_word(0, 1);
+    for (k = 0; k < 4; k++) {
+        words[n++] = nutrameza_grant_word(0, k);
+    }
+    words[n++] = nutrameza_grant_word(1, 1);
+    words[n++] = nutrameza_grant_word(1, 4);
+    words[n++] = nutrameza_exclusion_word(NUTRAMEZA_MS_DMER, 2, 2);
+    words[n++] = nutrameza_member_word(0);
+    words[n++] = nutrameza_member_word(1);
+    words[n] = nutrameza_end_word(words, n);
+    n++;
+    same("end of image A", words[n - 1], 0xFB0B9F60u);
+    nutrameza_write_words(image, words, n);
+    file = fopen(path, "wb");
+    if (file == NULL) {
+        return 1;
+    }
+    written = fwrite(image, 1, n * NUTRAMEZA_WORD_BYTES, file);
+    return fclose(file) != 0 || written != n * NUTRAMEZA_WORD_BYTES;
+}
+
+int main(int count, char **arguments) {
+    test_words();
+    test_returned_values();
+    test_sets();
+    if (count != 2 || write_ward(arguments[1]) != 0) {
+        printf("no image written\n");
+        failures++;
+    }
+    return failures != 0;
+}

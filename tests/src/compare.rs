@@ -1,0 +1,307 @@
+//! The kit and the solver side by side: cases spread over the cores, answers counted, what differs shrunk and printed.
+
+use crate::gen::Rng;
+use crate::kit::{self, Empty};
+use crate::solver::calls::{self, Call, Reply};
+use crate::solver::image::{judge, Judged};
+use crate::words;
+use std::collections::BTreeMap;
+use std::io::Write;
+
+/// The seed of a run: NUTRAMEZA_SEED, else always the same.
+pub fn seed() -> u64 {
+    match std::env::var("NUTRAMEZA_SEED") {
+        Ok(text) => text.parse().expect("NUTRAMEZA_SEED is a number"),
+        Err(_) => 20_120_309,
+    }
+}
+
+/// How often each thing was seen.
+#[derive(Default)]
+pub struct Tally(BTreeMap<String, u64>);
+
+impl Tally {
+    pub fn see(&mut self, what: &str) {
+        match self.0.get_mut(what) {
+            Some(count) => *count += 1,
+            None => {
+                self.0.insert(what.to_string(), 1);
+            }
+        }
+    }
+
+    pub fn count(&self, what: &str) -> u64 {
+        self.0.get(what).copied().unwrap_or(0)
+    }
+
+    /// Sees an answer number.
+    pub fn see_number(&mut self, number: u64) {
+        const NAMES: [&str; 22] = [
+            "0", "1", "2", "3", "4", "5", "6", "7", "8", "9", "10", "11", "12", "13", "14", "15", "16", "17", "18", "19", "20",
+            "21",
+        ];
+        self.see(NAMES.get(number as usize).copied().unwrap_or("other"));
+    }
+
+    /// Each of these was seen at least so often.
+    pub fn expect(&self, least: u64, what: &[&str]) {
+        for name in what {
+            let count = self.count(name);
+            assert!(count >= least, "{name} was seen {count} times, fewer than {least}");
+        }
+    }
+
+    fn join(&mut self, other: Tally) {
+        for (what, count) in other.0 {
+            *self.0.entry(what).or_insert(0) += count;
+        }
+    }
+}
+
+/// A line for the reader of the run, shown whether or not the test passes.
+pub fn say(text: &str) {
+    let _ = writeln!(std::io::stderr(), "{text}");
+}
+
+/// Runs the cases of a test on all cores, each with its own sequence, and says what was seen.
+pub fn spread(name: &str, cases: u64, case: impl Fn(&mut Rng, &mut Tally) + Sync) -> Tally {
+    let seed = seed();
+    let from = std::time::Instant::now();
+    let threads = std::thread::available_parallelism().map_or(1, |cores| cores.get()) as u64;
+    let mut whole = Tally::default();
+    std::thread::scope(|scope| {
+        let case = &case;
+        let run = move |thread: u64| {
+            let mut tally = Tally::default();
+            for number in (thread..cases).step_by(threads as usize) {
+                case(&mut Rng::of_case(seed, number), &mut tally);
+            }
+            tally
+        };
+        let running: Vec<_> = (0..threads).map(|thread| scope.spawn(move || run(thread))).collect();
+        for thread in running {
+            match thread.join() {
+                Ok(tally) => whole.join(tally),
+                Err(panic) => std::panic::resume_unwind(panic),
+            }
+        }
+    });
+    let seen: Vec<String> = whole.0.iter().map(|(what, count)| format!("{what}: {count}")).collect();
+    say(&format!("{name}: seed {seed}, {cases} cases, {:.1} s; {}", from.elapsed().as_secs_f64(), seen.join(", ")));
+    whole
+}
+
+/// The number that the solver's judgement means.
+pub fn judged_number(judged: &Judged) -> u64 {
+    match judged {
+        Ok(_) => 0,
+        Err(refused) => refused.number + 256 * refused.place as u64,
+    }
+}
+
+/// Drops parts of a list, large ones first, as long as what is left still fails.
+fn drop_parts<T: Clone>(list: &mut Vec<T>, fails: impl Fn(&[T]) -> bool) {
+    let mut part = list.len().div_ceil(2);
+    while part > 0 {
+        let mut from = 0;
+        while from < list.len() {
+            let mut less = list.clone();
+            less.drain(from..(from + part).min(list.len()));
+            if fails(&less) {
+                *list = less;
+            } else {
+                from += part;
+            }
+        }
+        part = if part == 1 { 0 } else { part.div_ceil(2) };
+    }
+}
+
+/// The words of an image by entries: an exclusion with its members is one.
+fn entries(words: &[u32]) -> Vec<Vec<u32>> {
+    let mut entries: Vec<Vec<u32>> = Vec::new();
+    for word in words {
+        match entries.last_mut() {
+            Some(entry) if word >> 28 == 6 && entry[0] >> 28 == 5 => entry.push(*word),
+            _ => entries.push(vec![*word]),
+        }
+    }
+    entries
+}
+
+/// Drops entries, then words of an image as long as it still fails, the balance set anew if that fails too.
+fn shrink_image(image: &mut Vec<u8>, fails: impl Fn(&[u8]) -> bool) {
+    if image.len() % 4 != 0 {
+        return drop_parts(image, fails);
+    }
+    let as_it_falls = |less: &[u32]| words::bytes(less);
+    let anew = |less: &[u32]| {
+        let mut less = less.to_vec();
+        words::rebalance(&mut less);
+        words::bytes(&less)
+    };
+    for balance in [&as_it_falls as &dyn Fn(&[u32]) -> Vec<u8>, &anew] {
+        if fails(&balance(&words::from_bytes(image))) {
+            let mut list = entries(&words::from_bytes(image));
+            drop_parts(&mut list, |less| fails(&balance(&less.concat())));
+            let mut list = list.concat();
+            drop_parts(&mut list, |less| fails(&balance(less)));
+            *image = balance(&list);
+        }
+    }
+}
+
+/// Words as they stand in 01: hex, in a row.
+fn image_text(image: &[u8]) -> String {
+    let words: Vec<String> = words::from_bytes(image).iter().map(|word| format!("{word:08X}")).collect();
+    format!("{} bytes, words {}", image.len(), words.join(" "))
+}
+
+/// The check of an image by both; panics with a shrunk image if they differ.
+pub fn check(image: &[u8], tally: &mut Tally) -> Judged {
+    let differs = |image: &[u8]| kit::check(Empty::Null, image) != judged_number(&judge(image));
+    let judged = judge(image);
+    tally.see_number(judged_number(&judged) % 256);
+    if kit::check(Empty::Null, image) != judged_number(&judged) {
+        let mut small = image.to_vec();
+        shrink_image(&mut small, differs);
+        let (kit, solver) = (kit::check(Empty::Null, &small), judged_number(&judge(&small)));
+        panic!("seed {}: check answers {kit}, the solver {solver}, on {}", seed(), image_text(&small));
+    }
+    judged
+}
+
+/// Calls one after another under one image, from a first ledger.
+#[derive(Clone, Debug)]
+pub struct Run {
+    pub image: Vec<u8>,
+    pub ledger: Vec<u8>,
+    pub calls: Vec<Call>,
+    pub empty: Empty,
+}
+
+/// The bytes kept on each side of a buffer that the kit may write.
+const GUARD: usize = 64;
+
+/// A buffer with guard bytes around it.
+struct Guarded {
+    bytes: Vec<u8>,
+    guard: u8,
+}
+
+impl Guarded {
+    fn new(inner: &[u8], guard: u8) -> Guarded {
+        let mut bytes = vec![guard; GUARD];
+        bytes.extend(inner);
+        bytes.resize(bytes.len() + GUARD, guard);
+        Guarded { bytes, guard }
+    }
+
+    fn inner(&mut self) -> &mut [u8] {
+        let end = self.bytes.len() - GUARD;
+        &mut self.bytes[GUARD..end]
+    }
+
+    fn guards_stand(&self) -> bool {
+        let end = self.bytes.len() - GUARD;
+        self.bytes[..GUARD].iter().chain(&self.bytes[end..]).all(|byte| *byte == self.guard)
+    }
+}
+
+/// One call by both on the same ledger: the reply, or what differs. The ledger moves on.
+pub fn step(judged: &Judged, image: &[u8], ledger: &mut Vec<u8>, call: &Call, empty: Empty, guard: u8) -> Result<Reply, String> {
+    let before = image.to_vec();
+    let filler: Vec<u8> = (0..call.room()).map(|place| guard.wrapping_mul(31).wrapping_add(place as u8) | 1).collect();
+    let (mut kit_ledger, mut kit_answer) = (Guarded::new(ledger, guard), Guarded::new(&filler, !guard));
+    let returned = kit::play(empty, image, kit_ledger.inner(), call, kit_answer.inner());
+    let reply = calls::play(judged, ledger, call);
+    let answer = reply.answer.map_or(filler, |bytes| bytes.to_vec());
+    if returned != reply.returned() {
+        return Err(format!(
+            "returned {} + 256 * {}, the solver {} + 256 * {}",
+            returned % 256,
+            returned / 256,
+            reply.number,
+            reply.extra
+        ));
+    }
+    if kit_ledger.inner() != ledger.as_slice() {
+        let wrong = (0..ledger.len()).find(|place| kit_ledger.inner()[*place] != ledger[*place]);
+        return Err(format!("after answer {} ledger byte {wrong:?} differs", reply.number));
+    }
+    if kit_answer.inner() != answer.as_slice() {
+        return Err(format!(
+            "after answer {} the answer is {:02x?}, the solver's {:02x?}",
+            reply.number,
+            kit_answer.inner(),
+            answer
+        ));
+    }
+    if !kit_ledger.guards_stand() || !kit_answer.guards_stand() || before != image {
+        return Err(format!("after answer {} bytes outside ledger and answer changed", reply.number));
+    }
+    Ok(reply)
+}
+
+/// What a call of a run answered, and the line of its user after it (none where there is no such line).
+#[derive(Clone, Debug, PartialEq, Eq)]
+pub struct Played {
+    pub reply: Reply,
+    pub line: Vec<u8>,
+}
+
+/// Plays a run by both: what each call did, or the place of the first call that differs and how.
+fn played(run: &Run) -> Result<Vec<Played>, (usize, String)> {
+    let judged = judge(&run.image);
+    let mut ledger = run.ledger.clone();
+    let mut played = Vec::new();
+    for (place, call) in run.calls.iter().enumerate() {
+        match step(&judged, &run.image, &mut ledger, call, run.empty, 0x5A ^ place as u8) {
+            Ok(reply) => {
+                let line = ledger.chunks_exact(80).nth(call.user() as usize).unwrap_or_default().to_vec();
+                played.push(Played { reply, line });
+            }
+            Err(text) => return Err((place, text)),
+        }
+    }
+    Ok(played)
+}
+
+/// Plays a run by both; panics with a shrunk run if they differ.
+pub fn play(run: &Run) -> Vec<Played> {
+    match played(run) {
+        Ok(played) => played,
+        Err((place, _)) => {
+            let mut small = run.clone();
+            small.calls.truncate(place + 1);
+            shrink_run(&mut small);
+            let (place, text) = played(&small).expect_err("the shrunk run still fails");
+            let hex = |line: &[u8]| line.iter().map(|byte| format!("{byte:02x}")).collect::<String>();
+            let lines = small.ledger.chunks(80).enumerate().filter(|(_, line)| line.iter().any(|byte| *byte != 0));
+            let lines: Vec<String> = lines.map(|(user, line)| format!("  line {user}: {}", hex(line))).collect();
+            panic!(
+                "seed {}: call {place}: {text}\nimage: {}\nledger of {} bytes, zero but for\n{}\ncalls: {:?}",
+                seed(),
+                image_text(&small.image),
+                small.ledger.len(),
+                lines.join("\n"),
+                small.calls
+            );
+        }
+    }
+}
+
+/// Drops calls, words and ledger bytes as long as the run still fails.
+fn shrink_run(run: &mut Run) {
+    let fails = |run: &Run| played(run).is_err();
+    let whole = run.clone();
+    drop_parts(&mut run.calls, |calls| fails(&Run { calls: calls.to_vec(), ..whole.clone() }));
+    let whole = run.clone();
+    shrink_image(&mut run.image, |image| fails(&Run { image: image.to_vec(), ..whole.clone() }));
+    for place in 0..run.ledger.len() {
+        let byte = std::mem::replace(&mut run.ledger[place], 0);
+        if byte != 0 && !fails(run) {
+            run.ledger[place] = byte;
+        }
+    }
+}

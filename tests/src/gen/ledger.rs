@@ -1,0 +1,198 @@
+//! Ledgers: zero, sound at random, damaged in each field.
+
+use super::Rng;
+use crate::solver::line::{sound, Line, RoleFlags, LINE, SESSIONS};
+use crate::solver::policy::{Kind, Policy};
+
+/// Takes a role out of every set of a line.
+fn forget(line: &mut Line, role: usize) {
+    line.history[role] = false;
+    for session in &mut line.sessions {
+        session.active[role] = false;
+        session.history[role] = false;
+    }
+}
+
+/// Some of the roles that a test lets pass, each in one of `of` draws or all but that.
+fn some(rng: &mut Rng, of: u64, may: impl Fn(usize) -> bool) -> RoleFlags {
+    let mut flags = [false; 64];
+    let thin = rng.one_in(2);
+    for (role, flag) in flags.iter_mut().enumerate() {
+        *flag = may(role) && rng.one_in(of) == thin;
+    }
+    flags
+}
+
+/// A sound line of a user: sets at random, thinned until it is sound.
+pub fn sound_line(rng: &mut Rng, policy: &Policy, user: usize) -> Vec<u8> {
+    let mut bytes = vec![0u8; LINE];
+    if rng.one_in(6) {
+        return bytes;
+    }
+    let mut line = Line::read(&bytes);
+    line.history = some(rng, 3, |role| role < policy.roles);
+    for session in &mut line.sessions {
+        session.open = !rng.one_in(3);
+        if session.open {
+            session.history = some(rng, 4, |role| line.history[role]);
+            let history = session.history;
+            session.active = some(rng, 3, |role| history[role] && policy.assigned[user].contains(&role));
+        }
+    }
+    loop {
+        line.write(&mut bytes);
+        if sound(policy, user, &bytes) {
+            return bytes;
+        }
+        let held: Vec<usize> = (0..64).filter(|role| line.history[*role]).collect();
+        forget(&mut line, rng.pick(&held));
+    }
+}
+
+/// The ways in which a line is damaged.
+#[derive(Clone, Copy, Debug, PartialEq, Eq)]
+pub enum Damage {
+    OpenBitAbove,
+    FirstBytes,
+    ClosedSession,
+    ActiveOutsideHistory,
+    HistoryOutsideUsers,
+    NotAssigned,
+    NoSuchRole,
+    Excluded(Kind),
+    AnyBit,
+    AllBytes,
+}
+
+pub const DAMAGES: [Damage; 13] = [
+    Damage::OpenBitAbove,
+    Damage::FirstBytes,
+    Damage::ClosedSession,
+    Damage::ActiveOutsideHistory,
+    Damage::HistoryOutsideUsers,
+    Damage::NotAssigned,
+    Damage::NoSuchRole,
+    Damage::Excluded(Kind::SessionActive),
+    Damage::Excluded(Kind::UserActive),
+    Damage::Excluded(Kind::SessionHistory),
+    Damage::Excluded(Kind::UserHistory),
+    Damage::AnyBit,
+    Damage::AllBytes,
+];
+
+/// Damages a line in one way, as far as the policy and the line give room for it.
+pub fn damage(rng: &mut Rng, policy: &Policy, user: usize, bytes: &mut [u8], how: Damage) {
+    let mut line = Line::read(bytes);
+    let session = rng.place(SESSIONS);
+    let role = rng.place(policy.roles);
+    match how {
+        Damage::OpenBitAbove => bytes[0] |= 1 << rng.from_to(4, 7),
+        Damage::FirstBytes => bytes[rng.from_to(1, 7) as usize] |= 1 << rng.below(8),
+        Damage::ClosedSession => {
+            line.history[role] = true;
+            line.sessions[session].open = false;
+            line.sessions[session].history[role] = true;
+            line.sessions[session].active[role] = rng.one_in(2);
+            line.write(bytes);
+        }
+        Damage::ActiveOutsideHistory => {
+            line.history[role] = true;
+            line.sessions[session].open = true;
+            line.sessions[session].active[role] = true;
+            line.sessions[session].history[role] = false;
+            line.write(bytes);
+        }
+        Damage::HistoryOutsideUsers => {
+            line.sessions[session].open = true;
+            line.sessions[session].history[role] = true;
+            line.history[role] = false;
+            line.write(bytes);
+        }
+        Damage::NotAssigned => {
+            let others: Vec<usize> = (0..policy.roles).filter(|role| !policy.assigned[user].contains(role)).collect();
+            if !others.is_empty() {
+                activate(&mut line, session, rng.pick(&others));
+                line.write(bytes);
+            }
+        }
+        Damage::NoSuchRole => {
+            if policy.roles < 64 {
+                line.history[rng.from_to(policy.roles as u64, 63) as usize] = true;
+                line.write(bytes);
+            }
+        }
+        Damage::Excluded(kind) => {
+            exclude(rng, policy, user, &mut line, kind);
+            line.write(bytes);
+        }
+        Damage::AnyBit => bytes[rng.place(LINE)] ^= 1 << rng.below(8),
+        Damage::AllBytes => {
+            let random = rng.bytes(LINE);
+            bytes.copy_from_slice(&random);
+        }
+    }
+}
+
+/// A role active in an open session, in its history and the user's.
+fn activate(line: &mut Line, session: usize, role: usize) {
+    line.sessions[session].open = true;
+    line.sessions[session].active[role] = true;
+    line.sessions[session].history[role] = true;
+    line.history[role] = true;
+}
+
+/// As many members of an exclusion of this kind as its limit, or one fewer, put where the kind counts them.
+fn exclude(rng: &mut Rng, policy: &Policy, user: usize, line: &mut Line, kind: Kind) {
+    let of_kind: Vec<_> = policy.exclusions.iter().filter(|exclusion| exclusion.kind == kind).collect();
+    if of_kind.is_empty() {
+        return;
+    }
+    let exclusion = rng.pick(&of_kind);
+    let mut members: Vec<usize> = exclusion.members.iter().copied().collect();
+    rng.shuffle(&mut members);
+    if matches!(exclusion.kind, Kind::SessionActive | Kind::UserActive) {
+        members.retain(|role| policy.assigned[user].contains(role));
+    }
+    members.truncate(exclusion.limit - usize::from(rng.one_in(4)));
+    let one = rng.place(SESSIONS);
+    for role in members {
+        let session = if exclusion.kind == Kind::UserActive { rng.place(SESSIONS) } else { one };
+        match exclusion.kind {
+            Kind::SessionActive | Kind::UserActive => activate(line, session, role),
+            Kind::SessionHistory => {
+                line.sessions[session].open = true;
+                line.sessions[session].history[role] = true;
+                line.history[role] = true;
+            }
+            Kind::UserHistory => line.history[role] = true,
+        }
+    }
+}
+
+/// A ledger of sound lines, each damaged in one of `damaged` draws (0: never).
+pub fn ledger(rng: &mut Rng, policy: &Policy, damaged: u64) -> Vec<u8> {
+    let mut ledger = Vec::new();
+    for user in 0..policy.users {
+        let mut line = sound_line(rng, policy, user);
+        if damaged > 0 && rng.one_in(damaged) {
+            let how = rng.pick(&DAMAGES);
+            damage(rng, policy, user, &mut line, how);
+        }
+        ledger.extend(line);
+    }
+    ledger
+}
+
+/// Another length than the fitting one.
+pub fn misfit(rng: &mut Rng, ledger: &mut Vec<u8>) {
+    let fitting = ledger.len();
+    let length = match rng.below(6) {
+        0 => 0,
+        1 => fitting - 1,
+        2 => fitting + 1,
+        3 => fitting - 80,
+        4 => fitting + 80,
+        _ => rng.place(64 * 80 + 1),
+    };
+    ledger.resize(length, 0);
+}

@@ -1,0 +1,236 @@
+//! Images that say something in good order: policies of all sizes, entries in any order, repeats, loops of seniority.
+
+use super::Rng;
+use crate::words;
+
+/// A policy as entries still to be ordered, each with all of its words.
+#[derive(Clone, Debug)]
+pub struct Draft {
+    pub users: u32,
+    pub roles: u32,
+    pub permissions: u32,
+    pub entries: Vec<Vec<u32>>,
+}
+
+/// How large a policy is drawn: the most of each thing.
+#[derive(Clone, Copy, Debug)]
+pub struct Size {
+    pub users: u64,
+    pub roles: u64,
+    pub permissions: u64,
+    pub roles_of_a_user: u64,
+    pub grants_of_a_role: u64,
+    pub seniors: u64,
+    pub exclusions: u64,
+}
+
+pub const TINY: Size =
+    Size { users: 2, roles: 4, permissions: 6, roles_of_a_user: 4, grants_of_a_role: 3, seniors: 2, exclusions: 2 };
+pub const SMALL: Size =
+    Size { users: 4, roles: 8, permissions: 12, roles_of_a_user: 7, grants_of_a_role: 4, seniors: 5, exclusions: 5 };
+pub const MIDDLE: Size =
+    Size { users: 9, roles: 20, permissions: 70, roles_of_a_user: 9, grants_of_a_role: 9, seniors: 12, exclusions: 12 };
+pub const WIDE: Size =
+    Size { users: 64, roles: 64, permissions: 256, roles_of_a_user: 8, grants_of_a_role: 12, seniors: 60, exclusions: 32 };
+pub const LARGE: Size =
+    Size { users: 64, roles: 64, permissions: 256, roles_of_a_user: 16, grants_of_a_role: 12, seniors: 60, exclusions: 32 };
+
+impl Draft {
+    pub fn blank(users: u32, roles: u32, permissions: u32) -> Draft {
+        Draft { users, roles, permissions, entries: Vec::new() }
+    }
+
+    /// The words: head, entries, end.
+    pub fn words(&self) -> Vec<u32> {
+        let mut words = vec![words::head(self.users, self.roles, self.permissions)];
+        words.extend(self.entries.iter().flatten());
+        words::closed(words)
+    }
+
+    /// How many words the image has.
+    pub fn length(&self) -> usize {
+        2 + self.entries.iter().map(Vec::len).sum::<usize>()
+    }
+
+    fn role(&self, rng: &mut Rng) -> u32 {
+        rng.below(self.roles.into()) as u32
+    }
+
+    /// Some different roles, in any order.
+    pub fn some_roles(&self, rng: &mut Rng, count: usize) -> Vec<u32> {
+        let mut roles: Vec<u32> = (0..self.roles).collect();
+        rng.shuffle(&mut roles);
+        roles.truncate(count);
+        roles
+    }
+
+    pub fn assign(&mut self, rng: &mut Rng, user: u32, count: usize) {
+        let roles = self.some_roles(rng, count);
+        self.entries.extend(roles.iter().map(|role| vec![words::assignment(user, *role)]));
+    }
+
+    pub fn grant(&mut self, rng: &mut Rng, role: u32) {
+        let permission = rng.below(self.permissions.into()) as u32;
+        self.entries.push(vec![words::grant(role, permission)]);
+    }
+
+    /// A senior word between two different roles, where there are two.
+    pub fn order(&mut self, rng: &mut Rng) {
+        if let [senior, junior] = self.some_roles(rng, 2)[..] {
+            self.entries.push(vec![words::senior(senior, junior)]);
+        }
+    }
+
+    /// An exclusion of any kind: mostly of few members and a limit of 2, at times of all roles, at times with a limit of 1.
+    pub fn exclude(&mut self, rng: &mut Rng) {
+        let most = if rng.one_in(6) { self.roles } else { self.roles.min(5) };
+        let least = if rng.one_in(16) { 1 } else { most.min(2) };
+        let size = rng.from_to(least.into(), most.into()) as usize;
+        let members = self.some_roles(rng, size);
+        let limit = match rng.below(24) {
+            0 => 1,
+            1..=12 => members.len().min(2),
+            _ => rng.from_to(members.len().min(2) as u64, members.len() as u64) as usize,
+        };
+        self.entries.push(words::exclusion(rng.below(4) as u32, limit as u32, &members));
+    }
+
+    /// The same policy but for the roles assigned to others than `user`, its entries in another order.
+    pub fn others_redrawn(&self, rng: &mut Rng, user: u32) -> Draft {
+        let mut draft = self.clone();
+        draft
+            .entries
+            .retain(|entry| entry[0] >> 28 != 2 || entry[0] >> 16 << 16 == words::assignment(user, (entry[0] >> 16) & 63));
+        for other in (0..self.users).filter(|other| *other != user) {
+            let count = rng.from_to(0, 8) as usize;
+            draft.assign(rng, other, count);
+        }
+        rng.shuffle(&mut draft.entries);
+        draft
+    }
+
+    /// Repeats an entry that is no exclusion, one with few words.
+    fn repeat(&mut self, rng: &mut Rng) {
+        if !self.entries.is_empty() {
+            let entry = rng.pick(&self.entries);
+            if entry.len() == 1 {
+                self.entries.push(entry);
+            }
+        }
+    }
+}
+
+/// A policy of at most this size.
+pub fn policy(rng: &mut Rng, size: Size) -> Draft {
+    let numbers = [rng.from_to(1, size.users), rng.from_to(1, size.roles), rng.from_to(1, size.permissions)];
+    let mut draft = Draft::blank(numbers[0] as u32, numbers[1] as u32, numbers[2] as u32);
+    for user in 0..draft.users {
+        let count = rng.from_to(0, size.roles_of_a_user).max(rng.from_to(0, size.roles_of_a_user)) as usize;
+        draft.assign(rng, user, count);
+    }
+    for role in 0..draft.roles {
+        for _ in 0..rng.from_to(0, size.grants_of_a_role) {
+            draft.grant(rng, role);
+        }
+    }
+    for _ in 0..rng.from_to(0, size.seniors) {
+        draft.order(rng);
+    }
+    for _ in 0..rng.from_to(0, size.exclusions) {
+        draft.exclude(rng);
+    }
+    for _ in 0..rng.below(4) {
+        draft.repeat(rng);
+    }
+    rng.shuffle(&mut draft.entries);
+    draft
+}
+
+/// A policy whose head stands at the limits, one way or the other.
+pub fn limits(rng: &mut Rng) -> Draft {
+    let mut draft = policy(rng, SMALL);
+    (draft.users, draft.roles, draft.permissions) = (64, 64, 256);
+    for _ in 0..rng.below(20) {
+        let last = [
+            vec![words::assignment(63, 63)],
+            vec![words::grant(63, 255)],
+            vec![words::senior(63, draft.role(rng) % 63)],
+            words::exclusion(3, 64, &draft.some_roles(rng, 64)),
+        ];
+        let entry = rng.pick(&last);
+        let exclusions = draft.entries.iter().filter(|entry| entry.len() > 1).count();
+        if entry.len() == 1 || exclusions < 20 {
+            draft.entries.push(entry);
+        }
+    }
+    if rng.one_in(3) {
+        return Draft::blank(rng.pick(&[1, 64]), rng.pick(&[1, 64]), rng.pick(&[1, 256]));
+    }
+    rng.shuffle(&mut draft.entries);
+    draft
+}
+
+/// A user 0 of 16 roles under `exclusions` exclusions over them, permissions spread over the roles.
+pub fn crowded(rng: &mut Rng, exclusions: u64) -> Draft {
+    let mut draft = Draft::blank(rng.from_to(1, 3) as u32, rng.from_to(16, 64) as u32, rng.from_to(8, 256) as u32);
+    let own = draft.some_roles(rng, 16);
+    draft.entries.extend(own.iter().map(|role| vec![words::assignment(0, *role)]));
+    for user in 1..draft.users {
+        let count = rng.from_to(0, 16) as usize;
+        draft.assign(rng, user, count);
+    }
+    let grants = rng.from_to(1, 12);
+    for role in &own {
+        for _ in 0..grants {
+            draft.grant(rng, *role);
+        }
+    }
+    for _ in 0..rng.below(10) {
+        draft.order(rng);
+    }
+    for _ in 0..exclusions {
+        let mut members = own.clone();
+        rng.shuffle(&mut members);
+        members.truncate(rng.from_to(2, 12) as usize);
+        let limit = rng.from_to(2, members.len() as u64) as u32;
+        draft.entries.push(words::exclusion(rng.below(4) as u32, limit, &members));
+    }
+    rng.shuffle(&mut draft.entries);
+    draft
+}
+
+/// A policy of exactly `length` words, at least 4,000: filled up with repeats and grants.
+pub fn filled(rng: &mut Rng, length: usize) -> Draft {
+    let mut draft = policy(rng, LARGE);
+    draft.grant(rng, 0);
+    for _ in draft.length()..length {
+        let entry = rng.pick(&draft.entries);
+        if entry.len() == 1 && rng.one_in(2) {
+            draft.entries.push(entry);
+        } else {
+            let role = draft.role(rng);
+            draft.grant(rng, role);
+        }
+    }
+    rng.shuffle(&mut draft.entries);
+    draft
+}
+
+/// A policy of any size, small ones mostly.
+pub fn any(rng: &mut Rng) -> Draft {
+    match rng.below(64) {
+        0..=23 => policy(rng, TINY),
+        24..=49 => policy(rng, SMALL),
+        50..=57 => policy(rng, MIDDLE),
+        58..=59 => policy(rng, LARGE),
+        60 => limits(rng),
+        61..=62 => {
+            let exclusions = rng.pick(&[0, 8, 31, 32]);
+            crowded(rng, exclusions)
+        }
+        _ => {
+            let length = if rng.one_in(2) { words::MOST_WORDS } else { rng.from_to(4000, 4096) as usize };
+            filled(rng, length)
+        }
+    }
+}

@@ -1,0 +1,10 @@
+//! Tests of the session kit through its C interface.
+//! `solver` is what the kit is held against; `gen` makes inputs; `compare` plays both and shrinks what differs.
+
+pub mod compare;
+pub mod gen;
+pub mod kit;
+pub mod program;
+pub mod solver;
+pub mod ward;
+pub mod words;

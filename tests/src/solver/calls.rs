@@ -1,0 +1,215 @@
+//! The calls on a ledger: the tests in the order of the register, then what the call does.
+
+use super::choice::{choose, PermissionFlags, Request};
+use super::image::Judged;
+use super::line::{role_bytes, sound, Line, RoleFlags, LINE, SESSIONS};
+use super::policy::Policy;
+
+/// The bytes of an answer: 8 of roles, 32 of permissions.
+pub const ANSWER: usize = 40;
+
+/// A call with its arguments, image and ledger apart; an answer buffer is known by its length.
+#[derive(Clone, Debug, PartialEq, Eq)]
+pub enum Call {
+    Open { user: u64 },
+    Close { user: u64, session: u64 },
+    Show { user: u64, session: u64, room: usize },
+    Ask { user: u64, session: u64, lower: Vec<u8>, upper: Vec<u8>, objectives: (u64, u64), room: usize },
+    ShortAsk { user: u64, session: u64, lower: Vec<u8>, upper: Vec<u8>, room: usize },
+}
+
+/// What a call answers: the number, the extra and the bytes that fill the answer buffer, if any do.
+#[derive(Clone, Debug, PartialEq, Eq)]
+pub struct Reply {
+    pub number: u64,
+    pub extra: u64,
+    pub answer: Option<[u8; ANSWER]>,
+    /// Of a done ask: how many admissible sets tie with the best but for the set number.
+    pub tied: usize,
+}
+
+impl Reply {
+    fn refused(number: u64, extra: u64) -> Reply {
+        Reply { number, extra, answer: None, tied: 0 }
+    }
+
+    fn done(extra: u64, answer: Option<[u8; ANSWER]>, tied: usize) -> Reply {
+        Reply { number: 0, extra, answer, tied }
+    }
+
+    /// The number that the C interface returns.
+    pub fn returned(&self) -> u64 {
+        self.number + 256 * self.extra
+    }
+}
+
+impl Call {
+    /// The user that the call names.
+    pub fn user(&self) -> u64 {
+        match self {
+            Call::Open { user }
+            | Call::Close { user, .. }
+            | Call::Show { user, .. }
+            | Call::Ask { user, .. }
+            | Call::ShortAsk { user, .. } => *user,
+        }
+    }
+
+    /// The length of the answer buffer, 0 for a call without one.
+    pub fn room(&self) -> usize {
+        match self {
+            Call::Show { room, .. } | Call::Ask { room, .. } | Call::ShortAsk { room, .. } => *room,
+            _ => 0,
+        }
+    }
+}
+
+/// Plays a call on a ledger under a judged image.
+pub fn play(image: &Judged, ledger: &mut [u8], call: &Call) -> Reply {
+    let policy = match image {
+        Ok(policy) => policy,
+        Err(refused) => return Reply::refused(refused.number, refused.place as u64),
+    };
+    if ledger.len() != LINE * policy.users {
+        return Reply::refused(9, 0);
+    }
+    if call.user() >= policy.users as u64 {
+        return Reply::refused(10, 0);
+    }
+    let user = call.user() as usize;
+    let bytes = &mut ledger[LINE * user..LINE * (user + 1)];
+    if !sound(policy, user, bytes) {
+        return Reply::refused(11, 0);
+    }
+    let mut line = Line::read(bytes);
+    let reply = rule(policy, user, &mut line, call);
+    line.write(bytes);
+    reply
+}
+
+/// The session rules on a sound line; a refusal leaves the line.
+fn rule(policy: &Policy, user: usize, line: &mut Line, call: &Call) -> Reply {
+    match call {
+        Call::Open { .. } => open(line),
+        Call::Close { session, .. } => match open_session(line, *session) {
+            Err(number) => Reply::refused(number, 0),
+            Ok(session) => close(line, session),
+        },
+        Call::Show { session, room, .. } => match open_session(line, *session) {
+            Err(number) => Reply::refused(number, 0),
+            Ok(_) if *room != ANSWER => Reply::refused(19, 0),
+            Ok(session) => show(policy, line, session),
+        },
+        Call::Ask { session, lower, upper, objectives, room, .. } => {
+            ask(policy, user, line, *session, lower, upper, *objectives, *room)
+        }
+        Call::ShortAsk { session, lower, upper, room, .. } => ask(policy, user, line, *session, lower, upper, (0, 0), *room),
+    }
+}
+
+/// The session of this number, if it exists and is open; else 12 or 13.
+fn open_session(line: &Line, session: u64) -> Result<usize, u64> {
+    if session >= SESSIONS as u64 {
+        return Err(12);
+    }
+    if !line.sessions[session as usize].open {
+        return Err(13);
+    }
+    Ok(session as usize)
+}
+
+/// The lowest closed session opens, empty.
+fn open(line: &mut Line) -> Reply {
+    for (number, session) in line.sessions.iter_mut().enumerate() {
+        if !session.open {
+            session.open = true;
+            return Reply::done(number as u64, None, 0);
+        }
+    }
+    Reply::refused(14, 0)
+}
+
+/// The session's bytes and its open bit become zero.
+fn close(line: &mut Line, session: usize) -> Reply {
+    let closed = &mut line.sessions[session];
+    closed.open = false;
+    closed.active = [false; 64];
+    closed.history = [false; 64];
+    Reply::done(0, None, 0)
+}
+
+/// The session's active roles and what they carry.
+fn show(policy: &Policy, line: &Line, session: usize) -> Reply {
+    let active = &line.sessions[session].active;
+    let mut carried = [false; 256];
+    for role in 0..64 {
+        if active[role] {
+            policy.carried_by(role).into_iter().for_each(|permission| carried[permission] = true);
+        }
+    }
+    Reply::done(0, Some(answer(active, &carried)), 0)
+}
+
+/// The session's active roles are replaced by the best admissible set.
+#[allow(clippy::too_many_arguments)]
+fn ask(
+    policy: &Policy,
+    user: usize,
+    line: &mut Line,
+    session: u64,
+    lower: &[u8],
+    upper: &[u8],
+    objectives: (u64, u64),
+    room: usize,
+) -> Reply {
+    let session = match open_session(line, session) {
+        Err(number) => return Reply::refused(number, 0),
+        Ok(session) => session,
+    };
+    if lower.len() != 32 || upper.len() != 32 {
+        return Reply::refused(15, 0);
+    }
+    let (lower, upper) = (read_permissions(lower), read_permissions(upper));
+    if (policy.permissions..256).any(|permission| lower[permission] || upper[permission]) {
+        return Reply::refused(16, 0);
+    }
+    if (0..256).any(|permission| lower[permission] && !upper[permission]) {
+        return Reply::refused(17, 0);
+    }
+    if objectives.0 > 2 || objectives.1 > 2 {
+        return Reply::refused(18, 0);
+    }
+    if room != ANSWER {
+        return Reply::refused(19, 0);
+    }
+    let request = Request { policy, user, line, session, lower, upper, objectives };
+    match choose(&request) {
+        None => Reply::refused(20, 0),
+        Some(choice) => {
+            let filled = answer(&choice.best.roles, &choice.best.carried);
+            *line = line.put_in(session, &choice.best.roles);
+            Reply::done(0, Some(filled), choice.tied)
+        }
+    }
+}
+
+/// A bound's 32 bytes as a set: permission p is bit p mod 8 of byte p div 8.
+pub fn read_permissions(bytes: &[u8]) -> PermissionFlags {
+    let mut flags = [false; 256];
+    for (permission, flag) in flags.iter_mut().enumerate() {
+        *flag = bytes[permission / 8] / 2u8.pow(permission as u32 % 8) % 2 == 1;
+    }
+    flags
+}
+
+/// The bytes of an answer.
+fn answer(roles: &RoleFlags, carried: &PermissionFlags) -> [u8; ANSWER] {
+    let mut bytes = [0u8; ANSWER];
+    bytes[..8].copy_from_slice(&role_bytes(roles));
+    for permission in 0..256 {
+        if carried[permission] {
+            bytes[8 + permission / 8] += 2u8.pow(permission as u32 % 8);
+        }
+    }
+    bytes
+}

@@ -1,0 +1,83 @@
+//! What an accepted image means: who is assigned what, what roles carry, what excludes what.
+
+use std::collections::BTreeSet;
+
+/// A set of role numbers.
+pub type Roles = BTreeSet<usize>;
+
+/// A set of permission numbers.
+pub type Permissions = BTreeSet<usize>;
+
+/// The four kinds of mutual exclusion of 001, in the order of their numbers.
+#[derive(Clone, Copy, Debug, PartialEq, Eq, PartialOrd, Ord)]
+pub enum Kind {
+    /// 0, SS-DMER: members active in the session.
+    SessionActive,
+    /// 1, MS-DMER: members active in any open session of the user.
+    UserActive,
+    /// 2, SS-HMER: members active in the session at any time since it was opened.
+    SessionHistory,
+    /// 3, MS-HMER: members active in any session of the user at any time.
+    UserHistory,
+}
+
+/// Fewer than `limit` (01: n) of the members may be counted.
+#[derive(Clone, Debug, PartialEq, Eq, PartialOrd, Ord)]
+pub struct Exclusion {
+    pub kind: Kind,
+    pub limit: usize,
+    pub members: Roles,
+}
+
+/// A policy: the head's numbers and what the entries say.
+#[derive(Clone, Debug)]
+pub struct Policy {
+    pub users: usize,
+    pub roles: usize,
+    pub permissions: usize,
+    /// The roles assigned to each user.
+    pub assigned: Vec<Roles>,
+    /// The permissions granted to each role by name.
+    pub granted: Vec<Permissions>,
+    /// The roles that each role is said to be senior over.
+    pub juniors: Vec<Roles>,
+    pub exclusions: Vec<Exclusion>,
+}
+
+impl Policy {
+    /// A policy of these numbers that says nothing.
+    pub fn blank(users: usize, roles: usize, permissions: usize) -> Policy {
+        Policy {
+            users,
+            roles,
+            permissions,
+            assigned: vec![Roles::new(); users],
+            granted: vec![Permissions::new(); roles],
+            juniors: vec![Roles::new(); roles],
+            exclusions: Vec::new(),
+        }
+    }
+
+    /// The roles that a chain of senior words reaches from a role, the role itself among them.
+    pub fn reached(&self, role: usize) -> Roles {
+        let mut found = Roles::from([role]);
+        let mut waiting = vec![role];
+        while let Some(senior) = waiting.pop() {
+            for junior in &self.juniors[senior] {
+                if found.insert(*junior) {
+                    waiting.push(*junior);
+                }
+            }
+        }
+        found
+    }
+
+    /// The permissions that a role carries.
+    pub fn carried_by(&self, role: usize) -> Permissions {
+        let mut carried = Permissions::new();
+        for reached in self.reached(role) {
+            carried.extend(&self.granted[reached]);
+        }
+        carried
+    }
+}

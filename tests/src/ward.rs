@@ -1,0 +1,140 @@
+//! The ward examples of 01: image A and its variants, 003's three roles, and bounds as one hex number.
+
+use crate::solver::calls::{Call, Reply};
+use crate::words;
+
+/// Image A of 01, from 000's running example, word for word.
+pub const A: [u32; 13] = [
+    0x102080A0, 0x20000000, 0x20010000, 0x30000000, 0x30004000, 0x30008000, 0x3000C000, 0x30404000, 0x30410000, 0x54102000,
+    0x60000000, 0x60400000, 0xFB0B9F60,
+];
+
+pub fn image_a() -> Vec<u8> {
+    words::bytes(&A)
+}
+
+/// Image A with its exclusion made of this kind and limit.
+pub fn image_a_with(kind: u32, limit: u32) -> Vec<u8> {
+    let mut image = A;
+    image[9] = words::exclusion_head(kind, limit, 2);
+    words::rebalance(&mut image);
+    words::bytes(&image)
+}
+
+/// 003's three roles, carrying {0,2}, {1,3} and {1,2}, no exclusion.
+pub fn three_roles() -> Vec<u8> {
+    let mut image = vec![words::head(1, 3, 4)];
+    image.extend((0..3).map(|role| words::assignment(0, role)));
+    for (role, permission) in [(0, 0), (0, 2), (1, 1), (1, 3), (2, 1), (2, 2)] {
+        image.push(words::grant(role, permission));
+    }
+    words::bytes(&words::closed(image))
+}
+
+/// A bound's 32 bytes whose bit p is permission p, for the permissions below 64.
+pub fn bound(number: u64) -> Vec<u8> {
+    let mut bytes = number.to_le_bytes().to_vec();
+    bytes.resize(32, 0);
+    bytes
+}
+
+/// One user with this many roles assigned, of 20.
+pub fn roles_of_one_user(count: u32) -> Vec<u8> {
+    let mut image = vec![words::head(1, 20, 1)];
+    image.extend((0..count).map(|role| words::assignment(0, role)));
+    words::bytes(&words::closed(image))
+}
+
+/// What 01 writes for a call: the number, the extra, roles and permissions (0 unless an ask or show is done).
+pub type Seen = (u64, u64, u64, u64);
+
+/// A ward example: calls on the zero ledger and what they answer.
+pub struct Case {
+    pub name: &'static str,
+    pub image: Vec<u8>,
+    pub calls: Vec<Call>,
+    pub expected: Vec<Seen>,
+}
+
+/// What a reply shows, for permissions below 64.
+pub fn seen(reply: &Reply) -> Seen {
+    let number = |bytes: &[u8]| bytes.iter().rev().fold(0, |sum, byte| sum * 256 + u64::from(*byte));
+    let (roles, permissions) = reply.answer.map_or((0, 0), |answer| (number(&answer[..8]), number(&answer[8..16])));
+    (reply.number, reply.extra, roles, permissions)
+}
+
+fn open() -> Call {
+    Call::Open { user: 0 }
+}
+
+fn close(session: u64) -> Call {
+    Call::Close { user: 0, session }
+}
+
+fn show(session: u64) -> Call {
+    Call::Show { user: 0, session, room: 40 }
+}
+
+fn ask(session: u64, lower: u64, upper: u64, objectives: (u64, u64)) -> Call {
+    Call::Ask { user: 0, session, lower: bound(lower), upper: bound(upper), objectives, room: 40 }
+}
+
+fn short(session: u64, lower: u64, upper: u64) -> Call {
+    Call::ShortAsk { user: 0, session, lower: bound(lower), upper: bound(upper), room: 40 }
+}
+
+/// The script of 01: two windows of one doctor.
+fn script() -> Vec<Call> {
+    let (prescribe, manage) = (ask(0, 0x3, 0x1f, (1, 0)), ask(1, 0x12, 0x1f, (1, 0)));
+    vec![open(), prescribe, open(), manage.clone(), close(0), manage]
+}
+
+/// What the script answers when only its last line is left open.
+fn script_ending(last: Seen) -> Vec<Seen> {
+    vec![(0, 0, 0, 0), (0, 0, 1, 0xf), (0, 1, 0, 0), (20, 0, 0, 0), (0, 0, 0, 0), last]
+}
+
+/// Every ward example of 01, the starred ones and those that are only run.
+pub fn cases() -> Vec<Case> {
+    let opened = (0, 0, 0, 0);
+    let none = (20, 0, 0, 0);
+    let case = |name, image: Vec<u8>, calls: Vec<Call>, expected: Vec<Seen>| Case { name, image, calls, expected };
+    let mut cases = vec![
+        case("the script under A", image_a(), script(), script_ending((0, 0, 2, 0x12))),
+        case("the script under A with kind 3", image_a_with(3, 2), script(), script_ending(none)),
+        case(
+            "A with kind 2, in the same and in a new session",
+            image_a_with(2, 2),
+            vec![open(), ask(0, 0x3, 0x1f, (0, 0)), ask(0, 0x12, 0x1f, (0, 0)), open(), ask(1, 0x12, 0x1f, (0, 0))],
+            vec![opened, (0, 0, 1, 0xf), none, (0, 1, 0, 0), (0, 0, 2, 0x12)],
+        ),
+        case("lower 3 and upper 3: Doctor carries more", image_a(), vec![open(), short(0, 3, 3)], vec![opened, none]),
+        case("both bounds empty", image_a(), vec![open(), ask(0, 0, 0, (1, 0))], vec![opened, opened]),
+        case("n 1, lower 3", image_a_with(1, 1), vec![open(), short(0, 3, 0x1f)], vec![opened, none]),
+        case("n 1, both bounds empty", image_a_with(1, 1), vec![open(), short(0, 0, 0)], vec![opened, opened]),
+        case(
+            "fifth open",
+            image_a(),
+            vec![open(), open(), open(), open(), open()],
+            vec![opened, (0, 1, 0, 0), (0, 2, 0, 0), (0, 3, 0, 0), (14, 0, 0, 0)],
+        ),
+        case("lower outside upper", image_a(), vec![open(), short(0, 0x3, 0x1d)], vec![opened, (17, 0, 0, 0)]),
+        case("person 1 of A", image_a(), vec![Call::Open { user: 1 }], vec![(10, 0, 0, 0)]),
+        case(
+            "show after an ask, after a close",
+            image_a(),
+            vec![open(), ask(0, 0x3, 0x1f, (0, 0)), show(0), close(0), show(0)],
+            vec![opened, (0, 0, 1, 0xf), (0, 0, 1, 0xf), opened, (13, 0, 0, 0)],
+        ),
+    ];
+    for (objectives, roles, carried) in [((2, 0), 3, 0xf), ((2, 2), 7, 0xf), ((1, 2), 1, 0x5)] {
+        let calls = vec![open(), ask(0, 0x1, 0xf, objectives)];
+        cases.push(case("003's three roles", three_roles(), calls, vec![opened, (0, 0, roles, carried)]));
+    }
+    for kind in [0, 1] {
+        let calls = vec![open(), short(0, 0x3, 0x1f), short(0, 0x12, 0x1f)];
+        let expected = vec![opened, (0, 0, 1, 0xf), (0, 0, 2, 0x12)];
+        cases.push(case("a replaced set does not count in kinds 0 and 1", image_a_with(kind, 2), calls, expected));
+    }
+    cases
+}

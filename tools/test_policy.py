@@ -1,0 +1,387 @@
+#!/usr/bin/env python3
+"""Tests of tools/policy. The last line is 'N passed, M failed'."""
+
+import contextlib
+import importlib.machinery
+import importlib.util
+import io
+import os
+import random
+import subprocess
+import sys
+import tempfile
+import unittest
+
+sys.dont_write_bytecode = True
+ROOT = os.path.dirname(os.path.dirname(os.path.abspath(__file__)))
+TOOL = os.path.join(ROOT, "tools", "policy")
+WARD = os.path.join(ROOT, "examples", "ward.policy")
+LOADER = importlib.machinery.SourceFileLoader("policy", TOOL)
+policy = importlib.util.module_from_spec(importlib.util.spec_from_loader("policy", LOADER))
+LOADER.exec_module(policy)
+
+# Image A of 01, word for word.
+A = [0x102080A0, 0x20000000, 0x20010000, 0x30000000, 0x30004000, 0x30008000, 0x3000C000, 0x30404000, 0x30410000, 0x54102000,
+     0x60000000, 0x60400000, 0xFB0B9F60]
+
+# Two users, three roles, four permissions: what most texts below start with.
+START = "user ANNA BERT\nrole Doctor Nurse Clerk\npermission Read Write Send Print\n"
+
+
+def image(*words):
+    """The bytes of these words with an end word that balances them."""
+    return policy.to_bytes([*words, policy.end_word(words)])
+
+
+def words_of(text):
+    """The words of a text without head and end."""
+    return policy.parse(text, "t")[0].words()[1:-1]
+
+
+def errors_of(text):
+    """The errors of a text, one to a line."""
+    try:
+        policy.parse(text, "t")
+    except policy.Errors as errors:
+        return str(errors)
+    return ""
+
+
+def refusal_of(data):
+    """Number and place of an image's refusal; None if it is accepted."""
+    try:
+        policy.check(data)
+    except policy.Refused as refused:
+        return refused.number, refused.place
+    return None
+
+
+def random_policy(dice):
+    """A policy with entries in any order, with repeats, that an image accepts."""
+    counts = [dice.choice([1, 2, 64]), dice.choice([1, 2, 5, 64]), dice.choice([1, 3, 256])]
+    entries, roles_of, exclusions = [], {}, 0
+    for _ in range(dice.choice([0, 1, 40])):
+        kind = dice.randrange(2, 6)
+        user, role, other, permission = (dice.randrange(counts[k]) for k in (0, 1, 1, 2))
+        if kind == policy.ASSIGNMENT and len(roles_of.setdefault(user, set()) | {role}) <= 16:
+            roles_of[user].add(role)
+            entries.append((kind, user, role))
+        elif kind == policy.GRANT:
+            entries.append((kind, role, permission))
+        elif kind == policy.SENIOR and role != other:
+            entries.append((kind, role, other))
+        elif kind == policy.EXCLUSION and exclusions < 32:
+            members = dice.sample(range(counts[1]), dice.randrange(1, counts[1] + 1))
+            entries.append((kind, dice.randrange(4), dice.randrange(1, len(members) + 1), members))
+            exclusions += 1
+    return policy.Policy(counts, entries)
+
+
+class Building(unittest.TestCase):
+    def test_the_ward_example_is_image_a_byte_for_byte(self):
+        with open(WARD, encoding="utf-8") as file:
+            self.assertEqual(policy.parse(file.read(), WARD)[0].words(), A)
+
+    def test_numbers_follow_the_order_of_declaration(self):
+        self.assertEqual(words_of(START + "assign BERT Clerk\ngrant Nurse Print"), [0x20420000, 0x3040C000])
+
+    def test_declarations_may_stand_after_their_use(self):
+        self.assertEqual(words_of("assign ANNA Doctor\nrole Doctor\npermission Read\nuser ANNA"), [0x20000000])
+
+    def test_words_keep_the_order_of_the_lines(self):
+        self.assertEqual(words_of(START + "senior Doctor Nurse\nassign ANNA Doctor"), [0x40010000, 0x20000000])
+
+    def test_an_exclusion_is_followed_by_its_members(self):
+        self.assertEqual(words_of(START + "exclude MS-HMER 2 Clerk Doctor"), [0x5C102000, 0x60800000, 0x60000000])
+
+    def test_the_four_kinds_have_the_numbers_0_to_3(self):
+        for number, kind in enumerate(["ss-dmer", "ms-dmer", "ss-hmer", "ms-hmer"]):
+            self.assertEqual(words_of(START + f"exclude {kind} 1 Clerk")[0] >> 26 & 3, number)
+
+    def test_a_repeated_line_is_written_again(self):
+        self.assertEqual(len(words_of(START + "assign ANNA Doctor\nassign ANNA Doctor")), 2)
+
+    def test_comments_and_blank_lines_and_line_ends_of_either_form_are_passed_over(self):
+        self.assertEqual(words_of(START.replace("\n", "\r\n") + "\r\n# all\r\n\tassign  ANNA Doctor# one\r\n"), [0x20000000])
+
+    def test_a_user_and_a_role_may_share_a_name(self):
+        self.assertEqual(words_of("user X\nrole X\npermission X\nassign X X\ngrant X X"), [0x20000000, 0x30000000])
+
+    def test_the_largest_policy_is_accepted(self):
+        lines = [f"{sort} " + " ".join(f"n{k}" for k in range(most)) for sort, most in policy.SORTS.items()]
+        lines += [f"assign n{user} " + " ".join(f"n{role}" for role in range(16)) for user in range(64)]
+        lines += ["exclude ss-dmer 64 " + " ".join(f"n{role}" for role in range(64))] * 32
+        room = 4096 - 2 - 64 * 16 - 32 * 65
+        lines += [f"grant n{k % 64} n{k // 64}" for k in range(room)]
+        words = policy.parse("\n".join(lines), "t")[0].words()
+        self.assertEqual(len(words), 4096)
+        self.assertIsNone(refusal_of(policy.to_bytes(words)))
+        self.assertIn(f"t:{len(lines) + 1}: too many words", errors_of("\n".join([*lines, "grant n0 n0"])))
+
+
+class Errors(unittest.TestCase):
+    def refuses(self, line, *parts):
+        """The text START with this fourth line has one error, which names the line and holds the parts."""
+        found = errors_of(START + line)
+        self.assertEqual(len(found.split("\n")), 1, found)
+        self.assertTrue(found.startswith("t:4: "), found)
+        for part in parts:
+            self.assertIn(part, found)
+
+    def test_refuses_an_unknown_name_and_hints_at_a_known_one(self):
+        self.refuses("assign ANA Doctor", "unknown user ANA", "did you mean ANNA?")
+        self.refuses("assign ANNA Surgeon", "unknown role Surgeon")
+        self.refuses("grant Doctor Wirte", "unknown permission Wirte", "did you mean Write?")
+        self.refuses("senior Doctor Read", "unknown role Read", "a permission of that name")
+        self.refuses("exclude ss-dmer 1 Read", "unknown role Read")
+
+    def test_refuses_an_unknown_first_word(self):
+        self.refuses("asign ANNA Doctor", "unknown word asign", "did you mean assign?")
+
+    def test_refuses_a_name_declared_twice_and_names_both_lines(self):
+        self.refuses("role Porter Nurse", "role Nurse is declared twice", "line 2")
+
+    def test_refuses_a_name_that_is_not_printable(self):
+        self.refuses("role Por\0ter", "can't be printed")
+
+    def test_refuses_lines_with_a_word_missing(self):
+        for line in ["user", "role", "permission", "assign ANNA", "grant", "senior Doctor", "exclude ss-dmer 1", "exclude"]:
+            self.refuses(line, line.split()[0])
+
+    def test_refuses_a_role_senior_over_itself(self):
+        self.refuses("senior Nurse Nurse", "Nurse", "itself")
+
+    def test_refuses_a_member_twice(self):
+        self.refuses("exclude ss-dmer 1 Doctor Nurse Doctor", "Doctor is a member twice")
+
+    def test_refuses_n_out_of_range(self):
+        for n in ["0", "3", "-1", "two", "1.0", "00000000000000000011", "²", "9" * 5000]:
+            self.refuses(f"exclude ss-dmer {n} Doctor Nurse", "from 1 to 2")
+
+    def test_refuses_an_unknown_kind_of_exclusion(self):
+        self.refuses("exclude dmer 1 Doctor", "unknown kind dmer", "ss-hmer")
+
+    def test_refuses_a_17th_role_of_a_user(self):
+        roles = [f"R{k}" for k in range(17)]
+        text = f"user A B\npermission P\nrole {' '.join(roles)}\nassign A {' '.join(roles[:16])}\nassign A R3\nassign B R16\n"
+        self.assertEqual(errors_of(text), "")
+        self.assertIn("t:7: role R16 is one too many for A", errors_of(text + "assign A R16"))
+
+    def test_refuses_a_33rd_exclusion(self):
+        text = START + "exclude ss-dmer 1 Doctor\n" * 32
+        self.assertEqual(errors_of(text), "")
+        self.assertIn("t:36: one exclusion too many", errors_of(text + "exclude ss-dmer 1 Doctor"))
+
+    def test_refuses_one_name_too_many_of_each_sort(self):
+        for sort, most in policy.SORTS.items():
+            others = "\n".join(f"{other} X" for other in policy.SORTS if other != sort)
+            names = "".join(f"{sort} n{k}\n" for k in range(most + 1))
+            self.assertEqual(errors_of(names[:-len(f"{sort} n{most}\n")] + others), "")
+            self.assertIn(f"t:{most + 1}: {sort} n{most} is one too many", errors_of(names + others))
+
+    def test_refuses_a_text_that_declares_none_of_a_sort(self):
+        self.assertEqual(errors_of("role R"), "t: declares no user\nt: declares no permission")
+
+    def test_tells_all_errors_in_the_order_of_the_lines(self):
+        found = errors_of(START + "assign ANNA X\nrole Nurse\ngrant Doctor Y\nfoo")
+        self.assertEqual([line.split(":")[1] for line in found.split("\n")], ["4", "5", "6", "7"])
+
+
+class Checking(unittest.TestCase):
+    HEAD = 0x1040C080  # two users, three roles, four permissions
+
+    def refuses(self, expected, *words):
+        self.assertEqual(refusal_of(image(self.HEAD, *words)), expected)
+
+    def test_accepts_image_a(self):
+        self.assertIsNone(refusal_of(policy.to_bytes(A)))
+
+    def test_accepts_a_head_and_an_end(self):
+        self.assertIsNone(refusal_of(image(self.HEAD)))
+
+    def test_refuses_lengths_by_1(self):
+        for length in [0, 4, 9, 10, 11, 16388, 16385]:
+            self.assertEqual(refusal_of(bytes(length)), (1, 0))
+        self.assertEqual(refusal_of(bytes(16384)), (2, 0))
+
+    def test_refuses_heads_by_2(self):
+        wrong = [(0, 1, 1), (65, 1, 1), (1, 0, 1), (1, 65, 1), (1, 1, 0), (1, 1, 257)]
+        for head in [0x20408000, self.HEAD | 1, self.HEAD | 16, *(policy.encode(1, *counts) for counts in wrong)]:
+            self.assertEqual(refusal_of(image(head)), (2, 0))
+        for counts in [(64, 64, 256), (1, 1, 1)]:
+            self.assertIsNone(refusal_of(image(policy.encode(1, *counts))))
+
+    def test_refuses_unknown_kinds_by_3(self):
+        for kind in [0, 1, *range(7, 15)]:
+            self.refuses((3, 1), kind << 28)
+
+    def test_refuses_members_out_of_place_by_3(self):
+        self.refuses((3, 1), 0x60000000)
+        self.refuses((3, 2), 0x50081000, 0x20000000)
+        self.refuses((3, 3), 0x50081000, 0x60000000, 0x60400000)
+        self.refuses((3, 2), 0x50081000)
+
+    def test_refuses_an_early_end_and_a_missing_end_by_3(self):
+        self.refuses((3, 1), 0xF0000000)
+        self.assertEqual(refusal_of(policy.to_bytes([self.HEAD, 0x20000000])), (3, 1))
+
+    def test_refuses_spare_bits_by_4(self):
+        for word, spare in [(0x20000000, 16), (0x30000000, 14), (0x40010000, 16), (0x50081000, 12)]:
+            for bit in range(spare):
+                self.refuses((4, 1), word | 1 << bit)
+        for bit in range(22):
+            self.refuses((4, 2), 0x50081000, 0x60000000 | 1 << bit)
+
+    def test_refuses_numbers_out_of_range_by_5(self):
+        for word in [0x20800000, 0x20030000, 0x30C00000, 0x30010000, 0x40C00000, 0x40030000]:
+            self.refuses((5, 1), word)
+        self.refuses((5, 2), 0x50081000, 0x60C00000)
+
+    def test_refuses_n_and_m_out_of_range_by_5(self):
+        for n, m in [(0, 1), (2, 1), (0, 0), (1, 0), (1, 4), (4, 4), (127, 127)]:
+            self.refuses((5, 1), policy.encode(5, 0, n, m))
+
+    def test_refuses_repeats_by_6(self):
+        self.refuses((6, 1), 0x40410000)
+        self.refuses((6, 3), 0x50082000, 0x60400000, 0x60400000)
+
+    def test_a_member_of_an_earlier_exclusion_is_no_repeat(self):
+        self.assertIsNone(refusal_of(image(self.HEAD, 0x50081000, 0x60400000, 0x50081000, 0x60400000)))
+
+    def test_refuses_a_17th_role_and_a_33rd_exclusion_by_7(self):
+        head = policy.encode(1, 2, 20, 1)
+        roles = [policy.encode(2, 1, role) for role in range(17)]
+        self.assertIsNone(refusal_of(image(head, *roles[:16], roles[3])))
+        self.assertEqual(refusal_of(image(head, *roles)), (7, 17))
+        exclusions = [0x50081000, 0x60000000] * 33
+        self.assertIsNone(refusal_of(image(head, *exclusions[:64])))
+        self.assertEqual(refusal_of(image(head, *exclusions)), (7, 65))
+
+    def test_refuses_a_sum_out_of_balance_by_8_at_the_last_word(self):
+        for bit in range(28):
+            self.assertEqual(refusal_of(policy.to_bytes([*A[:-1], A[-1] ^ 1 << bit])), (8, 12))
+
+    def test_the_earliest_bad_word_decides_then_the_lower_number(self):
+        self.refuses((5, 1), 0x20030000, 0x70000000)
+        self.refuses((4, 1), 0x20030001)
+        self.refuses((3, 2), 0x50081000, 0x20030001)
+        self.assertEqual(refusal_of(policy.to_bytes([self.HEAD, 0x70000000, 0xF0000001])), (3, 1))
+
+
+class Listing(unittest.TestCase):
+    def again(self, words):
+        """The words of the listing of these words."""
+        said = policy.read(words)
+        return policy.parse(policy.listing(said, policy.plain_names(said.counts)), "t")[0].words()
+
+    def test_image_a_with_its_names_reads_as_the_ward_example(self):
+        with open(WARD, encoding="utf-8") as file:
+            _, names = policy.parse(file.read(), WARD)
+        lines = policy.listing(policy.read(A), names).split("\n")
+        self.assertIn("user ANNA  # 0", lines)
+        self.assertIn("permission Send_data  # 4", lines)
+        self.assertIn("assign ANNA Doctor Data_Manager", lines)
+        self.assertIn("grant Data_Manager Read_health_records Send_data", lines)
+        self.assertIn("exclude ms-dmer 2 Doctor Data_Manager", lines)
+
+    def test_a_listed_image_builds_again_byte_for_byte(self):
+        for seed in range(300):
+            words = random_policy(random.Random(seed)).words()
+            self.assertIsNone(refusal_of(policy.to_bytes(words)), f"seed {seed}")
+            self.assertEqual(self.again(words), words, f"seed {seed}")
+
+    def test_long_entries_are_broken_and_keep_their_order(self):
+        words = policy.to_words(image(policy.encode(1, 1, 1, 256), *(policy.encode(3, 0, 255 - p) for p in range(256))))
+        said = policy.read(words)
+        text = policy.listing(said, policy.plain_names(said.counts))
+        self.assertLessEqual(max(len(line) for line in text.split("\n")), policy.WIDTH)
+        self.assertEqual(self.again(words), words)
+
+
+class Commands(unittest.TestCase):
+    def setUp(self):
+        self.folder = tempfile.TemporaryDirectory()
+        self.addCleanup(self.folder.cleanup)
+
+    def path(self, name, content=None):
+        path = os.path.join(self.folder.name, name)
+        if content is not None:
+            with open(path, "wb") as file:
+                file.write(content)
+        return path
+
+    def run_tool(self, *words):
+        done = subprocess.run([sys.executable, TOOL, *words], cwd=self.folder.name, capture_output=True, text=True, check=False)
+        return done.returncode, done.stdout, done.stderr
+
+    def test_build_writes_policy_img_in_the_working_directory(self):
+        status, out, err = self.run_tool("build", WARD)
+        self.assertEqual((status, err), (0, ""))
+        self.assertEqual(out, "policy.img: 1 user, 2 roles, 5 permissions, 13 words\n")
+        with open(self.path("policy.img"), "rb") as file:
+            self.assertEqual(file.read(), policy.to_bytes(A))
+        self.assertEqual(os.listdir(self.folder.name), ["policy.img"])
+
+    def test_build_writes_nothing_if_the_text_has_an_error(self):
+        text = self.path("p.txt", b"user A\nrole R\npermission P\nassign A S\n")
+        self.path("policy.img", b"old")
+        self.assertEqual(self.run_tool("build", text), (1, "", f"{text}:4: unknown role S\n"))
+        with open(self.path("policy.img"), "rb") as file:
+            self.assertEqual(file.read(), b"old")
+
+    def test_build_names_the_line_that_is_not_text(self):
+        text = self.path("p.txt", b"user A\nrole \xff\n")
+        self.assertEqual(self.run_tool("build", text), (1, "", f"{text}:2: not UTF-8 text\n"))
+
+    def test_build_passes_over_a_byte_order_mark(self):
+        text = self.path("p.txt", "\ufeffuser A\nrole R\npermission P\n".encode())
+        self.assertEqual(self.run_tool("build", text)[0], 0)
+
+    def test_check_prints_number_word_and_place(self):
+        good, bad = self.path("good", policy.to_bytes(A)), self.path("bad", policy.to_bytes([*A[:3], 0x30800000, *A[4:]]))
+        self.assertEqual(self.run_tool("check", good)[:2], (0, "0 accepted: 1 user, 2 roles, 5 permissions, 13 words\n"))
+        status, out, _ = self.run_tool("check", bad)
+        self.assertEqual((status, out), (1, "5 range at place 3: role 2 is not below 2 (30800000)\n"))
+
+    def test_list_then_build_gives_the_same_file(self):
+        first, text, second = self.path("a.img", policy.to_bytes(A)), self.path("a.txt"), self.path("b.img")
+        with open(text, "w", encoding="utf-8") as file:
+            file.write(self.run_tool("list", first, WARD)[1])
+        self.assertEqual(self.run_tool("build", text, "-o", second)[0], 0)
+        with open(second, "rb") as file:
+            self.assertEqual(file.read(), policy.to_bytes(A))
+
+    def test_list_refuses_a_refused_image(self):
+        status, out, err = self.run_tool("list", self.path("bad", b"1234"))
+        self.assertEqual((status, out), (1, ""))
+        self.assertIn("1 length at place 0", err)
+
+    def test_list_refuses_names_for_another_number_of_roles(self):
+        names = self.path("names", b"user A\nrole R\npermission A B C D E\n")
+        status, _, err = self.run_tool("list", self.path("a.img", policy.to_bytes(A)), names)
+        self.assertEqual((status, err), (1, f"{names}: declares 1 roles, and the image has 2\n"))
+
+    def test_a_file_that_is_not_there_and_wrong_usage_give_status_2(self):
+        for words in [("build", "nothing"), ("list", "nothing"), ("check", "nothing"), ("foo",), ()]:
+            status, out, err = self.run_tool(*words)
+            self.assertEqual((status, out), (2, ""), words)
+            self.assertNotIn("Traceback", err)
+
+    def test_help_describes_the_text_form(self):
+        with contextlib.redirect_stdout(io.StringIO()) as out, self.assertRaises(SystemExit):
+            policy.main(["--help"])
+        for word in [*policy.SORTS, *policy.ENTRIES, *policy.EXCLUSION_KINDS]:
+            self.assertIn(word, out.getvalue())
+
+
+def main():
+    result = unittest.TextTestRunner(stream=sys.stdout, verbosity=2).run(unittest.defaultTestLoader.loadTestsFromModule(
+        sys.modules[__name__]))
+    failed = len({case.id() for case, _ in result.failures + result.errors})
+    sys.stdout.flush()
+    print(f"{result.testsRun - failed} passed, {failed} failed")
+    return 0 if failed == 0 and result.testsRun > 0 else 1
+
+
+if __name__ == "__main__":
+    sys.exit(main())
