@@ -28,9 +28,9 @@ pub record Task : Type 0 where
   pub first : ℕ
   pub second : ℕ
 
-abbrev pub taskOf : List (List ℕ) → List ℕ → List ℕ → List ℕ → Job → Task
-taskOf rows lower masks rooms job =
-    record { row = rowsOf rows; lower = value lower; room = roomy masks rooms (job .count); first = job .first; second = job .second }
+abbrev pub taskOf : List (List ℕ) → List ℕ → List ℕ → Job → Task
+taskOf rows masks rooms job =
+    record { row = rowsOf rows; lower = value (job .lower); room = roomy masks rooms (job .count); first = job .first; second = job .second }
 
 -- the permissions that the roles of s carry
 unfoldable pub carries : Task → ℕ → ℕ

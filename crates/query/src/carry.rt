@@ -4,9 +4,12 @@ ghost use mathlib.Core.Path.{_≡_};
 ghost use mathlib.Core.Bool.{false};
 ghost use Prim.Native.Nat.{_<_};
 ghost use Rattle.model.specs.Tests.{pick};
-ghost use Rattle.model.specs.Sets.{has, with as withOf, within, unionTo};
+ghost use Rattle.model.specs.Sets.{has, with as withOf, within};
+ghost use Rattle.model.specs.Policy.{Meaning};
+ghost use Rattle.model.specs.Choice.{carriedBy};
 ghost use Rattle.sets.specs.Words.{value};
 ghost use Rattle.query.specs.Search.{rowsOf, Keeps, Missing};
+ghost use Rattle.query.specs.Answer.{Carry};
 use model::Permission;
 use model::Role;
 
@@ -53,9 +56,9 @@ pub fn holders(rows: &[[u64; 4]; 64], p: Permission, set: u64) -> u64
     found
 }
 
-// What the roles of a set carry.
+// What the roles of a set carry, under every policy in which each of them carries its row.
 pub fn carried_by(rows: &[[u64; 4]; 64], set: u64) -> [u64; 4]
-    ensures { λ c. ⌜ value c ≡ unionTo (rowsOf (now (rows .entry))) set 64 ⌝ }
+    ensures { λ c. ⌜ ((m : Meaning) → Carry m set (rowsOf (now (rows .entry))) → value c ≡ carriedBy m set) ⌝ }
 {
     let mut left = set;
     let mut all = [0u64; 4];

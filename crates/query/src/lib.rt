@@ -20,6 +20,7 @@ pub mod search;
 use carry::usable;
 use rank::Best;
 use rank::Job;
+use rank::NONE;
 use rooms::room_for;
 use search::permission_step;
 use search::subset_step;
@@ -34,43 +35,35 @@ fn answer(best: Best) -> Choice
     ensures { λ r. ⌜ r ≡ answerOf best ⌝ }
 {
     let key = best.key;
-    if key == 1048576 {
+    if key == NONE {
         return Choice::Nothing;
     }
     Choice::Roles(best.roles)
 }
 
 // The best set of free roles, from the empty set, which the exclusions have room for: Procedure 3 unless an objective is the most.
-fn best_of(
-    rows: &[[u64; 4]; 64],
-    lower: [u64; 4],
-    masks: &[u64; 32],
-    rooms: &[u32; 32],
-    job: Job,
-    free: u64,
-) -> Best
+fn best_of(rows: &[[u64; 4]; 64], masks: &[u64; 32], rooms: &[u32; 32], job: Job, free: u64) -> Best
     requires { ⌜ (job .count ≤ 32) × (roomy (now masks) (now rooms) (job .count) 0 ≡ true) ⌝ }
-    ensures { λ r. ⌜ Found (taskOf (now (rows .entry)) lower (now (masks .entry)) (now (rooms .entry)) job) 0 free noBest r ⌝ }
+    ensures { λ r. ⌜ Found (taskOf (now (rows .entry)) (now (masks .entry)) (now (rooms .entry)) job) 0 free noBest r ⌝ }
 {
     let none = Best {
-        key: 1048576,
+        key: NONE,
         roles: 0,
     };
     let first = job.first;
     let second = job.second;
     if first < 2 {
         if second < 2 {
-            return permission_step(rows, lower, masks, rooms, job, free, 0, [0u64; 4], none);
+            return permission_step(rows, masks, rooms, job, free, 0, [0u64; 4], none);
         }
     }
-    subset_step(rows, lower, masks, rooms, job, free, 0, [0u64; 4], none)
+    subset_step(rows, masks, rooms, job, free, 0, [0u64; 4], none)
 }
 
 // The best admissible role set, of the roles that the user may activate: at least the lower bound, nothing outside the upper, and
 // room under each exclusion.
 pub fn solve(
     rows: &[[u64; 4]; 64],
-    lower: [u64; 4],
     upper: [u64; 4],
     authorized: u64,
     masks: &[u64; 32],
@@ -78,12 +71,12 @@ pub fn solve(
     job: Job,
 ) -> Choice
     requires { ⌜ job .count ≤ 32 ⌝ }
-    ensures { λ r. ⌜ ((m : Meaning) (l : Line) (k : ℕ) → Given m l k authorized (rowsOf (now (rows .entry))) (roomy (now (masks .entry)) (now (rooms .entry)) (job .count)) → answered r ≡ choose m l k (value lower) (value upper) (job .first) (job .second)) ⌝ }
+    ensures { λ r. ⌜ ((m : Meaning) (l : Line) (k : ℕ) → Given m l k authorized (rowsOf (now (rows .entry))) (roomy (now (masks .entry)) (now (rooms .entry)) (job .count)) → answered r ≡ choose m l k (value (job .lower)) (value upper) (job .first) (job .second)) ⌝ }
 {
     let count = job.count;
     if !room_for(masks, rooms, count, 0) {
         return Choice::Nothing;
     }
     let free = usable(rows, upper, authorized);
-    answer(best_of(rows, lower, masks, rooms, job, free))
+    answer(best_of(rows, masks, rooms, job, free))
 }

@@ -1,5 +1,4 @@
 // The two searches. Each step is given the roles chosen so far with what they carry, the roles still free, and the best set so far.
-ghost use Prim.Native.Nat.{_≤_, _<_};
 ghost use Rattle.sets.specs.Words.{value};
 ghost use Rattle.query.specs.Search.{taskOf, Sub, Ready, Modest, Found, Tried};
 use crate::carry::holders;
@@ -14,7 +13,6 @@ use crate::rooms::room_for;
 // no better than the best so far is given up, since a larger one is no better than it.
 pub fn permission_step(
     rows: &[[u64; 4]; 64],
-    lower: [u64; 4],
     masks: &[u64; 32],
     rooms: &[u32; 32],
     job: Job,
@@ -23,13 +21,14 @@ pub fn permission_step(
     carried: [u64; 4],
     best: Best,
 ) -> Best
-    requires { ⌜ (Ready (taskOf (now rows) lower (now masks) (now rooms) job) (job .count) chosen (value carried)) × (Modest (taskOf (now rows) lower (now masks) (now rooms) job)) ⌝ }
-    ensures { λ r. ⌜ Found (taskOf (now (rows .entry)) lower (now (masks .entry)) (now (rooms .entry)) job) chosen free best r ⌝ }
+    requires { ⌜ (Ready (taskOf (now rows) (now masks) (now rooms) job) (job .count) chosen (value carried)) × (Modest (taskOf (now rows) (now masks) (now rooms) job)) ⌝ }
+    ensures { λ r. ⌜ Found (taskOf (now (rows .entry)) (now (masks .entry)) (now (rooms .entry)) job) chosen free best r ⌝ }
 {
     let key = key_of(job, chosen, carried);
     if no_worse(best, key, chosen) {
         return best;
     }
+    let lower = job.lower;
     if sets::perm_within(lower, carried) {
         return Best {
             key: key,
@@ -37,24 +36,12 @@ pub fn permission_step(
         };
     }
     let tries = holders(rows, missing(lower, carried), free);
-    role_step(
-        rows,
-        lower,
-        masks,
-        rooms,
-        job,
-        tries,
-        free,
-        chosen,
-        carried,
-        best,
-    )
+    role_step(rows, masks, rooms, job, tries, free, chosen, carried, best)
 }
 
 // The roles of tries are tried. One that was tried is barred from what is tried after it.
 pub fn role_step(
     rows: &[[u64; 4]; 64],
-    lower: [u64; 4],
     masks: &[u64; 32],
     rooms: &[u32; 32],
     job: Job,
@@ -64,8 +51,8 @@ pub fn role_step(
     carried: [u64; 4],
     best: Best,
 ) -> Best
-    requires { ⌜ (Ready (taskOf (now rows) lower (now masks) (now rooms) job) (job .count) chosen (value carried)) × (Modest (taskOf (now rows) lower (now masks) (now rooms) job)) × (Sub tries free) ⌝ }
-    ensures { λ r. ⌜ Tried (taskOf (now (rows .entry)) lower (now (masks .entry)) (now (rooms .entry)) job) tries chosen free best r ⌝ }
+    requires { ⌜ (Ready (taskOf (now rows) (now masks) (now rooms) job) (job .count) chosen (value carried)) × (Modest (taskOf (now rows) (now masks) (now rooms) job)) × (Sub tries free) ⌝ }
+    ensures { λ r. ⌜ Tried (taskOf (now (rows .entry)) (now (masks .entry)) (now (rooms .entry)) job) tries chosen free best r ⌝ }
 {
     if tries == 0 {
         return best;
@@ -76,40 +63,17 @@ pub fn role_step(
     let more = sets::with(chosen, role);
     let count = job.count;
     if !room_for(masks, rooms, count, more) {
-        return role_step(
-            rows,
-            lower,
-            masks,
-            rooms,
-            job,
-            rest,
-            less,
-            chosen,
-            carried,
-            best,
-        );
+        return role_step(rows, masks, rooms, job, rest, less, chosen, carried, best);
     }
     let i = role.0 as usize;
     let sum = sets::perm_union(carried, rows[i]);
-    let next = permission_step(rows, lower, masks, rooms, job, less, more, sum, best);
-    role_step(
-        rows,
-        lower,
-        masks,
-        rooms,
-        job,
-        rest,
-        less,
-        chosen,
-        carried,
-        next,
-    )
+    let next = permission_step(rows, masks, rooms, job, less, more, sum, best);
+    role_step(rows, masks, rooms, job, rest, less, chosen, carried, next)
 }
 
 // Every set that has the chosen roles and some of the free ones: without the lowest, and then with it where the exclusions have room.
 pub fn subset_step(
     rows: &[[u64; 4]; 64],
-    lower: [u64; 4],
     masks: &[u64; 32],
     rooms: &[u32; 32],
     job: Job,
@@ -118,10 +82,11 @@ pub fn subset_step(
     carried: [u64; 4],
     best: Best,
 ) -> Best
-    requires { ⌜ Ready (taskOf (now rows) lower (now masks) (now rooms) job) (job .count) chosen (value carried) ⌝ }
-    ensures { λ r. ⌜ Found (taskOf (now (rows .entry)) lower (now (masks .entry)) (now (rooms .entry)) job) chosen free best r ⌝ }
+    requires { ⌜ Ready (taskOf (now rows) (now masks) (now rooms) job) (job .count) chosen (value carried) ⌝ }
+    ensures { λ r. ⌜ Found (taskOf (now (rows .entry)) (now (masks .entry)) (now (rooms .entry)) job) chosen free best r ⌝ }
 {
     if free == 0 {
+        let lower = job.lower;
         if !sets::perm_within(lower, carried) {
             return best;
         }
@@ -136,13 +101,13 @@ pub fn subset_step(
     }
     let role = sets::lowest(free);
     let less = sets::without(free, role);
-    let next = subset_step(rows, lower, masks, rooms, job, less, chosen, carried, best);
-    let more = sets::with(chosen, role);
+    let next = subset_step(rows, masks, rooms, job, less, chosen, carried, best);
+    let wider = sets::with(chosen, role);
     let count = job.count;
-    if !room_for(masks, rooms, count, more) {
+    if !room_for(masks, rooms, count, wider) {
         return next;
     }
     let i = role.0 as usize;
     let sum = sets::perm_union(carried, rows[i]);
-    subset_step(rows, lower, masks, rooms, job, less, more, sum, next)
+    subset_step(rows, masks, rooms, job, less, wider, sum, next)
 }

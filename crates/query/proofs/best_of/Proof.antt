@@ -2,7 +2,6 @@
 -- Assumes nothing.
 use mathlib.Core.Path.{refl}
 use borrow.Author.Needs.{needs}
-use native.Mathlib.Omega.{arith}
 use denote.Ref.{now}
 use Rattle.sets.specs.Words.{joined, value}
 use Rattle.query.specs.Search.{taskOf}
@@ -15,7 +14,7 @@ unfolding value joined
 permission-step-requires c κs =
     let s = c .before .before in
     let g = s .args in (
-      ready-none (taskOf (now (g .rows)) (g .lower) (now (g .masks)) (now (g .rooms)) (g .job)) (g .job .count) 0 (s .pre .0) refl (s .pre .1),
+      ready-none (taskOf (now (g .rows)) (now (g .masks)) (now (g .rooms)) (g .job)) (g .job .count) 0 (s .pre .0) refl (s .pre .1),
       record { permissions = c .before .if1 .taken; roles = c .if2 .taken },
     )
 
@@ -24,7 +23,7 @@ unfolding value joined
 subset-step-requires c κs =
     let s = c .before in
     let g = s .args in
-    ready-none (taskOf (now (g .rows)) (g .lower) (now (g .masks)) (now (g .rooms)) (g .job)) (g .job .count) 0 (s .pre .0) refl (s .pre .1)
+    ready-none (taskOf (now (g .rows)) (now (g .masks)) (now (g .rooms)) (g .job)) (g .job .count) 0 (s .pre .0) refl (s .pre .1)
 
 pub best-of-spec : {M : Type 1} → statement M
 best-of-spec = tie.close (tie.spec permission-step-requires (λ c. search needs) subset-step-requires (λ c. search needs))

@@ -2,11 +2,12 @@
 -- Assumes nothing.
 use borrow.Author.Needs.{needs}
 use native.Mathlib.Nat.{lt-of-le-of-lt}
-use mathlib.Core.Path.{_≡_, refl}
+use mathlib.Core.Path.{_≡_, refl, _∙_}
 use Rattle.model.specs.Sets.{union, unionTo, count}
 use Rattle.sets.specs.Words.{joined, value}
 use Rattle.query.specs.Search.{rowsOf, Sub}
 use Rattle.query.proofs.Members.{sub-le, fewer-sub}
+use Rattle.query.proofs.Solved.{carried-meaning}
 use Rattle.query.proofs.Walks.{fewer-left, rows-start, rows-next, rows-end}
 use Rattle.query.proofs.carry.carried_by.Statement.{statement}
 use Rattle.query.proofs.carry.carried_by.Tie as tie
@@ -40,7 +41,9 @@ loop-again c =
     )
 
 returns : tie.Need-returns Inv-loop μ-loop
-returns c = rows-end _ (c .before .before .args .set) (value (c .before .loop .all)) (c .before .loop .left) (c .loop-test .left) (c .before .loop .inv .1)
+returns c m h =
+    rows-end _ (c .before .before .args .set) (value (c .before .loop .all)) (c .before .loop .left) (c .loop-test .left) (c .before .loop .inv .1)
+    ∙ carried-meaning m (c .before .before .args .set) _ h
 
 pub carried-by-spec : {M : Type 1} → statement M
 carried-by-spec =

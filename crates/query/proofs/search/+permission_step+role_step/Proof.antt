@@ -3,7 +3,7 @@
 -- Assumes nothing.
 use Prim.Native.Nat.{ℕ, _+_, _*_, _<_}
 use native.Mathlib.Omega.{arith}
-use mathlib.Core.Path.{_≡_, refl, sym, _∙_}
+use mathlib.Core.Path.{refl}
 use borrow.Author.Needs.{needs}
 use borrow.Author.Tests.{not-true, not-false}
 use borrow.Fn.Kinds.{In}
@@ -34,10 +34,10 @@ use Rattle.query.proofs.search.+permission_step+role_step.{statement}
 use Rattle.query.proofs.search.+permission_step+role_step.Tie.{close}
 
 abbrev μ-permission-step : Measures 3 permission-step-kinds.ps ℕ
-μ-permission-step κs a = wanted (value (a .1 .0)) (value (a .1 .1 .1 .1 .1 .1 .1 .0)) + 2 * count 64 (a .1 .1 .1 .1 .1 .0) + 1
+μ-permission-step κs a = wanted (value (a .1 .1 .1 .0 .lower)) (value (a .1 .1 .1 .1 .1 .1 .0)) + 2 * count 64 (a .1 .1 .1 .1 .0) + 1
 
 abbrev μ-role-step : Measures 3 role-step-kinds.ps ℕ
-μ-role-step κs a = wanted (value (a .1 .0)) (value (a .1 .1 .1 .1 .1 .1 .1 .1 .0)) + 2 * count 64 (a .1 .1 .1 .1 .1 .1 .0)
+μ-role-step κs a = wanted (value (a .1 .1 .1 .0 .lower)) (value (a .1 .1 .1 .1 .1 .1 .1 .0)) + 2 * count 64 (a .1 .1 .1 .1 .1 .0)
 
 abbrev permission-step-at : ℕ → In 3 permission-step-kinds.ps
 permission-step-at t = and 3 permission-step-kinds.ps (is 3 permission-step-kinds.ps μ-permission-step t) permission-step.Pre
@@ -73,21 +73,21 @@ pub +permission-step+role-step-spec : {M : Type 1} → statement M
     (λ c κs. search needs)
     (λ c. let s = c .before .before .before in
     let g = s .args in
-    gives-up (taskOf (now (g .rows)) (g .lower) (now (g .masks)) (now (g .rooms)) (g .job)) (g .job .count) (g .chosen) (value (g .carried)) _ (g .best) _ (s .pre .1 .0) (c .before .before .key-of .ensures) (c .before .no-worse .ensures) (g .free) (s .pre .1 .1) (c .if1 .taken))
+    gives-up (taskOf (now (g .rows)) (now (g .masks)) (now (g .rooms)) (g .job)) (g .job .count) (g .chosen) (value (g .carried)) _ (g .best) _ (s .pre .1 .0) (c .before .before .key-of .ensures) (c .before .no-worse .ensures) (g .free) (s .pre .1 .1) (c .if1 .taken))
     (λ c κs. search needs)
-    (λ c. let s = c .before .before .before .before .before in
+    (λ c. let s = c .before .before .before .before .before .before in
     let g = s .args in
-    reaches (taskOf (now (g .rows)) (g .lower) (now (g .masks)) (now (g .rooms)) (g .job)) (g .job .count) (g .chosen) (value (g .carried)) _ (g .best) _ (s .pre .1 .0) (c .before .before .before .before .key-of .ensures) (c .before .before .before .no-worse .ensures) (g .free) (s .pre .1 .1) (c .before .before .if1 .left) _ (c .before .perm-within .ensures) (c .if2 .taken))
+    reaches (taskOf (now (g .rows)) (now (g .masks)) (now (g .rooms)) (g .job)) (g .job .count) (g .chosen) (value (g .carried)) _ (g .best) _ (s .pre .1 .0) (c .before .before .before .before .before .key-of .ensures) (c .before .before .before .before .no-worse .ensures) (g .free) (s .pre .1 .1) (c .before .before .before .if1 .left) _ (c .before .perm-within .ensures) (c .if2 .taken))
     (λ c κs. search needs)
     (λ c κs. search needs)
-    (λ c κs. let s = c .before .before .before .before .before .before .before in
+    (λ c κs. let s = c .before .before .before .before .before .before .before .before in
     (omega (arith, s .pre .0), (s .pre .1 .0, s .pre .1 .1, keeps-sub _ (s .args .free) (c .holders .result) (c .holders .ensures))))
     (λ c. let h = c .before in
     let m = h .before in
     let w = m .before .before in
-    let s = w .before .before .before .before in
+    let s = w .before .before .before .before .before in
     let g = s .args in
-    goes-on (taskOf (now (g .rows)) (g .lower) (now (g .masks)) (now (g .rooms)) (g .job)) (g .job .count) (g .chosen) (value (g .carried)) (g .best) (s .pre .1 .0) _ (w .perm-within .ensures) (g .free) (m .missing .result .0) (h .holders .result) _ (m .before .if2 .left) (m .missing .ensures) (h .holders .ensures) (c .role-step .ensures)))
+    goes-on (taskOf (now (g .rows)) (now (g .masks)) (now (g .rooms)) (g .job)) (g .job .count) (g .chosen) (value (g .carried)) (g .best) (s .pre .1 .0) _ (w .perm-within .ensures) (g .free) (m .missing .result .0) (h .holders .result) _ (m .before .if2 .left) (m .missing .ensures) (h .holders .ensures) (c .role-step .ensures)))
     λ t. role-step-lts.spec (
       lowest-reads.Asked,
       lowest-reads.Learnt,
@@ -106,7 +106,7 @@ pub +permission-step+role-step-spec : {M : Type 1} → statement M
     )
     (role-step-at t)
     role-step.Post
-    (λ c. let g = c .before .args in runs-out (taskOf (now (g .rows)) (g .lower) (now (g .masks)) (now (g .rooms)) (g .job)) (g .tries) (g .chosen) (g .free) (g .best) (c .if1 .taken))
+    (λ c. let g = c .before .args in runs-out (taskOf (now (g .rows)) (now (g .masks)) (now (g .rooms)) (g .job)) (g .tries) (g .chosen) (g .free) (g .best) (c .if1 .taken))
     (λ c κs. search needs)
     (λ c κs. search needs)
     (λ c κs. search needs)
@@ -126,7 +126,7 @@ pub +permission-step+role-step-spec : {M : Type 1} → statement M
     let s = l .before .before in
     let g = s .args in
     let low = l .lowest .ensures in
-    tries-off (taskOf (now (g .rows)) (g .lower) (now (g .masks)) (now (g .rooms)) (g .job)) (roomy-less (now (g .masks)) (now (g .rooms)) (g .job .count)) (g .chosen) (g .free) (l .lowest .result .0) _ _ _ (s .pre .1 .2 (l .lowest .result .0) (low .member)) (f .without2 .ensures) (w .with .ensures) (c .before .before .room-for .ensures) (g .tries) _ (g .best) _ (low .member) (f .before .without .ensures) (not-true _ (c .before .if2 .taken)) (c .role-step .ensures))
+    tries-off (taskOf (now (g .rows)) (now (g .masks)) (now (g .rooms)) (g .job)) (roomy-less (now (g .masks)) (now (g .rooms)) (g .job .count)) (g .chosen) (g .free) (l .lowest .result .0) _ _ _ (s .pre .1 .2 (l .lowest .result .0) (low .member)) (f .without2 .ensures) (w .with .ensures) (c .before .before .room-for .ensures) (g .tries) _ (g .best) _ (low .member) (f .before .without .ensures) (not-true _ (c .before .if2 .taken)) (c .role-step .ensures))
     (λ c. search needs)
     (λ c. search needs)
     (λ c. search needs)
@@ -138,8 +138,8 @@ pub +permission-step+role-step-spec : {M : Type 1} → statement M
     let s = l .before .before in
     let g = s .args in
     let low = l .lowest .ensures in (
-      omega (arith, s .pre .0, roles-less (g .free) (l .lowest .result .0) (f .without2 .result) (s .fits .free .fits) (low .small) (s .pre .1 .2 (l .lowest .result .0) (low .member)) (f .without2 .ensures), wanted-less (value (g .lower)) (value (g .carried)) _ (value (c .perm-union .result)) (c .perm-union .ensures)),
-      (ready-more (taskOf (now (g .rows)) (g .lower) (now (g .masks)) (now (g .rooms)) (g .job)) (g .job .count) (g .chosen) (value (g .carried)) (l .lowest .result .0) (s .pre .1 .0) _ _ _ _ (low .small) (w .with .ensures) (c .perm-union .ensures) refl (i .before .room-for .ensures) (not-false _ (i .if2 .left)), s .pre .1 .1),
+      omega (arith, s .pre .0, roles-less (g .free) (l .lowest .result .0) (f .without2 .result) (s .fits .free .fits) (low .small) (s .pre .1 .2 (l .lowest .result .0) (low .member)) (f .without2 .ensures), wanted-less (value (g .job .lower)) (value (g .carried)) _ (value (c .perm-union .result)) (c .perm-union .ensures)),
+      (ready-more (taskOf (now (g .rows)) (now (g .masks)) (now (g .rooms)) (g .job)) (g .job .count) (g .chosen) (value (g .carried)) (l .lowest .result .0) (s .pre .1 .0) _ _ _ _ (low .small) (w .with .ensures) (c .perm-union .ensures) refl (i .before .room-for .ensures) (not-false _ (i .if2 .left)), s .pre .1 .1),
     ))
     (λ c κs. let f = c .before .before .before .before .before .before .before in
     let l = f .before .before in
@@ -156,4 +156,4 @@ pub +permission-step+role-step-spec : {M : Type 1} → statement M
     let s = l .before .before in
     let g = s .args in
     let low = l .lowest .ensures in
-    tries-on (taskOf (now (g .rows)) (g .lower) (now (g .masks)) (now (g .rooms)) (g .job)) (roomy-less (now (g .masks)) (now (g .rooms)) (g .job .count)) (g .chosen) (g .free) (l .lowest .result .0) _ _ _ (s .pre .1 .2 (l .lowest .result .0) (low .member)) (f .without2 .ensures) (w .with .ensures) (i .before .room-for .ensures) (g .tries) _ (g .best) _ _ (low .member) (f .before .without .ensures) (c .before .permission-step .ensures) (c .role-step2 .ensures))
+    tries-on (taskOf (now (g .rows)) (now (g .masks)) (now (g .rooms)) (g .job)) (roomy-less (now (g .masks)) (now (g .rooms)) (g .job .count)) (g .chosen) (g .free) (l .lowest .result .0) _ _ _ (s .pre .1 .2 (l .lowest .result .0) (low .member)) (f .without2 .ensures) (w .with .ensures) (i .before .room-for .ensures) (g .tries) _ (g .best) _ _ (low .member) (f .before .without .ensures) (c .before .permission-step .ensures) (c .role-step2 .ensures))

@@ -2,7 +2,7 @@
 -- Assumes nothing.
 use Prim.Native.Nat.{ℕ, _<_}
 use native.Mathlib.Omega.{arith}
-use mathlib.Core.Path.{_≡_, refl, sym, _∙_}
+use mathlib.Core.Path.{refl}
 use borrow.Author.Needs.{needs}
 use borrow.Author.Tests.{not-true, not-false}
 use borrow.Fn.Kinds.{In}
@@ -28,7 +28,7 @@ use Rattle.query.proofs.search.+subset_step.{statement}
 use Rattle.query.proofs.search.+subset_step.Tie.{close}
 
 abbrev μ-subset-step : Measures 3 subset-step-kinds.ps ℕ
-μ-subset-step κs a = count 64 (a .1 .1 .1 .1 .1 .0)
+μ-subset-step κs a = count 64 (a .1 .1 .1 .1 .0)
 
 abbrev subset-step-at : ℕ → In 3 subset-step-kinds.ps
 subset-step-at t = and 3 subset-step-kinds.ps (is 3 subset-step-kinds.ps μ-subset-step t) subset-step.Pre
@@ -61,17 +61,17 @@ pub +subset-step-spec : {M : Type 1} → statement M
     (subset-step-at t)
     subset-step.Post
     (λ c κs. search needs)
-    (λ c. let s = c .before .before .before in
+    (λ c. let s = c .before .before .before .before in
     let g = s .args in
-    ends-short (taskOf (now (g .rows)) (g .lower) (now (g .masks)) (now (g .rooms)) (g .job)) (g .job .count) (g .chosen) (value (g .carried)) (g .best) (s .pre .1) _ (c .before .perm-within .ensures) (g .free) (c .before .before .if1 .taken) (not-true _ (c .if2 .taken)))
+    ends-short (taskOf (now (g .rows)) (now (g .masks)) (now (g .rooms)) (g .job)) (g .job .count) (g .chosen) (value (g .carried)) (g .best) (s .pre .1) _ (c .before .perm-within .ensures) (g .free) (c .before .before .before .if1 .taken) (not-true _ (c .if2 .taken)))
     (λ c κs. search needs)
     (λ c κs. search needs)
-    (λ c. let s = c .before .before .before .before .before .before in
+    (λ c. let s = c .before .before .before .before .before .before .before in
     let g = s .args in
-    ends-worse (taskOf (now (g .rows)) (g .lower) (now (g .masks)) (now (g .rooms)) (g .job)) (g .job .count) (g .chosen) (value (g .carried)) _ (g .best) _ (s .pre .1) (c .before .before .key-of .ensures) (c .before .no-worse .ensures) (g .free) (c .before .before .before .before .before .if1 .taken) (c .if3 .taken))
-    (λ c. let s = c .before .before .before .before .before .before in
+    ends-worse (taskOf (now (g .rows)) (now (g .masks)) (now (g .rooms)) (g .job)) (g .job .count) (g .chosen) (value (g .carried)) _ (g .best) _ (s .pre .1) (c .before .before .key-of .ensures) (c .before .no-worse .ensures) (g .free) (c .before .before .before .before .before .before .if1 .taken) (c .if3 .taken))
+    (λ c. let s = c .before .before .before .before .before .before .before in
     let g = s .args in
-    ends-best (taskOf (now (g .rows)) (g .lower) (now (g .masks)) (now (g .rooms)) (g .job)) (g .job .count) (g .chosen) (value (g .carried)) _ (g .best) _ (s .pre .1) (c .before .before .key-of .ensures) (c .before .no-worse .ensures) (g .free) (c .before .before .before .before .before .if1 .taken) (c .if3 .left) _ (c .before .before .before .before .perm-within .ensures) (not-false _ (c .before .before .before .if2 .left)))
+    ends-best (taskOf (now (g .rows)) (now (g .masks)) (now (g .rooms)) (g .job)) (g .job .count) (g .chosen) (value (g .carried)) _ (g .best) _ (s .pre .1) (c .before .before .key-of .ensures) (c .before .no-worse .ensures) (g .free) (c .before .before .before .before .before .before .if1 .taken) (c .if3 .left) _ (c .before .before .before .before .perm-within .ensures) (not-false _ (c .before .before .before .if2 .left)))
     (λ c κs. search needs)
     (λ c κs. search needs)
     (λ c κs. let l = c .before in
@@ -83,7 +83,7 @@ pub +subset-step-spec : {M : Type 1} → statement M
     let n = w .before in
     let l = n .before .before in
     let g = l .before .before .args in
-    takes-one (taskOf (now (g .rows)) (g .lower) (now (g .masks)) (now (g .rooms)) (g .job)) (roomy-less (now (g .masks)) (now (g .rooms)) (g .job .count)) (g .chosen) (g .free) (l .lowest .result .0) _ _ _ (l .lowest .ensures .member) (n .before .without .ensures) (w .with .ensures) (c .before .room-for .ensures) (g .best) _ (not-true _ (c .if4 .taken)) (n .subset-step .ensures))
+    takes-one (taskOf (now (g .rows)) (now (g .masks)) (now (g .rooms)) (g .job)) (roomy-less (now (g .masks)) (now (g .rooms)) (g .job .count)) (g .chosen) (g .free) (l .lowest .result .0) _ _ _ (l .lowest .ensures .member) (n .before .without .ensures) (w .with .ensures) (c .before .room-for .ensures) (g .best) _ (not-true _ (c .if4 .taken)) (n .subset-step .ensures))
     (λ c. search needs)
     (λ c. search needs)
     (λ c. search needs)
@@ -94,11 +94,11 @@ pub +subset-step-spec : {M : Type 1} → statement M
     let s = l .before .before in
     let g = s .args in (
       omega (arith, s .pre .0, roles-less (g .free) (l .lowest .result .0) (w .before .before .without .result) (s .fits .free .fits) (l .lowest .ensures .small) (l .lowest .ensures .member) (w .before .before .without .ensures)),
-      ready-more (taskOf (now (g .rows)) (g .lower) (now (g .masks)) (now (g .rooms)) (g .job)) (g .job .count) (g .chosen) (value (g .carried)) (l .lowest .result .0) (s .pre .1) _ _ _ _ (l .lowest .ensures .small) (w .with .ensures) (c .perm-union .ensures) refl (f .before .room-for .ensures) (not-false _ (f .if4 .left)),
+      ready-more (taskOf (now (g .rows)) (now (g .masks)) (now (g .rooms)) (g .job)) (g .job .count) (g .chosen) (value (g .carried)) (l .lowest .result .0) (s .pre .1) _ _ _ _ (l .lowest .ensures .small) (w .with .ensures) (c .perm-union .ensures) refl (f .before .room-for .ensures) (not-false _ (f .if4 .left)),
     ))
     (λ c. let f = c .before .before .before .before in
     let w = f .before .before in
     let n = w .before in
     let l = n .before .before in
     let g = l .before .before .args in
-    takes-both (taskOf (now (g .rows)) (g .lower) (now (g .masks)) (now (g .rooms)) (g .job)) (roomy-less (now (g .masks)) (now (g .rooms)) (g .job .count)) (g .chosen) (g .free) (l .lowest .result .0) _ _ _ (l .lowest .ensures .member) (n .before .without .ensures) (w .with .ensures) (f .before .room-for .ensures) (g .best) _ _ (n .subset-step .ensures) (c .subset-step2 .ensures))
+    takes-both (taskOf (now (g .rows)) (now (g .masks)) (now (g .rooms)) (g .job)) (roomy-less (now (g .masks)) (now (g .rooms)) (g .job .count)) (g .chosen) (g .free) (l .lowest .result .0) _ _ _ (l .lowest .ensures .member) (n .before .without .ensures) (w .with .ensures) (f .before .room-for .ensures) (g .best) _ _ (n .subset-step .ensures) (c .subset-step2 .ensures))
