@@ -11,7 +11,7 @@ use Rattle.model.specs.Image.{emptyRows, judge, checkNumber}
 use Rattle.model.specs.Policy.{policyOf}
 use Rattle.model.specs.Session.{refuse}
 use Rattle.model.specs.Run.{Call, Event, stepOn, step, returned, filledWith, answered}
-use Rattle.model.proofs.HeadLaws.{accepted-head}
+use Rattle.model.proofs.Accepted.{accepted-head, accepted-in-range}
 use Rattle.sets.specs.Words.{value, values}
 use Rattle.image.specs.Tables.{Fresh, Tables}
 use Rattle.nutrameza.specs.Calls.{Known, Gives, Shows}
@@ -21,6 +21,10 @@ use Rattle.nutrameza.proofs.FirstSteps.{step-accepted, step-refused}
 pub fresh : Fresh (replicate 64 0) (values (replicate 64 (replicate 4 0))) (replicate 64 0)
 unfolding emptyRows values value
 fresh = record { assigned-none = refl; granted-none = refl; juniors-none = refl }
+
+-- an accepted image has at most 64 users
+pub accepted-users : (s : List ℕ) (h : Head) → judge s ≡ Accepted h → h .users ≤ 64
+accepted-users s h e = subst (λ (x : Head). x .users ≤ 64) (accepted-head s h e) (accepted-in-range s h e .users .1)
 
 -- an accepted image's tables are known
 pub known-of : (s : List ℕ) (h : Head) (assigned granted juniors : List ℕ) (xs : Exclusions) → judge s ≡ Accepted h

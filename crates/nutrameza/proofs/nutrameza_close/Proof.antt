@@ -5,8 +5,7 @@ use borrow.Author.Needs.{needs}
 use Rattle.model.specs.Image.{checkNumber}
 use Rattle.model.specs.Policy.{policyOf}
 use Rattle.model.specs.Run.{closeBy}
-use Rattle.model.proofs.HeadLaws.{accepted-users}
-use Rattle.nutrameza.proofs.Images.{fresh, known-of, gives-judged, gives-accepted}
+use Rattle.nutrameza.proofs.Images.{fresh, accepted-users, known-of, gives-judged, gives-accepted}
 use Rattle.nutrameza.proofs.nutrameza_close.Statement.{statement}
 use Rattle.nutrameza.proofs.nutrameza_close.Tie as tie
 
