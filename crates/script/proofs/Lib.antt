@@ -8,3 +8,4 @@ pub mod CutLaws
 pub mod SameLaws
 pub mod FormLaws
 pub mod ReadLaws
+pub mod TextLaws

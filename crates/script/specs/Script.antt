@@ -143,11 +143,14 @@ digitsOf b (suc k) n = elim (ltb n b) [ true ↦ glyph n ∷ [] | false ↦ digi
 unfoldable pub numeral : ℕ → ℕ → List ℕ
 numeral b n = digitsOf b n n
 
--- call number, answer number, extra, roles and permissions, one blank between; nothing fills the answer unless an ask or a show is done
+-- call number, answer number, extra, roles and permissions, one blank between and a newline at the end
+unfoldable pub lineOf : ℕ → ℕ → ℕ → ℕ → ℕ → List ℕ
+lineOf n number extra roles permissions =
+    numeral 10 n ++ (32 ∷ numeral 10 number) ++ (32 ∷ numeral 10 extra) ++ (32 ∷ numeral 16 roles) ++ (32 ∷ numeral 16 permissions) ++ (10 ∷ [])
+
+-- the line for an answer; nothing fills the answer, and both sets are 0, unless an ask or a show is done
 unfoldable pub printed : ℕ → Reply → List ℕ
-printed n r =
-    numeral 10 n ++ (32 ∷ numeral 10 (r .number)) ++ (32 ∷ numeral 10 (r .extra)) ++ (32 ∷ numeral 16 (number (take 8 (r .filled))))
-    ++ (32 ∷ numeral 16 (number (drop 8 (r .filled)))) ++ (10 ∷ [])
+printed n r = lineOf n (r .number) (r .extra) (number (take 8 (r .filled))) (number (drop 8 (r .filled)))
 
 -- ---- a run of the program
 

@@ -1,8 +1,9 @@
 // The script of the program: a line in, a line out. Modules: `numerals` reads numbers, `lines` cuts a line into words, `parse` finds the
-// call that a line is.
+// call that a line is, `text` writes the line for an answer.
 mod lines;
 mod numerals;
 mod parse;
+mod text;
 
 // A word read as a decimal: whether it is one, and its number.
 pub struct Number {
