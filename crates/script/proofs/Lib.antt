@@ -9,3 +9,4 @@ pub mod SameLaws
 pub mod FormLaws
 pub mod ReadLaws
 pub mod TextLaws
+pub mod ReplyLaws
