@@ -3,7 +3,7 @@
 use mathlib.Core.Path.{_≡_, refl, sym, ap, _∙_}
 use mathlib.Core.Bool.{Bool, true, false}
 use mathlib.Core.List.{List, [], _∷_}
-use Prim.Native.Nat.{ℕ, zero, suc, _+_, _-_, _≤_, _<_}
+use Prim.Native.Nat.{ℕ, suc, _+_, _-_, _≤_, _<_}
 use native.Mathlib.Nat.{add-zero}
 use native.Mathlib.Omega.{arith}
 use lib.Dec.{eqb, ltb}
@@ -12,10 +12,9 @@ use lib.Seq.{drop-drop, getD-drop, getD-set-same, getD-set-other}
 use borrow.Author.Count.{below-more}
 use borrow.Author.Tests.{lt-ltb, le-ltb, ltb-true, ltb-false}
 use Rattle.model.specs.Tests.{pick}
-use Rattle.model.specs.Ward.{sameList}
 use Rattle.script.specs.declared.Words.{Words}
 use Rattle.script.specs.Script.{begun, words}
-use Rattle.script.specs.Reading.{part, wordsBehind, EndsWord, WordAt, CutInto}
+use Rattle.script.specs.Reading.{wordsBehind, EndsWord, WordAt, CutInto}
 
 -- ---- lists of words by what is left of them
 

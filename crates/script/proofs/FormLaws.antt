@@ -1,16 +1,16 @@
 -- The call that words are, by their number.
 -- Assumes nothing.
-use mathlib.Core.Path.{_≡_, refl, sym, ap, _∙_}
+use mathlib.Core.Path.{_≡_, refl}
 use mathlib.Core.Bool.{Bool, true, false, _&&_}
-use mathlib.Core.Option.{Option, none, some}
+use mathlib.Core.Option.{none, some}
 use mathlib.Core.List.{List, [], _∷_}
-use Prim.Native.Nat.{ℕ, zero, suc, _≤_, _<_}
+use Prim.Native.Nat.{ℕ}
 use native.Mathlib.Omega.{arith}
 use lib.ListN.{length, getD}
 use Rattle.model.specs.Tests.{pick}
 use Rattle.model.specs.Ward.{sameList}
-use Rattle.model.specs.Run.{Call, openBy, closeBy, askBy, shortAskBy, showBy}
-use Rattle.script.specs.Script.{ascii, isNumeral, value, numberAt, boundAt, suits, matches, openForm, closeForm, showForm, shortAskForm, askForm, room, callOf}
+use Rattle.model.specs.Run.{openBy, closeBy, askBy, shortAskBy, showBy}
+use Rattle.script.specs.Script.{ascii, isNumeral, numberAt, boundAt, suits, matches, openForm, closeForm, showForm, shortAskForm, askForm, room, callOf}
 
 and-true : (b : Bool) → (b && true) ≡ b
 and-true true = refl

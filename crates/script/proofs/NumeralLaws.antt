@@ -1,10 +1,10 @@
 -- Digits and the numbers that they make.
 -- Assumes nothing.
-use mathlib.Core.Path.{_≡_, refl, sym, ap, _∙_}
-use mathlib.Core.Bool.{Bool, true, false, _&&_}
+use mathlib.Core.Path.{_≡_, refl, ap, _∙_}
+use mathlib.Core.Bool.{Bool, true, false}
 use mathlib.Core.List.{List, [], _∷_, _++_}
 use Prim.Native.Nat.{ℕ, zero, suc, _+_, _-_, _*_, _/_, _%_, _^_, _≤_, _<_}
-use native.Mathlib.Nat.{pow-suc, pow-le-pow-right, mul-add, mul-assoc}
+use native.Mathlib.Nat.{pow-suc, pow-le-pow-right}
 use native.Mathlib.Numerals.{add-one}
 use native.Mathlib.Omega.{arith}
 use lib.Dec.{leb, ltb, lit<}
@@ -14,8 +14,6 @@ use borrow.Author.Tests.{lt-ltb, le-ltb, le-leb, lt-leb, ltb-true, ltb-false, le
 use Rattle.model.specs.Tests.{pick, between, all}
 use Rattle.model.proofs.Bools.{and-l, and-r, pick-case}
 use Rattle.model.specs.Bytes.{bytesOf}
-use Rattle.script.specs.declared.Number.{Number}
-use Rattle.script.specs.declared.Bound.{Bound}
 use Rattle.script.specs.Reading.{numberOf, boundOf}
 use Rattle.script.specs.Script.{digit, isDigit, isNumeral, valueFrom, value}
 
@@ -67,10 +65,6 @@ module _ (b : ℕ) (w : List ℕ) (i : ℕ) where
   pub digits-end : length w ≤ i → true ≡ all (isDigit b) (drop i w)
   unfolding all
   digits-end h = rw (drop-of-length-le w h)
-
-  pub digit-at : all (isDigit b) (drop i w) ≡ true → i < length w → digit (getD w i 0) < b
-  unfolding all isDigit
-  digit-at a h = ltb-true _ _ (and-l (ltb (digit (getD w i 0)) b) (all (isDigit b) (drop (suc i) w)) (rw (drop-cons w i 0 h) at a))
 
 -- ---- numerals, by their length
 

@@ -1,19 +1,18 @@
 -- What the words that were read say of the call that a line is.
 -- Assumes nothing.
-use mathlib.Core.Path.{_≡_, refl, sym, ap, _∙_}
+use mathlib.Core.Path.{_≡_, sym, ap, _∙_}
 use mathlib.Core.Bool.{Bool, true, false, _&&_}
-use mathlib.Core.Option.{Option, none, some}
-use mathlib.Core.List.{List, [], _∷_}
+use mathlib.Core.Option.{none, some}
+use mathlib.Core.List.{List, []}
 use Prim.Native.Nat.{ℕ}
 use lib.ListN.{length, getD}
 use Rattle.model.specs.Tests.{pick}
 use Rattle.model.specs.Bytes.{bytesOf}
 use Rattle.model.specs.Ward.{sameList}
-use Rattle.model.specs.Run.{Call, openBy, closeBy, askBy, shortAskBy, showBy}
+use Rattle.model.specs.Run.{openBy, closeBy, askBy, shortAskBy, showBy}
 use Rattle.model.proofs.Bools.{and-l, and-r}
 use Rattle.script.specs.declared.Number.{Number}
 use Rattle.script.specs.declared.Bound.{Bound}
-use Rattle.script.specs.declared.Form.{Form}
 use Rattle.script.specs.declared.Form.the-variants.{Open, Close, Show, ShortAsk, Ask, Unreadable}
 use Rattle.script.specs.declared.Parsed.{Parsed}
 use Rattle.script.specs.Script.{ascii, isNumeral, value, room, callOf}

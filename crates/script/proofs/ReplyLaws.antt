@@ -1,10 +1,10 @@
 -- An answer's number is one of the register's, so it and the extra can be told apart in what a call returns.
 -- Assumes nothing.
-use mathlib.Core.Path.{_≡_, refl, ap, subst, _∙_}
-use mathlib.Core.Bool.{Bool, true, false, _&&_, _||_, not}
+use mathlib.Core.Path.{_≡_}
+use mathlib.Core.Bool.{Bool, true, false, not}
 use mathlib.Core.Option.{Option, none, some}
 use mathlib.Core.List.{List}
-use Prim.Native.Nat.{ℕ, zero, suc, _+_, _*_, _/_, _%_, _^_, _≤_, _<_}
+use Prim.Native.Nat.{ℕ, zero, suc, _+_, _/_, _%_, _^_, _≤_}
 use native.Mathlib.Omega.{arith}
 use lib.Dec.{eqb}
 use lib.ListN.{length}
@@ -13,7 +13,6 @@ use Rattle.model.specs.declared.Word.{Word}
 use Rattle.model.specs.declared.Scan.{Scan}
 use Rattle.model.specs.declared.Checked.{Checked}
 use Rattle.model.specs.declared.Checked.the-variants.{Accepted, Refused}
-use Rattle.model.specs.Tests.{pick, first}
 use Rattle.model.specs.Image.{wordAt, behindHead, decode, wrongKind, inRange, repeats, crowds, entryFault, fault, assigning, next, balanced, scan, headOf, headRight, lengthRight, emptyRows, start, judge}
 use Rattle.model.specs.Policy.{Policy, Meaning, policyOf, meaning}
 use Rattle.model.specs.Session.{Operation, open-session, close-session, ask, short-ask, show, Reply, refuse, done, given, Result, Refusal, bad-line, bad-session, is-closed, is-full, bad-set, bad-permission, bad-bounds, bad-aim, bad-room, no-set, refusalNumber, asked, perform, unless, rule}

@@ -1,13 +1,12 @@
 -- Scripts with what the program prints for them: 01's six lines, refused images, unreadable lines, and how an input splits into lines.
 -- Assumes nothing.
 use mathlib.Core.Bool.{Bool}
-use mathlib.Core.List.{List, [], _∷_, map}
+use mathlib.Core.List.{List, [], _∷_}
 use Prim.Native.String.{String}
 use Prim.Native.Nat.{ℕ}
 use lib.ListN.{take}
-use Rattle.model.specs.Tests.{all}
 use Rattle.model.specs.Ward.{sameList, imageBytes, imageA}
-use Rattle.script.specs.Script.{ascii, linesOf, parse, transcript, isUnreadable}
+use Rattle.script.specs.Script.{ascii, parse, transcript, isUnreadable}
 
 pub record Example : Type 0 where
   pub image : List ℕ

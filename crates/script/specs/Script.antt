@@ -61,6 +61,7 @@ unfoldable pub valueFrom : ℕ → ℕ → List ℕ → ℕ
 valueFrom b n [] = n
 valueFrom b n (c ∷ cs) = valueFrom b (b * n + digit c) cs
 
+-- the number that the digits make
 unfoldable pub value : ℕ → List ℕ → ℕ
 value b w = valueFrom b 0 w
 
@@ -71,6 +72,7 @@ pub data Part : Type 0 where
   keyword : String → Part
   decimal hexadecimal : Part
 
+-- a word is what a form has at its place
 unfoldable pub suits : Part → List ℕ → Bool
 suits (keyword k) w = sameList w (ascii k)
 suits decimal w = isNumeral 10 9 w
@@ -83,6 +85,7 @@ matches [] (w ∷ ws) = false
 matches (p ∷ ps) [] = false
 matches (p ∷ ps) (w ∷ ws) = suits p w && matches ps ws
 
+-- `open` user (01: person); `close` and `show` user session; `ask` user session lower upper, then both objectives (01: aims) or neither
 unfoldable pub openForm : List Part
 openForm = keyword "open" ∷ decimal ∷ []
 
@@ -124,6 +127,7 @@ callOf ws =
 unfoldable pub parse : List ℕ → Option Call
 parse line = callOf (words line)
 
+-- a line is unreadable where it is no call
 unfoldable pub isUnreadable : Option Call → Bool
 isUnreadable none = true
 isUnreadable (some c) = false
@@ -159,6 +163,7 @@ unfoldable pub answerBy : List ℕ → List ℕ → Option Call → Event
 answerBy image ledger none = record { reply = refuse 21 0; ledger = ledger }
 answerBy image ledger (some c) = step 4 image ledger c
 
+-- the answer to a line, and the ledger after it
 unfoldable pub answerTo : List ℕ → List ℕ → List ℕ → Event
 answerTo image ledger line = answerBy image ledger (parse line)
 

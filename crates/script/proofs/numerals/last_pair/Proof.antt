@@ -1,12 +1,11 @@
 -- One digit, or two, as the low byte of the number.
 -- Assumes nothing.
 use borrow.Author.Needs.{needs}
-use mathlib.Core.Path.{_≡_, _∙_}
-use Prim.Native.Nat.{ℕ, _+_, _-_, _*_, _<_}
+use mathlib.Core.Path.{_∙_}
+use Prim.Native.Nat.{_-_}
 use native.Mathlib.Omega.{arith}
-use lib.ListN.{getD}
 use Rattle.script.specs.Script.{digit}
-use Rattle.script.proofs.NumeralLaws.{digit≤16, digit-of-all, pair-of-one, pair-of-two}
+use Rattle.script.proofs.NumeralLaws.{digit-of-all, pair-of-one, pair-of-two}
 use Rattle.script.proofs.numerals.last_pair.Statement.{statement}
 use Rattle.script.proofs.numerals.last_pair.Tie as tie
 

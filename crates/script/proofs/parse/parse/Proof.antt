@@ -1,16 +1,7 @@
 -- A line by the number of its words.
 -- Assumes nothing.
 use borrow.Author.Needs.{needs}
-use mathlib.Core.Path.{_≡_, sym, _∙_}
-use Prim.Native.Nat.{_≤_, _<_}
-use lib.Dec.{ltb}
-use mathlib.Core.Bool.{Bool, true, false}
-use native.Mathlib.Omega.{arith}
-use lib.ListN.{length}
-use borrow.Author.Tests.{ltb-true, ltb-false}
-use Rattle.script.specs.declared.Words.{Words}
 use Rattle.script.specs.Script.{words, parse}
-use Rattle.script.specs.Reading.{CutInto}
 use Rattle.script.proofs.CutLaws.{not-counted}
 use Rattle.script.proofs.ReadLaws.{other-unread}
 use Rattle.script.proofs.parse.parse.Statement.{statement}

@@ -1,9 +1,8 @@
 -- One digit, or two.
 -- Assumes nothing.
 use borrow.Author.Needs.{needs}
-use mathlib.Core.Path.{_≡_, sym, ap, _∙_}
+use mathlib.Core.Path.{sym, ap, _∙_}
 use mathlib.Core.List.{[], _∷_}
-use Rattle.script.specs.Script.{numeral}
 use Rattle.script.proofs.TextLaws.{puts-as, numeral-one, two≤16, byte-pair}
 use Rattle.script.proofs.text.put_byte.Statement.{statement}
 use Rattle.script.proofs.text.put_byte.Tie as tie
