@@ -6,6 +6,8 @@ mod families;
 mod jobs;
 #[cfg_attr(not(feature = "asks"), allow(dead_code))]
 mod plain;
+#[cfg(feature = "script")]
+mod program;
 mod timing;
 
 fn main() {
@@ -23,4 +25,6 @@ fn main() {
     jobs::calls();
     #[cfg(feature = "asks")]
     families::asks();
+    #[cfg(feature = "script")]
+    program::lines();
 }

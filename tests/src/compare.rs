@@ -117,23 +117,37 @@ fn drop_parts<T: Clone>(list: &mut Vec<T>, fails: impl Fn(&[T]) -> bool) {
     }
 }
 
-/// Drops words of an image as long as it still fails, with the balance as it falls or set anew.
+/// The words of an image by entries: an exclusion with its members is one.
+fn entries(words: &[u32]) -> Vec<Vec<u32>> {
+    let mut entries: Vec<Vec<u32>> = Vec::new();
+    for word in words {
+        match entries.last_mut() {
+            Some(entry) if word >> 28 == 6 && entry[0] >> 28 == 5 => entry.push(*word),
+            _ => entries.push(vec![*word]),
+        }
+    }
+    entries
+}
+
+/// Drops entries, then words of an image as long as it still fails, the balance set anew if that fails too.
 fn shrink_image(image: &mut Vec<u8>, fails: impl Fn(&[u8]) -> bool) {
     if image.len() % 4 != 0 {
         return drop_parts(image, fails);
     }
-    let mut list = words::from_bytes(image);
-    drop_parts(&mut list, |less| fails(&words::bytes(less)));
+    let as_it_falls = |less: &[u32]| words::bytes(less);
     let anew = |less: &[u32]| {
         let mut less = less.to_vec();
         words::rebalance(&mut less);
         words::bytes(&less)
     };
-    if fails(&anew(&list)) {
-        drop_parts(&mut list, |less| fails(&anew(less)));
-        *image = anew(&list);
-    } else {
-        *image = words::bytes(&list);
+    for balance in [&as_it_falls as &dyn Fn(&[u32]) -> Vec<u8>, &anew] {
+        if fails(&balance(&words::from_bytes(image))) {
+            let mut list = entries(&words::from_bytes(image));
+            drop_parts(&mut list, |less| fails(&balance(&less.concat())));
+            let mut list = list.concat();
+            drop_parts(&mut list, |less| fails(&balance(less)));
+            *image = balance(&list);
+        }
     }
 }
 
@@ -262,9 +276,11 @@ pub fn play(run: &Run) -> Vec<Played> {
             small.calls.truncate(place + 1);
             shrink_run(&mut small);
             let (place, text) = played(&small).expect_err("the shrunk run still fails");
-            let lines: Vec<String> = small.ledger.chunks(80).map(|line| format!("{line:02x?}")).collect();
+            let hex = |line: &[u8]| line.iter().map(|byte| format!("{byte:02x}")).collect::<String>();
+            let lines = small.ledger.chunks(80).enumerate().filter(|(_, line)| line.iter().any(|byte| *byte != 0));
+            let lines: Vec<String> = lines.map(|(user, line)| format!("  line {user}: {}", hex(line))).collect();
             panic!(
-                "seed {}: call {place}: {text}\nimage: {}\nledger of {} bytes:\n{}\ncalls: {:#?}",
+                "seed {}: call {place}: {text}\nimage: {}\nledger of {} bytes, zero but for\n{}\ncalls: {:?}",
                 seed(),
                 image_text(&small.image),
                 small.ledger.len(),

@@ -4,6 +4,7 @@
 pub mod compare;
 pub mod gen;
 pub mod kit;
+pub mod program;
 pub mod solver;
 pub mod ward;
 pub mod words;

@@ -180,7 +180,12 @@ fn see_search(tally: &mut Tally, policy: &Policy, call: &Call, played: &Played) 
 #[test]
 fn answers_a_hundred_thousand_asks_as_the_solver_does() {
     let tally = spread("asks", 40_000, |rng, tally| {
-        let size = rng.pick(&[policy::TINY, policy::SMALL, policy::SMALL, policy::SMALL, policy::MIDDLE]);
+        let size = match rng.below(50) {
+            0..=9 => policy::TINY,
+            10..=39 => policy::SMALL,
+            40..=48 => policy::MIDDLE,
+            _ => policy::WIDE,
+        };
         let draft = policy::policy(rng, size);
         let mut image = words::bytes(&draft.words());
         let policy = judge(&image).expect("a policy in good order is accepted");
@@ -329,7 +334,8 @@ fn the_deepest_asks_fit_a_stack_of_64_kib() {
             let run = move || {
                 for call in &calls {
                     let room = call.room();
-                    kit::play(Empty::Somewhere, &image, &mut ledger, call, &mut answer[..room]);
+                    let returned = kit::play(Empty::Somewhere, &image, &mut ledger, call, &mut answer[..room]);
+                    assert!(matches!(returned % 256, 0 | 20), "{returned} after {call:?}");
                 }
                 kit::check(Empty::Somewhere, &image)
             };

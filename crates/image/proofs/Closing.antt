@@ -216,9 +216,9 @@ unfolding unionAt carriedRows rowsOf carriedTable reached pick
 wanted-carried p wanted s w =
     unionTo-cong _ _ s 64
     (λ r l m.
-        getD-tableOf 64 (wantedRow (p .granted) (closed (p .head .roles) (selfAndJuniors (p .juniors))) wanted) r l
-        ∙ ap (λ (b : Bool). pick b (unionAt (p .granted) (getD (closed (p .head .roles) (selfAndJuniors (p .juniors))) r 0)) 0) (within-has s wanted w r m)
-        ∙ sym (mapped r l))
+    getD-tableOf 64 (wantedRow (p .granted) (closed (p .head .roles) (selfAndJuniors (p .juniors))) wanted) r l
+    ∙ ap (λ (b : Bool). pick b (unionAt (p .granted) (getD (closed (p .head .roles) (selfAndJuniors (p .juniors))) r 0)) 0) (within-has s wanted w r m)
+    ∙ sym (mapped r l))
   where
     mapped : (r : ℕ) → r < 64 → getD (map (unionAt (p .granted)) (closed (p .head .roles) (selfAndJuniors (p .juniors)))) r 0
         ≡ unionAt (p .granted) (getD (closed (p .head .roles) (selfAndJuniors (p .juniors))) r 0)

@@ -4,7 +4,6 @@ use mathlib.Core.Path.{_≡_, refl, sym, ap, ap₂, subst, _∙_}
 use mathlib.Core.Bool.{Bool, true, false}
 use mathlib.Core.List.{List, [], _∷_, _++_, map, map-append, append-nil}
 use Prim.Native.Nat.{ℕ, zero, suc, _+_, _-_, _≤_, _<_}
-use native.Mathlib.Nat.{add-suc, add-zero}
 use native.Mathlib.Omega.{arith}
 use native.Mathlib.Numerals.{add-one}
 use lib.Dec.{eqb, ltb}
@@ -19,7 +18,7 @@ use Rattle.model.specs.declared.Word.{Word}
 use Rattle.model.specs.Image.{wordAt, decode, next}
 use Rattle.model.specs.Policy.{entryAt, entriesFrom, fold, joining, withMembers, exclusionsOf}
 use Rattle.image.specs.Bounds.{Due}
-use Rattle.image.specs.Tables.{noting, nothing, exclusionBy, exclusionAt}
+use Rattle.image.specs.Tables.{noting, exclusionBy, exclusionAt}
 
 -- the place first, where the entry is an exclusion
 unfoldable pub placed : Entry → ℕ → List ℕ → List ℕ

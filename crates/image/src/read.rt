@@ -18,7 +18,6 @@ use crate::check::senior_fault;
 use crate::check::spared;
 use crate::check::wrong_kind;
 use crate::exclusions::exclusions_at;
-use crate::exclusions::nothing;
 use crate::word::decode;
 use crate::word::head_of;
 use crate::word::head_right;

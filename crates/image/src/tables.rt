@@ -103,7 +103,12 @@ fn rows_of(rows: &[[u64; 4]; 64], reached: &[u64; 64], wanted: u64) -> [[u64; 4]
 }
 
 // What each role of `wanted` carries, where there are so many roles. The juniors' table is closed in place.
-pub fn carried(granted: &[[u64; 4]; 64], juniors: &mut [u64; 64], roles: usize, wanted: u64) -> [[u64; 4]; 64]
+pub fn carried(
+    granted: &[[u64; 4]; 64],
+    juniors: &mut [u64; 64],
+    roles: usize,
+    wanted: u64,
+) -> [[u64; 4]; 64]
     requires { ⌜ (roles ≤ 64) × (length (now juniors) ≡ 64) ⌝ }
     ensures { λ t. ⌜ values t ≡ carriedRows roles (values (now (granted .entry))) (now (juniors .entry)) wanted ⌝ }
 {

@@ -6,11 +6,11 @@ use Prim.Native.Nat.{ℕ, zero, suc, _+_, _*_, _/_, _%_, _^_, _≤_, _<_}
 use native.Mathlib.Nat.{pow-suc}
 use native.Mathlib.Omega.{arith}
 use native.Mathlib.Numerals.{add-one}
-use lib.ListN.{length, take, drop, getD, length-append, length-take}
+use lib.ListN.{length, take, drop, getD, length-append}
 use lib.Seq.{drop-cons, take-at, drop-at, length-take-le, drop-drop, take-suc, drop-append-add}
 use Rattle.model.specs.Bytes.{number, bytesOf}
 use Rattle.octets.specs.Splice.{splice, numberAt, bytesOfAll}
-use Rattle.octets.proofs.Splices.{length-splice, read-splice, splice-splice, before-splice, behind-splice, drop-splice}
+use Rattle.octets.proofs.Splices.{length-splice, read-splice, splice-splice, before-splice, drop-splice}
 
 -- ---- reads
 

@@ -2,7 +2,7 @@
 ghost use mathlib.Core.Path.{_≡_};
 ghost use mathlib.Core.List.{[], _∷_};
 ghost use Prim.Native.Nat.{_+_, _*_, _≤_};
-ghost use lib.ListN.{length, getD};
+ghost use lib.ListN.{length};
 ghost use Rattle.model.specs.Image.{wordAt};
 ghost use Rattle.model.specs.Bytes.{number, bytesOf};
 ghost use Rattle.octets.specs.Splice.{splice, numberAt, bytesOfAll};

@@ -1,19 +1,19 @@
 -- What the roles of a set carry: the permissions of its roles and no others.
 -- Assumes nothing.
-use mathlib.Core.Path.{_≡_, refl, sym, ap, ap₂, subst, _∙_}
-use mathlib.Core.Bool.{Bool, true, false, _&&_, _||_}
+use mathlib.Core.Path.{_≡_, refl, sym, ap, ap₂, _∙_}
+use mathlib.Core.Bool.{Bool, true, false, _||_}
 use mathlib.Core.Logic.{_⊎_, inl, inr}
-use Prim.Native.Nat.{ℕ, zero, suc, _+_, _^_, _≤_, _<_}
+use Prim.Native.Nat.{ℕ, zero, suc, _<_}
 use native.Mathlib.Omega.{arith}
-use native.Mathlib.Decide.{decLt}
-use lib.Dec.{eqb, ltb}
+use lib.Dec.{ltb}
 use borrow.Author.Tests.{ltb-true, ltb-false}
 use Rattle.model.specs.Tests.{pick}
-use Rattle.model.specs.Sets.{has, union, with, within, unionTo}
-use Rattle.model.proofs.Bools.{or-l, or-r, or-cases, bool-ext, not-both}
+use Rattle.model.specs.Sets.{has, union, with, unionTo}
+use Rattle.model.proofs.Bools.{or-l, or-r, or-cases, bool-ext}
+use Rattle.model.proofs.AnyWidth.{same-sets}
 use Rattle.model.proofs.SetLaws.{has-union}
 use Rattle.query.specs.Search.{Sub}
-use Rattle.query.proofs.Members.{has-ext, has-none, no-member, either, with-new, with-old, with-or}
+use Rattle.query.proofs.Members.{no-member, either, with-new, with-old, with-or}
 
 module _ (row : ℕ → ℕ) (s p : ℕ) where
   -- what a role of the set carries
@@ -64,7 +64,7 @@ module _ (row : ℕ → ℕ) (d : ℕ) where
 
   -- with the role r too
   pub carried-with : (s r : ℕ) → r < d → unionTo row (with s r) d ≡ union (unionTo row s d) (row r)
-  carried-with s r l = has-ext (unionTo row (with s r) d) (union (unionTo row s d) (row r)) (λ p.
+  carried-with s r l = same-sets (unionTo row (with s r) d) (union (unionTo row s d) (row r)) (λ p.
       bool-ext (has (unionTo row (with s r) d) p) (has (union (unionTo row s d) (row r)) p) (to p) (from p))
     where
       to : (p : ℕ) → has (unionTo row (with s r) d) p ≡ true → has (union (unionTo row s d) (row r)) p ≡ true
@@ -87,7 +87,7 @@ module _ (row : ℕ → ℕ) (d : ℕ) where
 
   -- no roles carry nothing
   pub carried-none : unionTo row 0 d ≡ 0
-  carried-none = has-ext (unionTo row 0 d) 0 (λ p. bool-ext (has (unionTo row 0 d) p) (has 0 p)
+  carried-none = same-sets (unionTo row 0 d) 0 (λ p. bool-ext (has (unionTo row 0 d) p) (has 0 p)
       (λ m. let x = carried-by row 0 p d m in no-member (x .0) (x .2)) (λ m. no-member p m))
 
 -- rows that are the same at the set's roles

@@ -13,8 +13,8 @@ use lib.Pow.{pow-pos}
 use lib.Bits.{bitAnd, bitXor, xor-shr, xor-mod}
 use lib.ListN.{getD}
 use borrow.Author.Tests.{ltb-true, ltb-false}
-use Rattle.model.specs.Sets.{has, inter, within}
-use Rattle.model.proofs.Bools.{and-l, and-r, both, not-both}
+use Rattle.model.specs.Sets.{has, within}
+use Rattle.model.proofs.Bools.{and-l, and-r, not-both}
 use Rattle.model.proofs.SetLaws.{has-inter, has-beyond}
 use Rattle.sets.specs.Members.{Lowest}
 use Rattle.sets.specs.Words.{value, Splits}

@@ -1,40 +1,27 @@
--- Inclusion of sets by their members, over any width.
+-- Inclusion of sets by their members, one member more or fewer, and the sets between two, over any width.
 -- Assumes nothing.
-use mathlib.Core.Path.{_≡_, refl, sym, ap, ap₂, subst, _∙_}
-use mathlib.Core.Bool.{Bool, true, false, _&&_, _||_, not, or-true, or-false}
+use mathlib.Core.Path.{_≡_, refl, sym, ap, subst, _∙_}
+use mathlib.Core.Bool.{Bool, true, false, not}
 use mathlib.Core.Logic.{_⊎_, inl, inr}
-use Prim.Native.Nat.{ℕ, zero, suc, _+_, _^_, _≤_, _<_}
-use native.Mathlib.Nat.{pow-suc, le-trans, lt-of-lt-of-le}
+use Prim.Native.Nat.{ℕ, _≤_}
 use native.Mathlib.Omega.{arith}
-use native.Mathlib.Decide.{decLt}
-use borrow.Author.Tests.{eqb-true, eqb-false, eq-eqb, ne-eqb}
+use borrow.Author.Tests.{eqb-true, eqb-false, eq-eqb}
 use lib.Dec.{eqb}
-use lib.Bits.{bitAnd, and-le-r, and-zero-l}
-use lib.Pow.{pow-mono, pow-pos}
-use Rattle.model.specs.Sets.{has, union, inter, with, within, count}
+use lib.Bits.{and-le-r}
+use lib.Pow.{pow-pos}
+use Rattle.model.specs.Sets.{has, inter, with, within, count}
 use Rattle.model.proofs.Bools.{and-l, or-l, or-r, or-cases, bool-ext, not-both}
-use Rattle.model.proofs.SetLaws.{has-with, has-union, has-inter, same-members, within-has, has-within, has-beyond, count-within}
+use Rattle.model.proofs.AnyWidth.{same-sets, within-iff}
+use Rattle.model.proofs.SetLaws.{has-with, has-beyond, count-within}
 use Rattle.sets.specs.Members.{without}
 use Rattle.sets.proofs.Taken.{has-without, without-gone, without-other}
 use Rattle.query.specs.Search.{Sub, Between}
 
--- a number fits as many binary digits
-small : (n : ℕ) → n < 2 ^ n
-small zero = pow-pos 0
-small (suc n) = let h = small n in omega (arith, pow-suc 2 n)
-
--- sets with the same members are the same
-pub has-ext : (a b : ℕ) → ((i : ℕ) → has a i ≡ has b i) → a ≡ b
-has-ext a b h =
-    let la : a < 2 ^ (a + b) = lt-of-lt-of-le (small a) (pow-mono (omega arith)) in
-    let lb : b < 2 ^ (a + b) = lt-of-lt-of-le (small b) (pow-mono (omega arith)) in
-    same-members (a + b) a b la lb (λ i _. h i)
-
 pub sub-within : (a b : ℕ) → Sub a b → within a b ≡ true
-sub-within a b h = has-within a a b (small a) (λ i _ m. h i m)
+sub-within a b h = within-iff a b .1 h
 
 pub within-sub : (a b : ℕ) → within a b ≡ true → Sub a b
-within-sub a b w = within-has a b w
+within-sub a b w = within-iff a b .0 w
 
 -- a set within another is no larger as a number, and has no more members
 pub sub-le : (a b : ℕ) → Sub a b → a ≤ b
@@ -45,7 +32,7 @@ pub sub-count : (d a b : ℕ) → Sub a b → count d a ≤ count d b
 sub-count d a b h = count-within d a b (sub-within a b h)
 
 pub sub-same : (a b : ℕ) → Sub a b → Sub b a → a ≡ b
-sub-same a b h g = has-ext a b (λ i. bool-ext (has a i) (has b i) (h i) (g i))
+sub-same a b h g = same-sets a b (λ i. bool-ext (has a i) (has b i) (h i) (g i))
 
 -- the empty set
 pub has-none : (i : ℕ) → has 0 i ≡ false

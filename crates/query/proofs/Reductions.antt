@@ -2,11 +2,11 @@
 -- Assumes nothing.
 use mathlib.Core.Path.{_≡_, refl, sym, ap, ap₂, subst, _∙_}
 use mathlib.Core.Bool.{Bool, true, false, _&&_, _||_, not}
-use mathlib.Core.Logic.{_↔_, _⊎_, inl, inr}
-use mathlib.Core.List.{List, [], _∷_, _++_, map, List·Memᴰ}
+use mathlib.Core.Logic.{_↔_}
+use mathlib.Core.List.{List, [], _∷_, _++_, map}
 use Prim.Native.Nat.{ℕ, zero, suc, _+_, _-_, _≤_, _<_}
 use native.Mathlib.Omega.{arith}
-use lib.Dec.{eqb, ltb}
+use lib.Dec.{ltb}
 use lib.Bits.{or-zero-l, or-comm}
 use lib.ListN.{length, getD, set, take, drop, length-take, length-set}
 use lib.Seq.{drop-cons, drop-length, set-split, getD-take, getD-set-same, getD-set-other}
@@ -23,12 +23,12 @@ use Rattle.model.specs.Policy.{Policy, authorized, meaning}
 use Rattle.model.specs.Line.{emptySession, sessionAt, activeIn, exclusionsMet, putIn}
 use Rattle.model.specs.Choice.{carriedBy, admissible}
 use Rattle.model.specs.Conditions.{others, countedAfter, MetAfter}
-use Rattle.model.proofs.Bools.{and-l, and-r, both, bool-ext}
+use Rattle.model.proofs.Bools.{and-r, both, bool-ext}
 use Rattle.model.proofs.Every.{all-mem, mem-all, all-at, at-all}
 use Rattle.model.proofs.SetLaws.{has-union, has-inter}
 use Rattle.model.proofs.Actives.{active-middle}
 use Rattle.model.proofs.ConditionsProof.{solution}
-use Rattle.query.specs.Rooms.{fits, allBelow, roomy, stay, maskOf, roomOf}
+use Rattle.query.specs.Rooms.{fits, roomy, stay, maskOf, roomOf}
 use Rattle.query.specs.Reduction.{Reduces}
 use Rattle.query.proofs.Members.{sub-within, within-sub, none-sub, no-member}
 use Rattle.query.proofs.Lacking.{has-lacking}

@@ -3,28 +3,27 @@
 use mathlib.Core.Path.{_≡_, refl, sym, ap, subst, _∙_}
 use mathlib.Core.Bool.{Bool, true, false, _&&_}
 use mathlib.Core.Logic.{_⊎_, inl, inr}
-use mathlib.Core.Option.{Option, none, some}
+use mathlib.Core.Option.{none, some}
 use Prim.Native.Nat.{ℕ, _+_, _*_, _^_, _≤_, _<_}
-use native.Mathlib.Nat.{lt-of-le-of-lt, le-refl}
+use native.Mathlib.Nat.{lt-of-le-of-lt}
 use native.Mathlib.Omega.{arith}
 use lib.Dec.{eqb, ltb}
 use lib.ListN.{getD}
-use borrow.Author.Tests.{ltb-true, ltb-false, eq-eqb, ne-eqb}
+use borrow.Author.Tests.{ltb-true, ltb-false, ne-eqb}
 use Rattle.model.specs.declared.Line.{Line}
 use Rattle.model.specs.Tests.{pick}
 use Rattle.model.specs.Sets.{has, within, count, unionTo, unionAt}
 use Rattle.model.specs.Policy.{Meaning}
 use Rattle.model.specs.Line.{exclusionsMet, putIn}
 use Rattle.model.specs.Choice.{carriedBy, admissible, cost, permissionCost, roleCost, better, choose}
-use Rattle.model.specs.Chosen.{IsBest}
 use Rattle.model.proofs.Bools.{and-l, and-r, both, not-both}
 use Rattle.model.proofs.SetLaws.{has-beyond}
 use Rattle.model.proofs.Ranks.{Earlier, earlier-true}
 use Rattle.model.proofs.Choices.{choice}
 use Rattle.query.specs.declared.rank.Best.{Best}
 use Rattle.query.specs.declared.Choice.{Choice}
-use Rattle.query.specs.declared.Choice.the-variants.{Nothing, Roles}
-use Rattle.query.specs.Search.{Task, carries, serves, keyBy, keyOf, rank, rankOf, rankAt, Sub, Keeps, Between, Served, Found}
+use Rattle.query.specs.declared.Choice.the-variants.{Nothing}
+use Rattle.query.specs.Search.{Task, carries, serves, keyBy, rank, rankOf, rankAt, Sub, Keeps, Between, Served, Found}
 use Rattle.query.specs.Answer.{answered, noBest, answerOf, Carry, Given}
 use Rattle.query.proofs.Members.{sub-within, within-sub, sub-le, none-sub, no-member}
 use Rattle.query.proofs.Carried.{carried-same, carried-least, row-sub}
@@ -94,9 +93,9 @@ module _ (t : Task) (upper authorized : ℕ) (small : authorized < 2 ^ 64) (m : 
       (w, f .1, f .2, sym (given .rooms s w) ∙ f .3)
 
   -- the exclusions have no room even for the empty set
-  pub none-chosen : Falls t → t .room 0 ≡ false → answered Nothing ≡ choose m l k (t .lower) upper (t .first) (t .second)
+  pub none-chosen : Falls t → (b : Bool) → b ≡ t .room 0 → b ≡ false → answered Nothing ≡ choose m l k (t .lower) upper (t .first) (t .second)
   unfolding answered
-  none-chosen falls h = chosen-none (λ s adm. not-both (t .room 0) (falls 0 s (none-sub s) (is-in s adm .3)) h)
+  none-chosen falls b e h = chosen-none (λ s adm. not-both (t .room 0) (falls 0 s (none-sub s) (is-in s adm .3)) (sym e ∙ h))
 
   -- ---- a better set has the lower rank
   rank-of : (s : ℕ) → Sub s authorized → rankOf t s ≡ rank (permissionCost m (t .first) s * 512 + roleCost (t .second) s) s

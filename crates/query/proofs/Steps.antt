@@ -1,17 +1,16 @@
 -- One law for each way in which a step of a search returns: what it hands back is the best of the sets that it stands for.
 -- Assumes nothing.
 use mathlib.Core.Path.{_≡_, refl, sym, ap, subst, _∙_}
-use mathlib.Core.Bool.{Bool, true, false, _&&_}
+use mathlib.Core.Bool.{true, false}
 use mathlib.Core.Logic.{_⊎_, inl, inr}
-use Prim.Native.Nat.{ℕ, zero, suc, _+_, _*_, _^_, _≤_, _<_}
-use native.Mathlib.Nat.{le-refl, le-trans, le-of-eq}
-use native.Mathlib.Omega.{arith}
-use Rattle.model.specs.Sets.{has, union, with, within, unionTo}
+use Prim.Native.Nat.{ℕ, _≤_, _<_}
+use native.Mathlib.Nat.{le-refl, le-trans}
+use Rattle.model.specs.Sets.{has, with, within}
 use Rattle.model.proofs.Bools.{and-l, and-r, both, not-both}
 use Rattle.sets.specs.Members.{without}
 use Rattle.query.specs.declared.rank.Best.{Best}
-use Rattle.query.specs.Search.{Task, carries, serves, keyOf, rank, rankOf, rankAt, Sub, Between, Served, Found, Tried}
-use Rattle.query.proofs.Members.{sub-within, within-sub, no-member, either, with-sub, fewer-stays, between-with, between-without, between-old, between-new, between-chosen, between-none}
+use Rattle.query.specs.Search.{Task, carries, serves, keyOf, rankOf, rankAt, Sub, Between, Served, Found, Tried}
+use Rattle.query.proofs.Members.{within-sub, no-member, either, with-sub, fewer-stays, between-with, between-without, between-old, between-new, between-chosen, between-none}
 use Rattle.query.proofs.Carried.{carried-by, carried-in}
 use Rattle.query.proofs.Ranks.{rank-grows}
 

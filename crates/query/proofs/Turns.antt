@@ -1,16 +1,16 @@
 -- The steps of the searches, in the form of their needs: what a step hands on, and what it hands back, from what its callees ensure.
 -- Assumes nothing.
-use mathlib.Core.Path.{_≡_, refl, sym, ap, subst, _∙_}
+use mathlib.Core.Path.{_≡_, sym, ap, subst, _∙_}
 use mathlib.Core.Bool.{Bool, true, false, _&&_}
-use Prim.Native.Nat.{ℕ, _+_, _-_, _*_, _^_, _≤_, _<_}
-use native.Mathlib.Nat.{le-trans, le-of-lt}
+use Prim.Native.Nat.{ℕ, _+_, _-_, _^_, _≤_, _<_}
+use native.Mathlib.Nat.{le-of-lt}
 use native.Mathlib.Omega.{arith}
 use lib.Dec.{leb}
 use borrow.Author.Tests.{leb-true, leb-false}
 use Rattle.model.specs.Sets.{has, union, inter, with, within, count}
 use Rattle.model.proofs.Bools.{and-l, and-r, or-l, both}
 use Rattle.model.proofs.SetLaws.{has-union, has-inter}
-use Rattle.sets.specs.Members.{without, Lowest}
+use Rattle.sets.specs.Members.{without}
 use Rattle.sets.proofs.Taken.{count-without}
 use Rattle.query.specs.declared.rank.Best.{Best}
 use Rattle.query.specs.Search.{Task, carries, keyBy, rank, rankOf, rankAt, Sub, Keeps, Missing, Ready, Modest, Found, Tried}

@@ -1,23 +1,22 @@
 -- A walk through a role set by its members: those that pass a test are kept, or the rows of all are joined.
 -- Assumes nothing.
-use mathlib.Core.Path.{_≡_, refl, sym, ap, ap₂, _∙_}
-use mathlib.Core.Bool.{Bool, true, false, _&&_, _||_, not, or-false}
-use mathlib.Core.Logic.{_⊎_, inl, inr}
+use mathlib.Core.Path.{_≡_, refl, sym, ap, _∙_}
+use mathlib.Core.Bool.{Bool, true, false, _&&_, _||_, or-false}
 use Prim.Native.Nat.{ℕ, _^_, _<_}
 use native.Mathlib.Nat.{lt-of-le-of-lt}
 use native.Mathlib.Omega.{arith}
-use lib.Bits.{bitOr, or-comm, or-zero-r}
+use lib.Bits.{or-comm, or-zero-r}
 use lib.Dec.{eqb}
 use borrow.Author.Tests.{eqb-true, eqb-false, ne-eqb}
 use Rattle.model.specs.Tests.{pick}
 use Rattle.model.specs.Sets.{has, union, with, count, unionTo}
-use Rattle.model.proofs.Bools.{not-both, and-l}
+use Rattle.model.proofs.Bools.{not-both}
 use Rattle.model.proofs.AnyWidth.{union-swap}
 use Rattle.model.proofs.SetLaws.{has-with}
 use Rattle.sets.specs.Members.{without, Lowest}
-use Rattle.sets.proofs.Taken.{has-without, without-gone, without-other, with-without, count-without}
+use Rattle.sets.proofs.Taken.{without-gone, without-other, with-without, count-without}
 use Rattle.query.specs.Search.{Sub, Keeps}
-use Rattle.query.proofs.Members.{either, has-none, with-new, fewer-sub, sub-le}
+use Rattle.query.proofs.Members.{has-none, with-new, fewer-sub, sub-le}
 use Rattle.query.proofs.Carried.{carried-with, carried-none}
 
 -- of the set s the members of left are still to come, and found has those before them that pass

@@ -20,6 +20,7 @@ pub mod search;
 use carry::usable;
 use rank::Best;
 use rank::Job;
+use rank::NONE;
 use rooms::room_for;
 use search::permission_step;
 use search::subset_step;
@@ -34,7 +35,7 @@ fn answer(best: Best) -> Choice
     ensures { λ r. ⌜ r ≡ answerOf best ⌝ }
 {
     let key = best.key;
-    if key == 1048576 {
+    if key == NONE {
         return Choice::Nothing;
     }
     Choice::Roles(best.roles)
@@ -46,7 +47,7 @@ fn best_of(rows: &[[u64; 4]; 64], masks: &[u64; 32], rooms: &[u32; 32], job: Job
     ensures { λ r. ⌜ Found (taskOf (now (rows .entry)) (now (masks .entry)) (now (rooms .entry)) job) 0 free noBest r ⌝ }
 {
     let none = Best {
-        key: 1048576,
+        key: NONE,
         roles: 0,
     };
     let first = job.first;

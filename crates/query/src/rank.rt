@@ -2,7 +2,6 @@
 ghost use mathlib.Core.Path.{_≡_};
 ghost use Prim.Native.Nat.{_≤_};
 ghost use lib.Dec.{leb};
-ghost use Rattle.model.specs.Choice.{cost as costOf};
 ghost use Rattle.sets.specs.Words.{value};
 ghost use Rattle.query.specs.Search.{Costs, keyBy, rank, rankAt};
 
@@ -11,6 +10,9 @@ pub struct Best {
     pub key: u64,
     pub roles: u64,
 }
+
+// The key of no set, above that of any.
+pub const NONE: u64 = 1048576;
 
 // What is asked: the lower bound, how many exclusions there are, and the objectives for permissions and then for roles (01: aims): 0 is
 // any, 1 the fewest, 2 the most.

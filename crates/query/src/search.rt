@@ -1,5 +1,4 @@
 // The two searches. Each step is given the roles chosen so far with what they carry, the roles still free, and the best set so far.
-ghost use Prim.Native.Nat.{_≤_, _<_};
 ghost use Rattle.sets.specs.Words.{value};
 ghost use Rattle.query.specs.Search.{taskOf, Sub, Ready, Modest, Found, Tried};
 use crate::carry::holders;

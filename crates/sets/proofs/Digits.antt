@@ -3,8 +3,8 @@
 use mathlib.Core.Path.{_≡_, refl, sym, ap, ap₂, _∙_, subst}
 use mathlib.Core.Bool.{Bool, true, false, _&&_, false≢true}
 use mathlib.Core.List.{List}
-use Prim.Native.Nat.{ℕ, zero, suc, _+_, _-_, _*_, _/_, _%_, _^_, _≤_, _<_}
-use native.Mathlib.Nat.{zero-mul, mul-assoc, add-mul, add-assoc, add-suc, add-comm, suc-mul, mul-comm, add-zero, le-refl, lt-suc-self, lt-of-lt-of-le, le-suc, mod-lt, div-add-mod'}
+use Prim.Native.Nat.{ℕ, zero, suc, _+_, _*_, _/_, _%_, _^_, _≤_, _<_}
+use native.Mathlib.Nat.{zero-mul, mul-assoc, add-mul, add-assoc, add-suc, add-comm, suc-mul, mul-comm, add-zero, lt-suc-self, lt-of-lt-of-le, le-suc}
 use native.Mathlib.Omega.{arith}
 use lib.Dec.{eqb, ltb}
 use lib.Arith.{digits-lt, digits-div, digits-mod}

@@ -1,7 +1,6 @@
 // Sets in machine words: role sets in a `u64`, permission sets in a `[u64; 4]` by value. Each function computes what the model's
 // definition of the same name says of the sets that the words hold.
 ghost use mathlib.Core.Path.{_≡_};
-ghost use mathlib.Core.Bool.{Bool};
 ghost use Prim.Native.Nat.{_<_};
 ghost use lib.Dec.{ltb};
 ghost use Rattle.model.specs.Sets.{has as hasOf, union as unionOf, inter as interOf, with as withOf, within as withinOf, count};

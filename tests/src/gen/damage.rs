@@ -45,7 +45,7 @@ fn length(rng: &mut Rng, draft: Draft) -> Vec<u8> {
     match rng.below(5) {
         0 => bytes.truncate(rng.place(9)),
         1 => bytes.truncate(rng.place(bytes.len())),
-        2 => bytes.push(rng.next() as u8),
+        2 => bytes.push(rng.draw() as u8),
         3 => {
             let filler = words::grant(0, 0).to_le_bytes();
             let most = 4 * words::MOST_WORDS + rng.pick(&[0, 1, 4, 8, 400]);
@@ -193,7 +193,7 @@ fn soup(rng: &mut Rng) -> Vec<u32> {
     let mut words = vec![words::head(rng.from_to(1, 4) as u32, rng.from_to(1, 8) as u32, rng.from_to(1, 16) as u32)];
     for _ in 0..rng.below(12) {
         let kind = rng.pick(&[2u32, 3, 4, 5, 6, 2, 3, 4, 15, 0, 9]) << 28;
-        let fields = rng.next() as u32 & 0x0FFF_FFFF;
+        let fields = rng.draw() as u32 & 0x0FFF_FFFF;
         words.push(kind | if rng.one_in(4) { fields } else { fields & 0x00C7_0000 });
     }
     words.push(0xF000_0000);
@@ -208,7 +208,7 @@ fn at_random(rng: &mut Rng, draft: Draft) -> Vec<u8> {
         match rng.below(7) {
             0..=1 => words[at] ^= 1 << rng.below(32),
             2 => words.swap(at, other),
-            3 => words.insert(at, rng.next() as u32),
+            3 => words.insert(at, rng.draw() as u32),
             4 => {
                 words.remove(at);
             }

@@ -4,6 +4,7 @@ pub mod call;
 pub mod damage;
 pub mod ledger;
 pub mod policy;
+pub mod script;
 
 /// A sequence of numbers that a seed determines (splitmix64).
 #[derive(Clone, Debug)]
@@ -17,10 +18,10 @@ impl Rng {
     /// The sequence of one case of a run.
     pub fn of_case(seed: u64, case: u64) -> Rng {
         let mut rng = Rng(seed);
-        Rng(rng.next() ^ Rng(case).next())
+        Rng(rng.draw() ^ Rng(case).draw())
     }
 
-    pub fn next(&mut self) -> u64 {
+    pub fn draw(&mut self) -> u64 {
         self.0 = self.0.wrapping_add(0x9E37_79B9_7F4A_7C15);
         let mut mixed = self.0;
         mixed = (mixed ^ (mixed >> 30)).wrapping_mul(0xBF58_476D_1CE4_E5B9);
@@ -30,7 +31,7 @@ impl Rng {
 
     /// A number below `bound`, which is not 0.
     pub fn below(&mut self, bound: u64) -> u64 {
-        self.next() % bound
+        self.draw() % bound
     }
 
     /// A number from `low` to `high`, both among them.
@@ -59,7 +60,7 @@ impl Rng {
     }
 
     pub fn bytes(&mut self, length: usize) -> Vec<u8> {
-        (0..length).map(|_| self.next() as u8).collect()
+        (0..length).map(|_| self.draw() as u8).collect()
     }
 }
 
@@ -76,6 +77,6 @@ pub fn wild(rng: &mut Rng, near: u64) -> u64 {
         8 => (1 << 60) + low,
         9 => (1 << 63) + low,
         10 => u64::MAX,
-        _ => rng.next(),
+        _ => rng.draw(),
     }
 }

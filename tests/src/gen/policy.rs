@@ -30,6 +30,8 @@ pub const SMALL: Size =
     Size { users: 4, roles: 8, permissions: 12, roles_of_a_user: 7, grants_of_a_role: 4, seniors: 5, exclusions: 5 };
 pub const MIDDLE: Size =
     Size { users: 9, roles: 20, permissions: 70, roles_of_a_user: 9, grants_of_a_role: 9, seniors: 12, exclusions: 12 };
+pub const WIDE: Size =
+    Size { users: 64, roles: 64, permissions: 256, roles_of_a_user: 8, grants_of_a_role: 12, seniors: 60, exclusions: 32 };
 pub const LARGE: Size =
     Size { users: 64, roles: 64, permissions: 256, roles_of_a_user: 16, grants_of_a_role: 12, seniors: 60, exclusions: 32 };
 

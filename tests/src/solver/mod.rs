@@ -6,3 +6,4 @@ pub mod choice;
 pub mod image;
 pub mod line;
 pub mod policy;
+pub mod script;

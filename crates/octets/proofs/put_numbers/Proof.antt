@@ -1,11 +1,10 @@
 -- `octets::put_numbers` meets its contract. The loop's invariant: the first k numbers are in place, and `s` is as long as it was.
 -- Assumes nothing.
-use borrow.Author.Needs.{needs}
 use mathlib.Core.Path.{_≡_, refl, sym, ap, _∙_}
 use mathlib.Core.List.{List}
-use Prim.Native.Nat.{ℕ, _+_, _*_, _-_, _≤_}
+use Prim.Native.Nat.{ℕ, _-_, _≤_}
 use native.Mathlib.Omega.{arith}
-use lib.ListN.{length, take, getD}
+use lib.ListN.{length, take}
 use lib.Seq.{take-length}
 use Rattle.octets.specs.Splice.{splice, bytesOfAll}
 use Rattle.octets.proofs.Splices.{splice-nil}

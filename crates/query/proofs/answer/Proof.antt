@@ -1,6 +1,5 @@
 -- `query::answer` meets its contract.
 -- Assumes nothing.
-use mathlib.Core.Path.{refl}
 use borrow.Author.Tests.{ne-eqb}
 use Rattle.model.specs.Tests.{pick}
 use Rattle.query.specs.Answer.{answerOf}

@@ -1,6 +1,6 @@
 -- `query::solve` meets its contract: what a search finds is the model's choice.
 -- Assumes nothing.
-use mathlib.Core.Path.{_≡_, sym, _∙_}
+use mathlib.Core.Path.{sym, _∙_}
 use borrow.Author.Needs.{needs}
 use borrow.Author.Tests.{not-true, not-false}
 use denote.Ref.{now}
@@ -16,7 +16,7 @@ returns c m l k given =
     let s = c .before .before in
     let g = s .args in
     none-chosen (taskOf (now (g .rows)) (now (g .masks)) (now (g .rooms)) (g .job)) (value (g .upper)) (g .authorized) (s .fits .authorized .fits) m l k given
-    (roomy-less (now (g .masks)) (now (g .rooms)) (g .job .count)) (sym (c .before .room-for .ensures) ∙ not-true _ (c .if1 .taken))
+    (roomy-less (now (g .masks)) (now (g .rooms)) (g .job .count)) _ (c .before .room-for .ensures) (not-true _ (c .if1 .taken))
 
 returns-2 : tie.Need-returns-2
 returns-2 c m l k given =

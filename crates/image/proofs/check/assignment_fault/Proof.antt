@@ -2,7 +2,7 @@
 -- Assumes nothing.
 use Rattle.model.specs.Tests.{pick}
 use Rattle.model.specs.Image.{entryFault, inRange, repeats, crowds}
-use borrow.Author.Tests.{lt-ltb, le-ltb, le-leb, lt-leb, eq-eqb, ne-eqb}
+use borrow.Author.Tests.{lt-ltb, le-ltb, le-leb, lt-leb}
 use mathlib.Core.Path.{sym, _∙_}
 use borrow.Author.Needs.{needs}
 use Rattle.image.proofs.check.assignment_fault.Statement.{statement}

@@ -2,7 +2,6 @@
 -- Assumes nothing.
 use Rattle.model.specs.Tests.{pick}
 use Rattle.model.specs.Image.{fault}
-use borrow.Author.Tests.{lt-ltb, le-ltb, le-leb, lt-leb, eq-eqb, ne-eqb}
 use mathlib.Core.Path.{sym, _∙_}
 use borrow.Author.Needs.{needs}
 use Rattle.image.proofs.check.fault.Statement.{statement}

@@ -2,8 +2,7 @@
 -- Assumes nothing.
 use Rattle.model.specs.Tests.{pick}
 use Rattle.model.specs.Image.{entryFault, inRange, repeats, crowds}
-use borrow.Author.Tests.{lt-ltb, le-ltb, le-leb, lt-leb, eq-eqb, ne-eqb}
-use mathlib.Core.Path.{sym, _∙_}
+use borrow.Author.Tests.{lt-ltb, le-ltb}
 use borrow.Author.Needs.{needs}
 use Rattle.image.proofs.check.grant_fault.Statement.{statement}
 use Rattle.image.proofs.check.grant_fault.Tie as tie

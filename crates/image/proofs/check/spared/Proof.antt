@@ -1,9 +1,7 @@
 -- `image::check::spared` meets its contract.
 -- Assumes nothing.
 use Rattle.model.specs.Tests.{pick}
-use borrow.Author.Tests.{lt-ltb, le-ltb, le-leb, lt-leb, eq-eqb, ne-eqb}
-use mathlib.Core.Path.{sym, _∙_}
-use borrow.Author.Needs.{needs}
+use borrow.Author.Tests.{eq-eqb, ne-eqb}
 use Rattle.image.proofs.check.spared.Statement.{statement}
 use Rattle.image.proofs.check.spared.Tie as tie
 

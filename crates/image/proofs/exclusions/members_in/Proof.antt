@@ -1,7 +1,7 @@
 -- `image::exclusions::members_in` meets its contract. The loop's invariant: the members of the rest, joined to
 -- those so far, are those of the whole.
 -- Assumes nothing.
-use mathlib.Core.Path.{_≡_, refl, sym, _∙_}
+use mathlib.Core.Path.{_≡_, refl, _∙_}
 use Prim.Native.Nat.{_≤_, _-_}
 use native.Mathlib.Omega.{arith}
 use borrow.Author.Needs.{needs}

@@ -1,7 +1,7 @@
 -- `image::tables::add_selves` meets its contract. The loop's invariant: the rows so far have their roles, the others are
 -- as they were.
 -- Assumes nothing.
-use mathlib.Core.Path.{_≡_, refl, ap, _∙_}
+use mathlib.Core.Path.{_≡_, refl}
 use Prim.Native.Nat.{ℕ, _≤_, _-_}
 use native.Mathlib.Omega.{arith}
 use lib.ListN.{length, getD, take, length-set}

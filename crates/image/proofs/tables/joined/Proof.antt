@@ -1,9 +1,8 @@
 -- `image::tables::joined` meets its contract.
 -- Assumes nothing.
-use mathlib.Core.Path.{_≡_, refl}
-use Prim.Native.Nat.{ℕ, _≤_, _-_}
+use mathlib.Core.Path.{_≡_}
+use Prim.Native.Nat.{_≤_, _-_}
 use native.Mathlib.Omega.{arith}
-use mathlib.Core.List.{List}
 use lib.ListN.{getD}
 use Rattle.sets.specs.Words.{value, values}
 use Rattle.model.specs.Sets.{unionTo}

@@ -1,9 +1,8 @@
 -- `image::tables::through` meets its contract.
 -- Assumes nothing.
 use mathlib.Core.Path.{_≡_, refl}
-use Prim.Native.Nat.{ℕ, _≤_, _-_}
+use Prim.Native.Nat.{_≤_, _-_}
 use native.Mathlib.Omega.{arith}
-use lib.ListN.{getD}
 use Rattle.model.specs.Policy.{taking}
 use Rattle.image.proofs.Closing.{mapTo, mapTo-none, row-taken, all-taken}
 use borrow.Author.Needs.{needs}

@@ -4,7 +4,6 @@ use Rattle.model.specs.Tests.{pick}
 use Rattle.model.specs.Image.{decode}
 use Rattle.image.specs.Bounds.{Small}
 use borrow.Author.Tests.{ne-eqb}
-use native.Mathlib.Omega.{arith}
 use borrow.Author.Needs.{needs}
 use Rattle.image.proofs.word.decode.Statement.{statement}
 use Rattle.image.proofs.word.decode.Tie as tie

@@ -1,22 +1,11 @@
 -- `query::carry::holders` meets its contract: a walk through the set by its lowest member.
 -- Assumes nothing.
 use borrow.Author.Needs.{needs}
-use native.Mathlib.Omega.{arith}
-use mathlib.Core.Path.{_≡_, ap}
-use Prim.Native.Nat.{ℕ}
-use denote.Ref.{now}
 use Rattle.model.specs.Sets.{has, count}
-use Rattle.sets.specs.Words.{value}
 use Rattle.query.specs.Search.{rowsOf}
 use Rattle.query.proofs.Walks.{Walk, walk-starts, walk-next, walk-ends, fewer-left}
 use Rattle.query.proofs.carry.holders.Statement.{statement}
 use Rattle.query.proofs.carry.holders.Tie as tie
-use Rattle.query.proofs.carry.holders.Reads as reads
-use Rattle.query.proofs.carry.holders.Lts as lts
-use Rattle.query.proofs.carry.joined.Reads as joined-reads
-use Rattle.sets.proofs.lowest.Reads as lowest-reads
-use Rattle.sets.proofs.perm_has.Reads as perm-has-reads
-use Rattle.sets.proofs.without.Reads as without-reads
 
 abbrev Inv-loop : tie.InvT-loop
 Inv-loop rows p set left₀ found₀ left found = Walk (λ i. has (rowsOf rows i) (p .0)) set left found

@@ -2,17 +2,12 @@
 -- Assumes nothing.
 use borrow.Author.Needs.{needs}
 use native.Mathlib.Omega.{arith}
-use mathlib.Core.Path.{_≡_, sym, _∙_}
+use mathlib.Core.Path.{_≡_}
 use Prim.Native.Nat.{ℕ, _-_, _≤_, _<_}
 use lib.ListN.{getD}
-use Rattle.model.specs.Sets.{within}
-use Rattle.sets.specs.Words.{value}
 use Rattle.query.proofs.Lacking.{lacking, missing-at, missing-none, none-next}
 use Rattle.query.proofs.carry.missing.Statement.{statement}
 use Rattle.query.proofs.carry.missing.Tie as tie
-use Rattle.query.proofs.carry.missing.Reads as reads
-use Rattle.query.proofs.carry.missing.Lts as lts
-use Rattle.sets.proofs.lowest.Reads as lowest-reads
 
 abbrev Inv-loop : tie.InvT-loop
 Inv-loop a b i₀ i = (i ≤ 4) × ((j : ℕ) → j < i → lacking (getD a j 0) (getD b j 0) ≡ 0)

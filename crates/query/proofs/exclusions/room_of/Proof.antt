@@ -1,9 +1,7 @@
 -- `query::exclusions::room_of` meets its contract.
 -- Assumes nothing.
-use mathlib.Core.Path.{_≡_}
 use native.Mathlib.Omega.{arith}
 use borrow.Author.Needs.{needs}
-use Rattle.model.specs.Sets.{count}
 use Rattle.query.specs.Rooms.{roomOf}
 use Rattle.query.proofs.exclusions.room_of.Statement.{statement}
 use Rattle.query.proofs.exclusions.room_of.Tie as tie

@@ -7,7 +7,6 @@ use mathlib.Core.Path.{_≡_, sym, _∙_}
 use mathlib.Core.Bool.{true}
 use Prim.Native.Nat.{_-_, _≤_}
 use lib.ListN.{getD}
-use denote.Ref.{now}
 use Rattle.query.specs.Rooms.{fits, allBelow, roomy}
 use Rattle.query.proofs.RoomLaws.{below-none, below-next, below-stops, below-ends}
 use Rattle.query.proofs.rooms.room_for.Statement.{statement}

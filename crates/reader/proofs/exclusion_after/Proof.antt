@@ -1,0 +1,33 @@
+-- `reader::exclusion_after` meets its contract. The invariant: the first exclusion of the rest is that of the whole.
+-- Assumes nothing.
+use mathlib.Core.Path.{_≡_}
+use Prim.Native.Nat.{_-_}
+use borrow.Author.Needs.{needs}
+use Rattle.reader.specs.Places.{exclusionAmong, exclusionAfter}
+use Rattle.reader.proofs.ExclusionLaws.{walk-begins, walk-stops, walk-goes, walk-ends}
+use Rattle.reader.proofs.exclusion_after.Statement.{statement}
+use Rattle.reader.proofs.exclusion_after.Tie as tie
+
+abbrev Inv-loop : tie.InvT-loop
+Inv-loop image place last at₀ at = exclusionAmong image (last - at) at ≡ exclusionAfter image place
+
+abbrev μ-loop : tie.MeasureT-loop
+μ-loop image place last at₀ at = last - at
+
+loop-holds : tie.Need-loop-holds Inv-loop μ-loop
+loop-holds c = search (needs, walk-begins)
+
+returns : tie.Need-returns Inv-loop μ-loop
+returns c = search (needs, walk-stops)
+
+loop-again : tie.Need-loop-again Inv-loop μ-loop
+loop-again c = search (needs, walk-goes)
+
+returns-2 : tie.Need-returns-2 Inv-loop μ-loop
+returns-2 c = search (needs, walk-ends)
+
+pub exclusion-after-spec : {M : Type 1} → statement M
+exclusion-after-spec =
+    tie.close
+    (tie.spec Inv-loop μ-loop (λ c κs. search needs) loop-holds (λ c κs. search needs) (λ c κs. search needs) (λ c. search needs) returns (λ c. search needs)
+    (λ c. search needs) loop-again returns-2)

@@ -1,0 +1,3 @@
+-- What the contracts of the reader say, beside the model's definitions.
+pub mod Places
+pub mod Readers

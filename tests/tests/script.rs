@@ -1,0 +1,144 @@
+//! The program nutrameza_script: 01's script, every kind of unreadable line, images that cannot be read, and generated scripts
+//! beside the solver.
+
+use nutrameza_tests::compare::spread;
+use nutrameza_tests::gen::{damage, policy, script, Rng};
+use nutrameza_tests::program::run_in;
+use nutrameza_tests::solver::image::judge;
+use nutrameza_tests::solver::script::output;
+use nutrameza_tests::{ward, words};
+use std::path::{Path, PathBuf};
+use std::sync::atomic::{AtomicU64, Ordering};
+
+/// A fresh folder of this test run.
+fn folder() -> PathBuf {
+    static NEXT: AtomicU64 = AtomicU64::new(0);
+    let number = NEXT.fetch_add(1, Ordering::Relaxed);
+    let folder = Path::new(env!("CARGO_TARGET_TMPDIR")).join(format!("{}-{number}", std::process::id()));
+    std::fs::create_dir_all(&folder).expect("a folder is made");
+    folder
+}
+
+/// What the program prints for an image (none: no file) and a script.
+fn run(image: Option<&[u8]>, script: &[u8]) -> Vec<u8> {
+    let folder = folder();
+    if let Some(image) = image {
+        std::fs::write(folder.join("policy.img"), image).expect("the image is written");
+    }
+    let printed = run_in(&folder, script);
+    std::fs::remove_dir_all(&folder).expect("the folder is removed");
+    printed
+}
+
+/// The same by text, held against the solver too.
+fn text(image: Option<&[u8]>, script: &[u8]) -> String {
+    let printed = run(image, script);
+    assert_eq!(String::from_utf8_lossy(&printed), String::from_utf8_lossy(&output(image, script)));
+    String::from_utf8(printed).expect("the program prints text")
+}
+
+#[test]
+fn prints_the_papers_answers_to_the_papers_script() {
+    let script = b"open 0\nask 0 0 3 1f 1 0\nopen 0\nask 0 1 12 1f 1 0\nclose 0 0\nask 0 1 12 1f 1 0\n";
+    let expected = "1 0 0 0 0\n2 0 0 1 f\n3 0 1 0 0\n4 20 0 0 0\n5 0 0 0 0\n6 0 0 2 12\n";
+    assert_eq!(text(Some(&ward::image_a()), script), expected);
+    assert_eq!(text(Some(&ward::image_a()), &script[..script.len() - 1]), expected);
+}
+
+#[test]
+fn prints_nothing_for_nothing_and_a_line_for_an_empty_line() {
+    assert_eq!(text(Some(&ward::image_a()), b""), "");
+    assert_eq!(text(Some(&ward::image_a()), b"\n"), "1 21 0 0 0\n");
+    assert_eq!(text(Some(&ward::image_a()), b"open 0\n\nopen 0"), "1 0 0 0 0\n2 21 0 0 0\n3 0 1 0 0\n");
+}
+
+#[test]
+fn answers_21_to_every_unreadable_line_and_goes_on() {
+    for line in script::UNREADABLE {
+        let script = [b"open 0\n", line, b"\nopen 0\n"].concat();
+        assert_eq!(text(Some(&ward::image_a()), &script), "1 0 0 0 0\n2 21 0 0 0\n3 0 1 0 0\n", "{line:?}");
+    }
+}
+
+#[test]
+fn reads_decimals_of_nine_digits_and_hex_of_sixty_four_of_either_size() {
+    let (most, one_more) = (format!("{:064x}", 0x1f), format!("{:065x}", 0x1f));
+    let asked = |upper: &str| text(Some(&ward::image_a()), format!("open 000000000\nask 0 0 3 {upper}\n").as_bytes());
+    assert_eq!(asked(&most), "1 0 0 0 0\n2 0 0 1 f\n");
+    assert_eq!(asked("1F"), "1 0 0 0 0\n2 0 0 1 f\n");
+    assert_eq!(asked(&one_more), "1 0 0 0 0\n2 21 0 0 0\n");
+    assert_eq!(asked(&"f".repeat(64)), "1 0 0 0 0\n2 16 0 0 0\n");
+    assert_eq!(text(Some(&ward::image_a()), b"open 999999999\nclose 0 999999999\n"), "1 10 0 0 0\n2 12 0 0 0\n");
+}
+
+#[test]
+fn a_refused_image_answers_each_readable_line() {
+    let mut unbalanced = ward::image_a();
+    unbalanced[48] ^= 1;
+    assert_eq!(text(Some(&unbalanced), b"open 0\nopen\nshow 9 9\n"), "1 8 12 0 0\n2 21 0 0 0\n3 8 12 0 0\n");
+    for image in [None, Some(&[][..]), Some(&[0; 16388][..]), Some(&[0; 1_000_000][..]), Some(&ward::image_a()[..51])] {
+        assert_eq!(text(image, b"open 0\n"), "1 1 0 0 0\n");
+    }
+}
+
+#[test]
+fn an_image_that_is_a_folder_counts_as_empty() {
+    let folder = folder();
+    std::fs::create_dir(folder.join("policy.img")).expect("a folder is made");
+    assert_eq!(run_in(&folder, b"open 0\nask\n"), b"1 1 0 0 0\n2 21 0 0 0\n");
+    std::fs::remove_dir_all(&folder).expect("the folder is removed");
+}
+
+#[test]
+fn a_line_of_megabytes_is_one_unreadable_line() {
+    let long = [b"open 0\n", &b"ask 0 0 ".repeat(500_000)[..], b"\n", &b"7".repeat(3_000_000)[..], b"\nopen 0"].concat();
+    assert_eq!(text(Some(&ward::image_a()), &long), "1 0 0 0 0\n2 21 0 0 0\n3 21 0 0 0\n4 0 1 0 0\n");
+}
+
+#[test]
+fn many_lines_keep_their_numbers() {
+    let script = b"open 0\nclose 0 0\n".repeat(40_000);
+    let printed = text(Some(&ward::image_a()), &script);
+    assert!(printed.ends_with("\n80000 0 0 0 0\n"));
+}
+
+/// Cuts a script at lines until it is as short as it can be and still fails.
+fn shrunk(image: &[u8], script: &[u8]) -> Vec<u8> {
+    let fails = |script: &[u8]| run(Some(image), script) != output(Some(image), script);
+    let mut lines: Vec<&[u8]> = script.split_inclusive(|byte| *byte == b'\n').collect();
+    let mut place = lines.len();
+    while place > 0 {
+        place -= 1;
+        let mut less = lines.clone();
+        less.remove(place);
+        if fails(&less.concat()) {
+            lines = less;
+        }
+    }
+    lines.concat()
+}
+
+#[test]
+fn plays_generated_scripts_as_the_solver_does() {
+    let tally = spread("scripts", 600, |rng: &mut Rng, tally| {
+        let draft = if rng.one_in(12) { policy::limits(rng) } else { policy::policy(rng, policy::SMALL) };
+        let mut image = words::bytes(&draft.words());
+        let policy = judge(&image).expect("a policy in good order is accepted");
+        let length = rng.from_to(0, 120) as usize;
+        let script = script::script(rng, &policy, length);
+        if rng.one_in(12) {
+            image = damage::image(rng);
+        }
+        let printed = run(Some(&image), &script);
+        if printed != output(Some(&image), &script) {
+            let small = shrunk(&image, &script);
+            let (printed, expected) = (run(Some(&image), &small), output(Some(&image), &small));
+            let texts = [&small, &printed, &expected].map(|text| String::from_utf8_lossy(text).into_owned());
+            panic!("script {:?}\nprints {:?}\nthe solver {:?}\nimage {image:02x?}", texts[0], texts[1], texts[2]);
+        }
+        for line in String::from_utf8_lossy(&printed).lines() {
+            tally.see_number(line.split(' ').nth(1).and_then(|number| number.parse().ok()).unwrap_or(99));
+        }
+    });
+    tally.expect(20, &["0", "10", "12", "13", "14", "16", "17", "18", "20", "21"]);
+}
