@@ -2,4 +2,6 @@
 pub mod FirstSteps
 pub mod Opens
 pub mod Closes
+pub mod Filled
+pub mod Shown
 pub mod Images
