@@ -2,6 +2,8 @@
 pub mod FirstSteps
 pub mod Opens
 pub mod Closes
+pub mod Filled
+pub mod Shown
 pub mod Images
 pub mod Filled
 pub mod PermissionSets

@@ -7,11 +7,12 @@ pub mod close; // close.rt: a session closed
 pub mod first; // first.rt: the refusals that every call on a line can give first
 pub mod open; // open.rt: a session opened
 pub mod request; // request.rt: the refusals that an ask can give before the search
+pub mod show; // show.rt: a session shown
 
 ghost use mathlib.Core.Path.{_≡_};
-ghost use Rattle.model.specs.Image.{judge, checkNumber};
-ghost use Rattle.model.specs.Run.{step, openBy, closeBy, askBy, shortAskBy, returned, answered};
 ghost use lib.ListN.{length};
+ghost use Rattle.model.specs.Image.{judge, checkNumber};
+ghost use Rattle.model.specs.Run.{step, openBy, closeBy, showBy, askBy, shortAskBy, returned, answered};
 use model::Checked;
 
 // Judges an image: 0, or the refusal's number plus 256 times the place of the refused word.
@@ -60,6 +61,41 @@ pub extern "C" fn nutrameza_close(image: &[u8], ledger: &mut [u8], user: u64, se
     };
     let xs = all.exclusions;
     close::close_session(ledger, head, &assigned, xs, user, session)
+}
+
+// Shows the active roles of the user's session and the permissions that they carry.
+#[no_mangle]
+pub extern "C" fn nutrameza_show(
+    image: &[u8],
+    ledger: &[u8],
+    user: u64,
+    session: u64,
+    answer: &mut [u8],
+) -> u64
+    ensures { λ r. ⌜ (r ≡ returned (step 4 (now (image .entry)) (now (ledger .entry)) (showBy user session (length (now (answer .entry)))) .reply))
+        × (now (answer .exit) ≡ answered (now (answer .entry))
+        (step 4 (now (image .entry)) (now (ledger .entry)) (showBy user session (length (now (answer .entry)))) .reply)) ⌝ }
+{
+    let mut assigned = [0u64; 64];
+    let mut granted = [[0u64; 4]; 64];
+    let mut juniors = [0u64; 64];
+    let all = image::read::read(image, &mut assigned, &mut granted, &mut juniors);
+    let c = all.checked;
+    let Checked::Accepted(head) = c else {
+        return first::refusal_of(c);
+    };
+    let xs = all.exclusions;
+    show::show_session(
+        ledger,
+        head,
+        &assigned,
+        &granted,
+        &mut juniors,
+        xs,
+        user,
+        session,
+        answer,
+    )
 }
 
 // Asks for roles in the user's session: at least the lower permissions, none outside the upper, the best by both objectives.
