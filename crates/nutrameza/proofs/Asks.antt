@@ -4,7 +4,7 @@ use mathlib.Core.Path.{_≡_, refl, sym, ap, ap₂, subst, _∙_}
 use mathlib.Core.Bool.{Bool, true, false, not, _&&_, _||_}
 use mathlib.Core.Option.{Option, none, some}
 use mathlib.Core.List.{List, [], _∷_, _++_}
-use Prim.Native.Nat.{ℕ, zero, suc, _+_, _^_, _≤_}
+use Prim.Native.Nat.{ℕ, zero, suc, _+_, _^_}
 use native.Mathlib.Nat.{add-zero}
 use lib.Dec.{eqb, ltb, leb}
 use lib.ListN.{length}
@@ -21,7 +21,6 @@ use Rattle.model.specs.Choice.{carriedBy, choose}
 use Rattle.model.specs.Session.{Refusal, bad-line, bad-session, is-closed, bad-set, bad-permission, bad-bounds, bad-aim, bad-room, no-set, refuse, given, refusalNumber, canGive, applies, perform, asked, chosen, isNone, sessionOf, queryOf}
 use Rattle.model.specs.Session as rules
 use Rattle.model.specs.Run.{Call, Event, lineAt, withLine, stepOn, step, askBy, returned, filledWith, answered}
-use Rattle.model.proofs.Accepted.{accepted-head, accepted-in-range}
 use Rattle.model.proofs.LedgerLaws.{own-line}
 use Rattle.nutrameza.specs.Calls.{lineOf, firstRefusal}
 use Rattle.nutrameza.specs.Asks.{orElse, sessionRefusal, boundsRefusal, queryRefusal, askRefusal, askedOn, Answers}
@@ -175,10 +174,6 @@ answers-searched p ledger u k lower upper a b room lo hi n after before answer r
     ∙ sym (ask-searched 4 p ledger u k lower upper a b room r)) g
 
 -- ---- by an image
-
--- an accepted image has at most 64 roles
-pub accepted-roles : (s : List ℕ) (h : Head) → judge s ≡ Accepted h → h .roles ≤ 64
-accepted-roles s h e = subst (λ (x : Head). x .roles ≤ 64) (accepted-head s h e) (accepted-in-range s h e .roles .1)
 
 module _ (W : ℕ) (s ledger : List ℕ) (c : Call) where
   -- a refused image ends the call there

@@ -5,7 +5,6 @@ pub mod Closes
 pub mod Filled
 pub mod Shown
 pub mod Images
-pub mod Filled
 pub mod PermissionSets
 pub mod Requests
 pub mod Asks

@@ -6,16 +6,13 @@ use mathlib.Core.Option.{none, some}
 use mathlib.Core.List.{List, [], _∷_, map}
 use Prim.Native.Nat.{ℕ, zero, suc, _^_, _<_}
 use native.Mathlib.Omega.{arith}
-use lib.ListN.{length, getD, length-set}
+use lib.ListN.{length, getD}
 use Rattle.model.specs.declared.Exclusions.{Exclusions}
 use Rattle.model.specs.declared.Head.{Head}
 use Rattle.model.specs.declared.Line.{Line}
 use Rattle.model.specs.Tests.{pick}
 use Rattle.model.specs.Sets.{within, unionAt}
-use Rattle.model.specs.declared.Entry.{Entry}
-use Rattle.model.specs.declared.Entry.the-variants.{Assignment, Grant, Senior, Exclude, Member, End, Unknown}
-use Rattle.model.specs.Image.{emptyRows}
-use Rattle.model.specs.Policy.{Policy, policyOf, entriesOf, fold, ordering, authorized, meaning, closed, selfAndJuniors, reached, carriedTable}
+use Rattle.model.specs.Policy.{Policy, authorized, meaning, closed, selfAndJuniors, reached, carriedTable}
 use Rattle.model.specs.Line.{exclusionsMet}
 use Rattle.model.specs.Choice.{admissible, choose}
 use Rattle.model.proofs.Bools.{and-l}
@@ -117,23 +114,3 @@ module _ (p : Policy) (u : ℕ) (ledger : List ℕ) (l : Line) (f : l ≡ lineOf
   pub chosen-some : (s : ℕ) → o ≡ Roles s → some s ≡ choose (meaning p u) (lineOf 4 ledger u) k lower upper a b
   unfolding answered
   chosen-some s g = ap answered (sym g) ∙ e ∙ ap (λ (x : Line). choose (meaning p u) x k lower upper a b) f
-
--- ---- the juniors' table has a row for each of 64 roles
-length-ordering : (rows : List ℕ) (e : Entry) → length (ordering rows e) ≡ length rows
-unfolding ordering
-length-ordering rows (Assignment u r) = refl
-length-ordering rows (Grant r p) = refl
-length-ordering rows (Senior a b) = length-set rows (a .0) _
-length-ordering rows (Exclude x m) = refl
-length-ordering rows (Member r) = refl
-length-ordering rows End = refl
-length-ordering rows Unknown = refl
-
-length-fold : (es : List Entry) (rows : List ℕ) → length (fold ordering rows es) ≡ length rows
-unfolding fold
-length-fold [] rows = refl
-length-fold (e ∷ es) rows = length-fold es (ordering rows e) ∙ length-ordering rows e
-
-pub length-juniors : (s rows : List ℕ) → rows ≡ policyOf s .juniors → length rows ≡ 64
-unfolding policyOf emptyRows
-length-juniors s rows e = ap length e ∙ length-fold (entriesOf s) emptyRows

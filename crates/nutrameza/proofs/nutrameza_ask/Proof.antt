@@ -6,9 +6,8 @@ use borrow.Author.Needs.{needs}
 use Rattle.model.specs.Image.{checkNumber}
 use Rattle.model.specs.Policy.{policyOf}
 use Rattle.model.specs.Run.{askBy}
-use Rattle.nutrameza.proofs.Images.{fresh, accepted-users, known-of}
-use Rattle.nutrameza.proofs.Asks.{accepted-roles, answers-judged, answers-accepted}
-use Rattle.nutrameza.proofs.Rows.{length-juniors}
+use Rattle.nutrameza.proofs.Images.{fresh, accepted-users, accepted-roles, length-juniors, known-of}
+use Rattle.nutrameza.proofs.Asks.{answers-judged, answers-accepted}
 use Rattle.nutrameza.proofs.nutrameza_ask.Statement.{statement}
 use Rattle.nutrameza.proofs.nutrameza_ask.Tie as tie
 
@@ -29,7 +28,7 @@ ask-roles-requires c κs =
     let g = c .before .before .before .before .before .before .before .c .given .1 in
     let k = c .before .before .before .before .before .before .before .before .before .read .ensures in
     let j = sym (k .0) ∙ g in
-    (accepted-users _ _ j, accepted-roles _ _ j, k .1 _ g .few, length-juniors _ _ (k .1 _ g .juniors-is))
+    (accepted-users _ _ j, accepted-roles _ _ j, k .1 _ g .few, ap length (k .1 _ g .juniors-is) ∙ length-juniors _)
 
 returns-2 : tie.Need-returns-2
 returns-2 c =
