@@ -42,6 +42,9 @@ returns-2 c p g =
     ∙ ap (λ (x : Line). withLine (lineSize 4) (a .u) (writeLine x) (a .ledger .now)) (c .before .before .before .before .before .before .before .before .before .before .put-in .ensures ∙ ap (putIn (a .k) _) l))
     (c .before .before .fill .ensures)
 
+fill-requires : tie.Need-fill-requires
+fill-requires c κs = c .before .before .before .before .before .before .before .before .before .before .before .before .before .before .before .before .before .before .before .pre .5
+
 pub put-best-spec : {M : Type 1} → statement M
 put-best-spec =
     tie.close
@@ -56,7 +59,7 @@ put-best-spec =
     (λ c κs. search needs)
     (λ c κs. search needs)
     (λ c κs. search needs)
-    (λ c κs. search needs)
+    fill-requires
     (λ c. search needs)
     (λ c. search needs)
     returns-2)
