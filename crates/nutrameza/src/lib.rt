@@ -20,11 +20,12 @@ use model::Checked;
 pub extern "C" fn nutrameza_check(image: &[u8]) -> u64
     ensures { λ r. ⌜ r ≡ checkNumber (judge (now (image .entry))) ⌝ }
 {
-    let c = image::check::check(image);
-    let Checked::Refused(number, place) = c else {
-        return 0;
-    };
-    (number as u64) + 256 * (place as u64)
+    let mut assigned = [0u64; 64];
+    let mut granted = [[0u64; 4]; 64];
+    let mut juniors = [0u64; 64];
+    let all = image::read::read(image, &mut assigned, &mut granted, &mut juniors);
+    let c = all.checked;
+    first::refusal_of(c)
 }
 
 // Opens the user's lowest closed session, and returns it as the extra.
