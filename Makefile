@@ -57,4 +57,4 @@ test:
 	bash .ci/run
 
 bench: $(library)
-	NUTRAMEZA_LIB='$(abspath $(NUTRAMEZA_LIB))' cargo run --release --offline --manifest-path bench/Cargo.toml
+	NUTRAMEZA_LIB='$(abspath $(NUTRAMEZA_LIB))' cargo run --release --offline --manifest-path bench/Cargo.toml --features asks
