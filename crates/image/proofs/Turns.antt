@@ -17,9 +17,7 @@ use Rattle.model.specs.declared.Checked.{Checked}
 use Rattle.model.specs.declared.Checked.the-variants.{Accepted, Refused}
 use Rattle.model.specs.Tests.{pick}
 use Rattle.model.specs.Image.{wordAt, decode, wrongKind, inRange, repeats, crowds, entryFault, sparing, fault, assigning, next, scan, balanced}
-use Rattle.model.specs.Policy.{granting, ordering}
 use Rattle.image.specs.Bounds.{Due}
-use Rattle.image.specs.Tables.{noting, Step}
 
 -- ---- a word without fault is due
 
@@ -62,36 +60,6 @@ unfolding entryFault crowds pick
 room h rows t x m spare n e z =
     leb-false 32 (t .exclusions)
     (none-of false (not (eqb spare 0)) (not (inRange h (Exclude x m))) (repeats t (Exclude x m)) (leb 32 (t .exclusions)) (sym e ∙ z) .1)
-
--- ---- one word, judged and taken in
-pub took : {h : Head} {t : Scan} {final : Bool} {place : ℕ} {w : Word} {a₀ g₀ j₀ p₀ : List ℕ} {n : ℕ} {a g j p : List ℕ} (e : Entry)
-    → w .entry ≡ e → wrongKind final (t .due) (w .entry) ≡ false → n ≡ sparing (w .spare) (entryFault h a₀ t e)
-    → (n ≡ 0 → a ≡ assigning a₀ e) → (n ≡ 0 → g ≡ granting g₀ e) → (n ≡ 0 → j ≡ ordering j₀ e) → (n ≡ 0 → p ≡ noting place (t .exclusions) p₀ e)
-    → Step h t final place w a₀ g₀ j₀ p₀ n a g j p
-unfolding fault pick
-took {h} {t} {final} {place} {w} {a₀} {g₀} {j₀} {p₀} e ee ek en fa fg fj fp =
-    record {
-      faulty =
-          en ∙ ap (λ (x : Entry). sparing (w .spare) (entryFault h a₀ t x)) (sym ee)
-          ∙ ap (λ (b : Bool). pick b 3 (sparing (w .spare) (entryFault h a₀ t (w .entry)))) (sym ek);
-      assigned-is = λ z. fa z ∙ ap (assigning a₀) (sym ee);
-      granted-is = λ z. fg z ∙ ap (granting g₀) (sym ee);
-      juniors-is = λ z. fj z ∙ ap (ordering j₀) (sym ee);
-      places-is = λ z. fp z ∙ ap (noting place (t .exclusions) p₀) (sym ee);
-    }
-
--- a word of the wrong kind
-pub mistook : {h : Head} {t : Scan} {final : Bool} {place : ℕ} {w : Word} {a₀ g₀ j₀ p₀ : List ℕ} {a g j p : List ℕ}
-    → wrongKind final (t .due) (w .entry) ≡ true → Step h t final place w a₀ g₀ j₀ p₀ 3 a g j p
-unfolding fault pick
-mistook {h} {t} {final} {place} {w} {a₀} ek =
-    record {
-      faulty = ap (λ (b : Bool). pick b 3 (sparing (w .spare) (entryFault h a₀ t (w .entry)))) (sym ek);
-      assigned-is = λ z. absurd (omega arith);
-      granted-is = λ z. absurd (omega arith);
-      juniors-is = λ z. absurd (omega arith);
-      places-is = λ z. absurd (omega arith);
-    }
 
 -- ---- one turn
 

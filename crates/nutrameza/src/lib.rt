@@ -23,7 +23,7 @@ pub extern "C" fn nutrameza_check(image: &[u8]) -> u64
     let mut assigned = [0u64; 64];
     let mut granted = [[0u64; 4]; 64];
     let mut juniors = [0u64; 64];
-    let all = image::read::read(image, &mut assigned, &mut granted, &mut juniors);
+    let all = tables::read::read(image, &mut assigned, &mut granted, &mut juniors);
     let c = all.checked;
     first::refusal_of(c)
 }
@@ -37,7 +37,7 @@ pub extern "C" fn nutrameza_open(image: &[u8], ledger: &mut [u8], user: u64) -> 
     let mut assigned = [0u64; 64];
     let mut granted = [[0u64; 4]; 64];
     let mut juniors = [0u64; 64];
-    let all = image::read::read(image, &mut assigned, &mut granted, &mut juniors);
+    let all = tables::read::read(image, &mut assigned, &mut granted, &mut juniors);
     let c = all.checked;
     let Checked::Accepted(head) = c else {
         return first::refusal_of(c);
@@ -55,7 +55,7 @@ pub extern "C" fn nutrameza_close(image: &[u8], ledger: &mut [u8], user: u64, se
     let mut assigned = [0u64; 64];
     let mut granted = [[0u64; 4]; 64];
     let mut juniors = [0u64; 64];
-    let all = image::read::read(image, &mut assigned, &mut granted, &mut juniors);
+    let all = tables::read::read(image, &mut assigned, &mut granted, &mut juniors);
     let c = all.checked;
     let Checked::Accepted(head) = c else {
         return first::refusal_of(c);
@@ -80,7 +80,7 @@ pub extern "C" fn nutrameza_show(
     let mut assigned = [0u64; 64];
     let mut granted = [[0u64; 4]; 64];
     let mut juniors = [0u64; 64];
-    let all = image::read::read(image, &mut assigned, &mut granted, &mut juniors);
+    let all = tables::read::read(image, &mut assigned, &mut granted, &mut juniors);
     let c = all.checked;
     let Checked::Accepted(head) = c else {
         return first::refusal_of(c);
@@ -119,7 +119,7 @@ pub extern "C" fn nutrameza_ask(
     let mut assigned = [0u64; 64];
     let mut granted = [[0u64; 4]; 64];
     let mut juniors = [0u64; 64];
-    let all = image::read::read(image, &mut assigned, &mut granted, &mut juniors);
+    let all = tables::read::read(image, &mut assigned, &mut granted, &mut juniors);
     let c = all.checked;
     let Checked::Accepted(head) = c else {
         return first::refusal_of(c);
