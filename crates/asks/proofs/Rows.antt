@@ -21,9 +21,9 @@ use Rattle.model.proofs.UnionLaws.{has-below}
 use Rattle.model.proofs.Choices.{choice}
 use Rattle.model.proofs.SoundLaws.{sound-parts}
 use Rattle.sets.specs.Words.{values}
-use Rattle.image.specs.Carried.{rowsOf as joinedRows, carriedRows}
-use Rattle.image.proofs.Fills.{values-at}
-use Rattle.image.proofs.Closing.{length-closed, length-selves, getD-tableOf, wantedRow}
+use Rattle.tables.specs.Carried.{rowsOf as joinedRows, carriedRows}
+use Rattle.tables.proofs.Fills.{values-at}
+use Rattle.tables.proofs.Closing.{length-closed, length-selves, getD-tableOf, wantedRow}
 use Rattle.query.specs.Search.{rowsOf}
 use Rattle.query.specs.Rooms.{roomy}
 use Rattle.query.specs.Reduction.{Reduces}

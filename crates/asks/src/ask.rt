@@ -75,7 +75,7 @@ fn put_best(
         (choose (meaning p u) (lineOf 4 (now (ledger .entry)) u) k (value lower) (value upper) first second))
         r (now (ledger .exit)) (now (answer .entry)) (now (answer .exit))) ⌝ }
 {
-    let rows = image::tables::carried(granted, juniors, roles as usize, authorized);
+    let rows = tables::carried::carried(granted, juniors, roles as usize, authorized);
     let l = line_of(ledger, u);
     let choice = best(&rows, authorized, xs, l, k, lower, upper, first, second);
     let Choice::Roles(s) = choice else {

@@ -14,8 +14,8 @@ use Rattle.model.specs.Choice.{carriedBy}
 use Rattle.model.specs.Session.{given, bad-session, is-closed, bad-room, refusalNumber, canGive, applies, perform, sessionOf, queryOf}
 use Rattle.model.specs.Run.{Event, stepOn, showBy, returned, filledWith, answered}
 use Rattle.model.proofs.Inclusion.{within-refl}
-use Rattle.image.specs.Carried.{carriedRows}
-use Rattle.image.proofs.Closing.{wanted-carried}
+use Rattle.tables.specs.Carried.{carriedRows}
+use Rattle.tables.proofs.Closing.{wanted-carried}
 use Rattle.calls.specs.Calls.{lineOf, Shows}
 use Rattle.calls.proofs.FirstSteps.{Ready, shows-refusal, refuses, performs, holds, fails, ends}
 

@@ -8,13 +8,13 @@ ghost use Rattle.sets.specs.Words.{values};
 ghost use Rattle.calls.specs.Calls.{Known, Shows};
 use crate::answer::fill;
 use crate::first::first_refusal;
-use image::tables::carried;
-use image::tables::joined;
 use ledger::bytes::line_of;
 use ledger::change::is_open;
 use model::Exclusions;
 use model::Head;
 use model::SESSIONS;
+use tables::carried::carried;
+use tables::carried::joined;
 
 // The active roles of the user's session and the permissions that they carry fill the answer buffer. The juniors' table is closed in
 // place.

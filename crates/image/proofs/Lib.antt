@@ -1,7 +1,3 @@
 -- The laws that the proofs of the image's code use.
 pub mod Turns
 pub mod Judged
-pub mod Heads
-pub mod Fills
-pub mod Places
-pub mod Closing

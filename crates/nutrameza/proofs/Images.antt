@@ -15,7 +15,7 @@ use Rattle.model.specs.Run.{Call, Event, stepOn, stepBy, step, returned, filled
 use Rattle.model.proofs.Accepted.{accepted-head, accepted-in-range}
 use Rattle.model.proofs.Tables.{ordering-length}
 use Rattle.sets.specs.Words.{value, values}
-use Rattle.image.specs.Tables.{Fresh, Tables}
+use Rattle.tables.specs.Tables.{Fresh, Tables}
 use Rattle.calls.specs.Calls.{Known, Gives, Shows}
 use Rattle.asks.specs.Asks.{Answers}
 

@@ -21,12 +21,7 @@ fn refusal_of(c: Checked) -> u64
 pub extern "C" fn nutrameza_check(image: &[u8]) -> u64
     ensures { λ r. ⌜ r ≡ checkNumber (judge (now (image .entry))) ⌝ }
 {
-    let mut assigned = [0u64; 64];
-    let mut granted = [[0u64; 4]; 64];
-    let mut juniors = [0u64; 64];
-    let all = image::read::read(image, &mut assigned, &mut granted, &mut juniors);
-    let c = all.checked;
-    refusal_of(c)
+    refusal_of(image::check::check(image))
 }
 
 // Opens the user's lowest closed session, and returns it as the extra.
@@ -38,7 +33,7 @@ pub extern "C" fn nutrameza_open(image: &[u8], ledger: &mut [u8], user: u64) -> 
     let mut assigned = [0u64; 64];
     let mut granted = [[0u64; 4]; 64];
     let mut juniors = [0u64; 64];
-    let all = image::read::read(image, &mut assigned, &mut granted, &mut juniors);
+    let all = tables::read::read(image, &mut assigned, &mut granted, &mut juniors);
     let c = all.checked;
     let Checked::Accepted(head) = c else {
         return refusal_of(c);
@@ -56,7 +51,7 @@ pub extern "C" fn nutrameza_close(image: &[u8], ledger: &mut [u8], user: u64, se
     let mut assigned = [0u64; 64];
     let mut granted = [[0u64; 4]; 64];
     let mut juniors = [0u64; 64];
-    let all = image::read::read(image, &mut assigned, &mut granted, &mut juniors);
+    let all = tables::read::read(image, &mut assigned, &mut granted, &mut juniors);
     let c = all.checked;
     let Checked::Accepted(head) = c else {
         return refusal_of(c);
@@ -81,7 +76,7 @@ pub extern "C" fn nutrameza_show(
     let mut assigned = [0u64; 64];
     let mut granted = [[0u64; 4]; 64];
     let mut juniors = [0u64; 64];
-    let all = image::read::read(image, &mut assigned, &mut granted, &mut juniors);
+    let all = tables::read::read(image, &mut assigned, &mut granted, &mut juniors);
     let c = all.checked;
     let Checked::Accepted(head) = c else {
         return refusal_of(c);
@@ -120,7 +115,7 @@ pub extern "C" fn nutrameza_ask(
     let mut assigned = [0u64; 64];
     let mut granted = [[0u64; 4]; 64];
     let mut juniors = [0u64; 64];
-    let all = image::read::read(image, &mut assigned, &mut granted, &mut juniors);
+    let all = tables::read::read(image, &mut assigned, &mut granted, &mut juniors);
     let c = all.checked;
     let Checked::Accepted(head) = c else {
         return refusal_of(c);

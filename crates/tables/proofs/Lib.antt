@@ -1,0 +1,5 @@
+-- The laws that the proofs of the tables' code use.
+pub mod Steps
+pub mod Fills
+pub mod Places
+pub mod Closing

@@ -1,0 +1,13 @@
+-- `tables::exclusions::nothing` meets its contract.
+-- Assumes nothing.
+use mathlib.Core.Path.{refl}
+use Rattle.tables.specs.Tables.{nothing}
+use Rattle.tables.proofs.exclusions.nothing.Statement.{statement}
+use Rattle.tables.proofs.exclusions.nothing.Tie as tie
+
+returns : tie.Need-returns
+unfolding nothing
+returns c = refl
+
+pub nothing-spec : {M : Type 1} → statement M
+nothing-spec = tie.close (tie.spec returns)

@@ -1,0 +1,159 @@
+-- `tables::read::read_words` meets its contract. The loop's invariant: the scan, and each table's fold, of the rest from
+-- this state is that of the whole, and the places so far with those of the rest are those of the whole.
+-- Assumes nothing.
+use mathlib.Core.Path.{_≡_, refl, sym, ap, subst, _∙_}
+use mathlib.Core.List.{List, _++_, map}
+use Prim.Native.Nat.{ℕ, _≤_, _<_, _-_}
+use native.Mathlib.Omega.{arith}
+use lib.ListN.{length, getD, take}
+use borrow.Author.Needs.{needs}
+use Rattle.sets.specs.Words.{values}
+use Rattle.model.specs.declared.Scan.{Scan}
+use Rattle.model.specs.Image.{assigning, scan, start}
+use Rattle.model.specs.Policy.{entriesFrom, fold, granting, ordering}
+use Rattle.tables.specs.Tables.{exclusionAt}
+use Rattle.image.proofs.Turns.{due-of, stops, goes, ends, sum-right, sum-wrong}
+use Rattle.image.proofs.Judged.{never}
+use Rattle.tables.proofs.Fills.{fold-next, fold-end}
+use Rattle.tables.proofs.Places.{placesFrom, exclusions-placed, places-next, places-end, length-noted, noted-below, none-noted, next-few}
+use Rattle.tables.proofs.read.read_words.Statement.{statement}
+use Rattle.tables.proofs.read.read_words.Tie as tie
+
+abbrev Inv-loop : tie.InvT-loop
+Inv-loop image words h first assigned₀ granted₀ juniors₀ places₀ t₀ sum₀ place₀ assigned granted juniors places t sum place =
+    (1 ≤ place) × (place ≤ words) × (scan image h (words - place) place assigned t sum ≡ scan image h (words - 1) 1 assigned₀ start first)
+    × (t .exclusions ≤ 32) × (length places ≡ 32) × ((j : ℕ) → getD places j 0 < words)
+    × (fold assigning assigned (entriesFrom image (words - place) place) ≡ fold assigning assigned₀ (entriesFrom image (words - 1) 1))
+    × (fold granting (values granted) (entriesFrom image (words - place) place) ≡ fold granting (values granted₀) (entriesFrom image (words - 1) 1))
+    × (fold ordering juniors (entriesFrom image (words - place) place) ≡ fold ordering juniors₀ (entriesFrom image (words - 1) 1))
+    × (take (t .exclusions) places ++ placesFrom image (words - place) place ≡ placesFrom image (words - 1) 1)
+
+abbrev μ-loop : tie.MeasureT-loop
+μ-loop image words h first assigned₀ granted₀ juniors₀ places₀ t₀ sum₀ place₀ assigned granted juniors places t sum place = words - place
+
+loop-holds : tie.Need-loop-holds Inv-loop μ-loop
+unfolding start
+loop-holds c = (omega arith, omega arith, refl, omega arith, refl, none-noted 32 (c .before .args .words) (c .before .pre .1), refl, refl, refl, refl)
+
+returns : tie.Need-returns Inv-loop μ-loop
+returns c =
+    let f = c .before .before in
+    let d = f .before .before .before .before .before in
+    let w = d .before in
+    let l = w .before .before in
+    let a = l .before .before .args in (
+      c .refused .ensures
+          ∙ stops (a .image .now) (a .h) (a .words) (l .loop .place) (l .loop .assigned) (l .loop .t) (l .loop .sum) (w .word-at .result) (d .decode .result) (f .step .result)
+          (w .before .loop-test .taken) (w .word-at .ensures) (d .decode .ensures .0) (f .step .ensures .faulty) (c .before .if1 .taken)
+          ∙ l .loop .inv .2,
+      λ g e. never _ _ g (sym (c .refused .ensures) ∙ e),
+    )
+
+next-requires : tie.Need-next-requires Inv-loop μ-loop
+next-requires c κs =
+    let f = c .before in
+    let d = f .before .before .before .before .before in
+    let l = d .before .before .before in
+    (d .decode .ensures .1, due-of (l .before .before .args .h) (l .loop .assigned) (l .loop .t) _ (d .decode .result) (f .step .result) (f .step .ensures .faulty) (c .if1 .left))
+
+loop-again : tie.Need-loop-again Inv-loop μ-loop
+loop-again c =
+    let f = c .before .before .before in
+    let d = f .before .before .before .before .before in
+    let w = d .before in
+    let l = w .before .before in
+    let a = l .before .before .args in
+    let e = d .decode .result .entry in
+    let z = c .before .before .if1 .left in
+    let lt = w .before .loop-test .taken in
+    let due = due-of (a .h) (l .loop .assigned) (l .loop .t) _ (d .decode .result) (f .step .result) (f .step .ensures .faulty) z in
+    let noted = f .step .ensures .places-is z in (
+      omega (arith, l .loop .inv .0),
+      omega (arith, lt),
+      goes (a .image .now) (a .h) (a .words) (l .loop .place) (l .loop .assigned) (l .loop .t) (l .loop .sum) (w .word-at .result) (d .decode .result) (f .step .result)
+          lt (w .word-at .ensures) (d .decode .ensures .0) (f .step .ensures .faulty) z
+          _ _ _ (f .step .ensures .assigned-is z) (c .before .next .ensures) (c .wrapping-add-u32 .ensures)
+          ∙ l .loop .inv .2,
+      subst (λ (x : Scan). x .exclusions ≤ 32) (sym (c .before .next .ensures)) (next-few (l .loop .t) e due (l .loop .inv .3)),
+      ap length noted ∙ length-noted (l .loop .place) (l .loop .t .exclusions) (l .loop .places) e ∙ l .loop .inv .4,
+      λ j. subst (λ (v : List ℕ). getD v j 0 < a .words) (sym noted)
+          (noted-below (a .words) (l .loop .place) (l .loop .t .exclusions) (l .loop .places) e lt (l .loop .inv .5) j),
+      fold-next assigning (a .image .now) (a .words) (l .loop .place) (l .loop .assigned) (w .word-at .result) (d .decode .result) _ lt (w .word-at .ensures)
+          (d .decode .ensures .0) (f .step .ensures .assigned-is z)
+          ∙ l .loop .inv .6,
+      fold-next granting (a .image .now) (a .words) (l .loop .place) (values (l .loop .granted)) (w .word-at .result) (d .decode .result) _ lt (w .word-at .ensures)
+          (d .decode .ensures .0) (f .step .ensures .granted-is z)
+          ∙ l .loop .inv .7,
+      fold-next ordering (a .image .now) (a .words) (l .loop .place) (l .loop .juniors) (w .word-at .result) (d .decode .result) _ lt (w .word-at .ensures)
+          (d .decode .ensures .0) (f .step .ensures .juniors-is z)
+          ∙ l .loop .inv .8,
+      places-next (a .image .now) (a .words) (l .loop .place) (l .loop .t) (l .loop .places) (w .word-at .result) (d .decode .result) _ _ lt (l .loop .inv .4)
+          (w .word-at .ensures) (d .decode .ensures .0) due (c .before .next .ensures) noted
+          ∙ l .loop .inv .9,
+    )
+
+returns-2 : tie.Need-returns-2 Inv-loop μ-loop
+returns-2 c =
+    let l = c .before .before .before in
+    let a = l .before .before .args in (
+      c .refused2 .ensures
+          ∙ sym (ends (a .image .now) (a .h) (a .words) (l .loop .place) (l .loop .assigned) (l .loop .t) (l .loop .sum) (c .before .before .loop-test .left) (l .loop .inv .1)
+          ∙ sum-wrong (a .h) (a .words) (l .loop .sum) (c .before .if2 .taken))
+          ∙ l .loop .inv .2,
+      λ g e. never _ _ g (sym (c .refused2 .ensures) ∙ e),
+    )
+
+exclusions-at-requires : tie.Need-exclusions-at-requires Inv-loop μ-loop
+exclusions-at-requires c κs =
+    let l = c .before .before .before .before in
+    let a = l .before .before in
+    (a .pre .0, a .pre .2, l .loop .inv .3, l .loop .inv .4, l .loop .inv .5)
+
+returns-3 : tie.Need-returns-3 Inv-loop μ-loop
+returns-3 c =
+    let x = c .exclusions-at in
+    let l = c .before .before .before .before .before in
+    let a = l .before .before .args in
+    let n = c .before .before .before .before .loop-test .left in
+    let one = l .before .before .pre .1 in (
+      sym (ends (a .image .now) (a .h) (a .words) (l .loop .place) (l .loop .assigned) (l .loop .t) (l .loop .sum) n (l .loop .inv .1)
+          ∙ sum-right (a .h) (a .words) (l .loop .sum) (c .before .before .before .if2 .left))
+          ∙ l .loop .inv .2,
+      λ g e. record {
+        assigned-is = fold-end assigning (a .image .now) (a .words) (l .loop .place) (l .loop .assigned) n ∙ l .loop .inv .6;
+        granted-is = fold-end granting (a .image .now) (a .words) (l .loop .place) (values (l .loop .granted)) n ∙ l .loop .inv .7;
+        juniors-is = fold-end ordering (a .image .now) (a .words) (l .loop .place) (l .loop .juniors) n ∙ l .loop .inv .8;
+        exclusions-are =
+            x .ensures .0
+            ∙ ap (map (exclusionAt (a .image .now) (a .words))) (places-end (a .image .now) (a .words) (l .loop .place) (l .loop .t) (l .loop .places) n ∙ l .loop .inv .9)
+            ∙ sym (exclusions-placed (a .image .now) (a .words) (a .words - 1) 1 (omega (arith, one)));
+        few = omega (arith, x .ensures .1, l .loop .inv .3);
+      },
+    )
+
+pub read-words-spec : {M : Type 1} → statement M
+read-words-spec =
+    tie.close
+    (tie.spec
+    Inv-loop
+    μ-loop
+    loop-holds
+    (λ c κs. search needs)
+    (λ c κs. search needs)
+    (λ c. search needs)
+    (λ c κs. search needs)
+    (λ c. search needs)
+    (λ c κs. search needs)
+    returns
+    next-requires
+    (λ c κs. search needs)
+    (λ c. search needs)
+    (λ c. search needs)
+    loop-again
+    (λ c. search needs)
+    (λ c. search needs)
+    (λ c κs. search needs)
+    returns-2
+    (λ c. search needs)
+    exclusions-at-requires
+    returns-3)

@@ -1,0 +1,3 @@
+-- What the contracts of the tables' code say, beside the model's definitions.
+pub mod Tables
+pub mod Carried

@@ -1,0 +1,4 @@
+// The tables of an accepted policy image: filled in the pass that judges it, and what roles carry by them.
+pub mod carried; // carried.rt: seniority closed, and what roles carry
+pub mod exclusions; // exclusions.rt: the exclusions at the places of their words
+pub mod read; // read.rt: one pass that judges an image and fills its tables

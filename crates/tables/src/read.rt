@@ -1,0 +1,227 @@
+// One pass over an image that judges it and fills the tables of its policy on the way.
+ghost use mathlib.Core.Path.{_≡_};
+ghost use mathlib.Core.List.{List};
+ghost use Prim.Native.Nat.{ℕ, _+_, _-_, _*_, _≤_, _<_};
+ghost use lib.ListN.{length};
+ghost use Rattle.model.specs.declared.Head.{Head as HeadOf};
+ghost use Rattle.model.specs.Image.{sparing, entryFault, assigning, scan, start, judge};
+ghost use Rattle.model.specs.Policy.{granting, ordering, policyOf};
+ghost use Rattle.sets.specs.Words.{values};
+ghost use Rattle.image.specs.Bounds.{Small};
+ghost use Rattle.tables.specs.Tables.{noting, Step, Fresh, Gathered, Tables};
+use crate::exclusions::exclusions_at;
+use image::check::exclusion_fault;
+use image::check::grant_fault;
+use image::check::member_fault;
+use image::check::next;
+use image::check::senior_fault;
+use image::check::spared;
+use image::check::take_assignment;
+use image::check::wrong_kind;
+use image::word::decode;
+use image::word::head_of;
+use image::word::head_right;
+use model::Checked;
+use model::Entry;
+use model::Exclusion;
+use model::Exclusions;
+use model::Head;
+use model::Kind;
+use model::Permission;
+use model::Role;
+use model::Scan;
+use model::Word;
+
+// What a pass over an image answers: the judgement and, of an accepted image, the exclusions.
+pub struct Reading {
+    pub checked: Checked,
+    pub exclusions: Exclusions,
+}
+
+// ---- a word judged and, where it has no fault, taken in
+
+fn take_grant(h: Head, granted: &mut [[u64; 4]; 64], spare: u32, r: Role, p: Permission) -> u8
+    requires { ⌜ r .0 < 64 ⌝ }
+    ensures { λ n. ⌜ ((rows : List ℕ) (t : Scan) → n ≡ sparing spare (entryFault h rows t (Entry.Grant r p)))
+        × (n ≡ 0 → values (now (granted .exit)) ≡ granting (values (now (granted .entry))) (Entry.Grant r p)) ⌝ }
+{
+    let n = spared(spare, grant_fault(h, r, p));
+    if n != 0 {
+        return n;
+    }
+    let who = r.0 as usize;
+    let row = sets::perm_with(granted[who], p);
+    granted[who] = row;
+    n
+}
+
+fn take_senior(h: Head, juniors: &mut [u64; 64], spare: u32, a: Role, b: Role) -> u8
+    requires { ⌜ (a .0 < 64) × (b .0 < 64) ⌝ }
+    ensures { λ n. ⌜ ((rows : List ℕ) (t : Scan) → n ≡ sparing spare (entryFault h rows t (Entry.Senior a b)))
+        × (n ≡ 0 → now (juniors .exit) ≡ ordering (now (juniors .entry)) (Entry.Senior a b)) ⌝ }
+{
+    let n = spared(spare, senior_fault(h, a, b));
+    if n != 0 {
+        return n;
+    }
+    let who = a.0 as usize;
+    let row = sets::with(juniors[who], b);
+    juniors[who] = row;
+    n
+}
+
+// An exclusion's place is noted; its members are read later.
+fn take_exclusion(
+    h: Head,
+    places: &mut [usize; 32],
+    spare: u32,
+    t: Scan,
+    x: Exclusion,
+    m: u8,
+    place: usize,
+) -> u8
+    ensures { λ n. ⌜ ((rows : List ℕ) → n ≡ sparing spare (entryFault h rows t (Entry.Exclude x m)))
+        × (n ≡ 0 → now (places .exit) ≡ noting place (t .exclusions) (now (places .entry)) (Entry.Exclude x m)) ⌝ }
+{
+    let n = spared(spare, exclusion_fault(h, t, x, m));
+    if n != 0 {
+        return n;
+    }
+    let i = t.exclusions as usize;
+    places[i] = place;
+    n
+}
+
+// One match a word: each arm judges and stores.
+fn step(
+    h: Head,
+    assigned: &mut [u64; 64],
+    granted: &mut [[u64; 4]; 64],
+    juniors: &mut [u64; 64],
+    places: &mut [usize; 32],
+    t: Scan,
+    last: bool,
+    place: usize,
+    w: Word,
+) -> u8
+    requires { ⌜ Small (w .entry) ⌝ }
+    ensures { λ n. ⌜ Step h t last place w (now (assigned .entry)) (values (now (granted .entry))) (now (juniors .entry)) (now (places .entry)) n
+        (now (assigned .exit)) (values (now (granted .exit))) (now (juniors .exit)) (now (places .exit)) ⌝ }
+{
+    let e = w.entry;
+    let spare = w.spare;
+    if wrong_kind(last, t.due, e) {
+        return 3;
+    }
+    match e {
+        Entry::Assignment(u, r) => take_assignment(h, assigned, spare, u, r),
+        Entry::Grant(r, p) => take_grant(h, granted, spare, r, p),
+        Entry::Senior(a, b) => take_senior(h, juniors, spare, a, b),
+        Entry::Exclude(x, m) => take_exclusion(h, places, spare, t, x, m, place),
+        Entry::Member(r) => spared(spare, member_fault(h, t, r)),
+        Entry::End => spared(spare, 0),
+        Entry::Unknown => spared(spare, 0),
+    }
+}
+
+// ---- the words behind the head, and the whole
+
+// A refusal, with no exclusion.
+fn refused(number: u8, place: u16) -> Reading
+    ensures { λ r. ⌜ r .checked ≡ Checked.Refused number place ⌝ }
+{
+    Reading {
+        checked: Checked::Refused(number, place),
+        exclusions: Exclusions {
+            list: [Exclusion {
+                kind: Kind::SsDmer,
+                limit: 0,
+                members: 0,
+            }; 32],
+            count: 0,
+        },
+    }
+}
+
+fn read_words(
+    image: &[u8],
+    words: usize,
+    h: Head,
+    first: u32,
+    assigned: &mut [u64; 64],
+    granted: &mut [[u64; 4]; 64],
+    juniors: &mut [u64; 64],
+) -> Reading
+    requires { ⌜ (4 * words ≤ length (now image)) × (1 ≤ words) × (words ≤ 4096) ⌝ }
+    ensures { λ r. ⌜ (r .checked ≡ scan (now (image .entry)) h (words - 1) 1 (now (assigned .entry)) start first)
+        × ((g : HeadOf) → r .checked ≡ Checked.Accepted g
+        → Gathered (now (image .entry)) (words - 1) (now (assigned .entry)) (values (now (granted .entry))) (now (juniors .entry))
+        (now (assigned .exit)) (values (now (granted .exit))) (now (juniors .exit)) (r .exclusions)) ⌝ }
+{
+    let mut places = [0usize; 32];
+    let mut t = Scan {
+        exclusions: 0,
+        due: 0,
+        members: 0,
+    };
+    let mut sum = first;
+    for place in 1..words {
+        let w = octets::word_at(image, place);
+        let word = decode(w);
+        let number = step(
+            h,
+            assigned,
+            granted,
+            juniors,
+            &mut places,
+            t,
+            place + 1 == words,
+            place,
+            word,
+        );
+        if number != 0 {
+            return refused(number, place as u16);
+        }
+        let e = word.entry;
+        t = next(t, e);
+        sum = std::num::wrapping_add_u32(sum, w);
+    }
+    if sum % 268435456 != 0 {
+        return refused(8, (words - 1) as u16);
+    }
+    let exclusions = exclusions_at(image, words, &places, t.exclusions as usize);
+    Reading {
+        checked: Checked::Accepted(h),
+        exclusions,
+    }
+}
+
+// Judges an image and, where it is accepted, leaves in the tables the roles assigned to each user, the permissions granted to each role
+// and the direct juniors of each role.
+pub fn read(
+    image: &[u8],
+    assigned: &mut [u64; 64],
+    granted: &mut [[u64; 4]; 64],
+    juniors: &mut [u64; 64],
+) -> Reading
+    requires { ⌜ Fresh (now assigned) (values (now granted)) (now juniors) ⌝ }
+    ensures { λ r. ⌜ (r .checked ≡ judge (now (image .entry)))
+        × ((g : HeadOf) → r .checked ≡ Checked.Accepted g
+        → Tables (policyOf (now (image .entry))) (now (assigned .exit)) (values (now (granted .exit))) (now (juniors .exit)) (r .exclusions)) ⌝ }
+{
+    let len = image.len();
+    if len % 4 != 0 {
+        return refused(1, 0);
+    }
+    if len < 8 {
+        return refused(1, 0);
+    }
+    if 16384 < len {
+        return refused(1, 0);
+    }
+    let w = octets::word_at(image, 0);
+    if head_right(w) {
+        return read_words(image, len / 4, head_of(w), w, assigned, granted, juniors);
+    }
+    refused(2, 0)
+}
