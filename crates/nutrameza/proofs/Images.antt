@@ -11,13 +11,13 @@ use Rattle.model.specs.declared.Checked.the-variants.{Accepted, Refused}
 use Rattle.model.specs.Image.{emptyRows, judge, checkNumber}
 use Rattle.model.specs.Policy.{entriesOf, fold, ordering, policyOf}
 use Rattle.model.specs.Session.{refuse}
-use Rattle.model.specs.Run.{Call, Event, stepOn, step, returned, filledWith, answered}
+use Rattle.model.specs.Run.{Call, Event, stepOn, stepBy, step, returned, filledWith, answered}
 use Rattle.model.proofs.Accepted.{accepted-head, accepted-in-range}
 use Rattle.model.proofs.Tables.{ordering-length}
 use Rattle.sets.specs.Words.{value, values}
 use Rattle.tables.specs.Tables.{Fresh, Tables}
-use Rattle.nutrameza.specs.Calls.{Known, Gives, Shows}
-use Rattle.nutrameza.proofs.FirstSteps.{step-accepted, step-refused}
+use Rattle.calls.specs.Calls.{Known, Gives, Shows}
+use Rattle.asks.specs.Asks.{Answers}
 
 -- tables of zeros are fresh
 pub fresh : Fresh (replicate 64 0) (values (replicate 64 (replicate 4 0))) (replicate 64 0)
@@ -49,25 +49,51 @@ known-of s h assigned granted juniors xs e t =
     record { head-is = accepted-head s h e; assigned-is = t .assigned-is; exclusions-are = t .exclusions-are }
 
 module _ (W : ℕ) (s ledger : List ℕ) (c : Call) where
+  -- a call goes by the policy of an accepted image
+  step-accepted : (h : Head) → judge s ≡ Accepted h → step W s ledger c ≡ stepOn W (policyOf s) ledger c
+  unfolding step stepBy
+  step-accepted h e = rw e
+
+  -- and is refused as the image is
+  step-refused : (n place : ℕ) → judge s ≡ Refused n place → step W s ledger c ≡ record { reply = refuse n place; ledger = ledger }
+  unfolding step stepBy
+  step-refused n place e = rw e
+
   -- a refused image ends the call there
   pub gives-judged : (n place r : ℕ) → judge s ≡ Refused n place → r ≡ checkNumber (Refused n place) → Gives (step W s ledger c) r ledger
   unfolding checkNumber returned refuse
   gives-judged n place r e q =
-      let h = step-refused W s ledger c n place e in
+      let h = step-refused n place e in
       record { number = q ∙ sym (ap (λ (x : Event). returned (x .reply)) h); bytes = sym (ap (λ (x : Event). x .ledger) h) }
 
   pub shows-judged : (n place r : ℕ) (room : List ℕ) → judge s ≡ Refused n place → r ≡ checkNumber (Refused n place)
       → Shows (step W s ledger c) r room room
   unfolding checkNumber returned refuse answered filledWith
   shows-judged n place r room e q =
-      let h = step-refused W s ledger c n place e in
+      let h = step-refused n place e in
       record { number = q ∙ sym (ap (λ (x : Event). returned (x .reply)) h); buffer = sym (ap (λ (x : Event). answered room (x .reply)) h) }
+
+  pub answers-judged : (n place r : ℕ) (room : List ℕ) → judge s ≡ Refused n place → r ≡ checkNumber (Refused n place)
+      → Answers (step W s ledger c) r ledger room room
+  unfolding checkNumber returned refuse answered filledWith
+  answers-judged n place r room e q =
+      let h = step-refused n place e in
+      record {
+        number = q ∙ sym (ap (λ (x : Event). returned (x .reply)) h);
+        bytes = sym (ap (λ (x : Event). x .ledger) h);
+        buffer = sym (ap (λ (x : Event). answered room (x .reply)) h);
+      }
 
   -- under an accepted one it goes by the policy
   pub gives-accepted : (h : Head) (n : ℕ) (after : List ℕ) → judge s ≡ Accepted h → Gives (stepOn W (policyOf s) ledger c) n after
       → Gives (step W s ledger c) n after
-  gives-accepted h n after e g = subst (λ (x : Event). Gives x n after) (sym (step-accepted W s ledger c h e)) g
+  gives-accepted h n after e g = subst (λ (x : Event). Gives x n after) (sym (step-accepted h e)) g
 
   pub shows-accepted : (h : Head) (n : ℕ) (room answer : List ℕ) → judge s ≡ Accepted h
       → Shows (stepOn W (policyOf s) ledger c) n room answer → Shows (step W s ledger c) n room answer
-  shows-accepted h n room answer e g = subst (λ (x : Event). Shows x n room answer) (sym (step-accepted W s ledger c h e)) g
+  shows-accepted h n room answer e g = subst (λ (x : Event). Shows x n room answer) (sym (step-accepted h e)) g
+
+  pub answers-accepted : (h : Head) (n : ℕ) (after room answer : List ℕ) → judge s ≡ Accepted h
+      → Answers (stepOn W (policyOf s) ledger c) n after room answer → Answers (step W s ledger c) n after room answer
+  answers-accepted h n after room answer e g =
+      subst (λ (x : Event). Answers x n after room answer) (sym (step-accepted h e)) g

@@ -1,19 +1,20 @@
 // The calls of the session kit, as a C host makes them: numbers are u64, a slice is a pointer and a length, and the answer is a number
 // plus 256 times an extra. No call requires anything of its arguments.
-pub mod answer; // answer.rt: the answer buffer filled
-pub mod ask; // ask.rt: roles asked for
-pub mod bounds; // bounds.rt: an ask's bounds as permission sets
-pub mod close; // close.rt: a session closed
-pub mod first; // first.rt: the refusals that every call on a line can give first
-pub mod open; // open.rt: a session opened
-pub mod request; // request.rt: the refusals that an ask can give before the search
-pub mod show; // show.rt: a session shown
-
 ghost use mathlib.Core.Path.{_≡_};
 ghost use lib.ListN.{length};
 ghost use Rattle.model.specs.Image.{judge, checkNumber};
 ghost use Rattle.model.specs.Run.{step, openBy, closeBy, showBy, askBy, shortAskBy, returned, answered};
 use model::Checked;
+
+// What a call returns under a refused image.
+fn refusal_of(c: Checked) -> u64
+    ensures { λ r. ⌜ r ≡ checkNumber c ⌝ }
+{
+    let Checked::Refused(number, place) = c else {
+        return 0;
+    };
+    (number as u64) + 256 * (place as u64)
+}
 
 // Judges an image: 0, or the refusal's number plus 256 times the place of the refused word.
 #[no_mangle]
@@ -25,7 +26,7 @@ pub extern "C" fn nutrameza_check(image: &[u8]) -> u64
     let mut juniors = [0u64; 64];
     let all = tables::read::read(image, &mut assigned, &mut granted, &mut juniors);
     let c = all.checked;
-    first::refusal_of(c)
+    refusal_of(c)
 }
 
 // Opens the user's lowest closed session, and returns it as the extra.
@@ -40,10 +41,10 @@ pub extern "C" fn nutrameza_open(image: &[u8], ledger: &mut [u8], user: u64) -> 
     let all = tables::read::read(image, &mut assigned, &mut granted, &mut juniors);
     let c = all.checked;
     let Checked::Accepted(head) = c else {
-        return first::refusal_of(c);
+        return refusal_of(c);
     };
     let xs = all.exclusions;
-    open::open_session(ledger, head, &assigned, xs, user)
+    calls::open::open_session(ledger, head, &assigned, xs, user)
 }
 
 // Closes the user's session.
@@ -58,10 +59,10 @@ pub extern "C" fn nutrameza_close(image: &[u8], ledger: &mut [u8], user: u64, se
     let all = tables::read::read(image, &mut assigned, &mut granted, &mut juniors);
     let c = all.checked;
     let Checked::Accepted(head) = c else {
-        return first::refusal_of(c);
+        return refusal_of(c);
     };
     let xs = all.exclusions;
-    close::close_session(ledger, head, &assigned, xs, user, session)
+    calls::close::close_session(ledger, head, &assigned, xs, user, session)
 }
 
 // Shows the active roles of the user's session and the permissions that they carry.
@@ -83,10 +84,10 @@ pub extern "C" fn nutrameza_show(
     let all = tables::read::read(image, &mut assigned, &mut granted, &mut juniors);
     let c = all.checked;
     let Checked::Accepted(head) = c else {
-        return first::refusal_of(c);
+        return refusal_of(c);
     };
     let xs = all.exclusions;
-    show::show_session(
+    calls::show::show_session(
         ledger,
         head,
         &assigned,
@@ -122,10 +123,10 @@ pub extern "C" fn nutrameza_ask(
     let all = tables::read::read(image, &mut assigned, &mut granted, &mut juniors);
     let c = all.checked;
     let Checked::Accepted(head) = c else {
-        return first::refusal_of(c);
+        return refusal_of(c);
     };
     let xs = all.exclusions;
-    ask::ask_roles(
+    asks::ask::ask_roles(
         ledger,
         head,
         &assigned,

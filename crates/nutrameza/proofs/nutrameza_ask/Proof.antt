@@ -6,8 +6,7 @@ use borrow.Author.Needs.{needs}
 use Rattle.model.specs.Image.{checkNumber}
 use Rattle.model.specs.Policy.{policyOf}
 use Rattle.model.specs.Run.{askBy}
-use Rattle.nutrameza.proofs.Images.{fresh, accepted-users, accepted-roles, length-juniors, known-of}
-use Rattle.nutrameza.proofs.Asks.{answers-judged, answers-accepted}
+use Rattle.nutrameza.proofs.Images.{fresh, accepted-users, accepted-roles, length-juniors, known-of, answers-judged, answers-accepted}
 use Rattle.nutrameza.proofs.nutrameza_ask.Statement.{statement}
 use Rattle.nutrameza.proofs.nutrameza_ask.Tie as tie
 

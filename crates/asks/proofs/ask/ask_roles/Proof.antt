@@ -1,0 +1,91 @@
+-- `asks::ask::ask_roles` meets its contract: refused before the search, or what the search puts in.
+-- Assumes nothing.
+use native.Mathlib.Omega.{arith}
+use borrow.Author.Needs.{needs}
+use Rattle.sets.specs.Words.{values}
+use Rattle.asks.proofs.Asks.{answers-refusal, ask-stopped, answers-searched}
+use Rattle.asks.proofs.Requests.{ask-for, ask-by, user-below, line-room, lower-32, upper-32, room-40, first-small, second-small}
+use Rattle.asks.proofs.Rows.{searched-of}
+use Rattle.asks.proofs.ask.ask_roles.Statement.{statement}
+use Rattle.asks.proofs.ask.ask_roles.Tie as tie
+
+returns : tie.Need-returns
+returns c p h g j =
+    let a = c .before .before .before .before .before .before .before .args in
+    answers-refusal _ _ _ _
+    (ask-stopped 4 p (a .ledger .now) (a .user) (a .session) (a .lower .now) (a .upper .now) (a .first) (a .second) _ _ (c .before .ask-refusal .ensures p h) (c .if1 .taken))
+
+roles-of-requires : tie.Need-roles-of-requires
+roles-of-requires c κs =
+    let a = c .before .before .before .before .before .before .before .args in
+    let b = user-below 4 (a .head) (a .assigned .now) (a .xs) (a .ledger .now) (a .user) (a .session) (a .lower .now) (a .upper .now) (a .first) (a .second) _ _
+    (c .before .ask-refusal .ensures) (c .if1 .left) in
+    omega (arith, b, c .before .before .before .before .before .before .before .pre .0)
+
+bound-requires : tie.Need-bound-requires
+bound-requires c κs =
+    let a = c .before .before .before .before .before .before .before .before .args in
+    lower-32 4 (a .head) (a .assigned .now) (a .xs) (a .ledger .now) (a .user) (a .session) (a .lower .now) (a .upper .now) (a .first) (a .second) _ _
+    (c .before .before .ask-refusal .ensures) (c .before .if1 .left)
+
+bound-requires-2 : tie.Need-bound-requires-2
+bound-requires-2 c κs =
+    let a = c .before .before .before .before .before .before .before .before .before .args in
+    upper-32 4 (a .head) (a .assigned .now) (a .xs) (a .ledger .now) (a .user) (a .session) (a .lower .now) (a .upper .now) (a .first) (a .second) _ _
+    (c .before .before .before .ask-refusal .ensures) (c .before .before .if1 .left)
+
+cast-first : tie.Need-cast-put-best
+cast-first c =
+    let a = c .before .before .before .before .before .before .before .before .before .before .before .before .args in
+    let b = first-small 4 (a .head) (a .assigned .now) (a .xs) (a .ledger .now) (a .user) (a .session) (a .lower .now) (a .upper .now) (a .first) (a .second) _ _
+    (c .before .before .before .before .before .before .ask-refusal .ensures) (c .before .before .before .before .before .if1 .left) in
+    omega (arith, b)
+
+cast-second : tie.Need-cast-put-best-2
+cast-second c =
+    let a = c .before .before .before .before .before .before .before .before .before .before .before .before .args in
+    let b = second-small 4 (a .head) (a .assigned .now) (a .xs) (a .ledger .now) (a .user) (a .session) (a .lower .now) (a .upper .now) (a .first) (a .second) _ _
+    (c .before .before .before .before .before .before .ask-refusal .ensures) (c .before .before .before .before .before .if1 .left) in
+    omega (arith, b)
+
+put-best-requires : tie.Need-put-best-requires
+put-best-requires c κs =
+    let s = c .before .before .before .before .before .before .before .before .before .before .before .before .before in
+    let a = s .args in (
+      s .pre .1,
+      s .pre .3,
+      s .pre .2,
+      line-room 4 (a .head) (a .assigned .now) (a .xs) (a .ledger .now) (a .user) (a .session) (a .lower .now) (a .upper .now) (a .first) (a .second) _ _
+          (c .before .before .before .before .before .before .before .ask-refusal .ensures) (c .before .before .before .before .before .before .if1 .left),
+      ask-by 4 (a .head) (a .assigned .now) (a .xs) (a .ledger .now) (a .user) (a .session) (a .lower .now) (a .upper .now) (a .first) (a .second) _ _
+          (c .before .before .before .before .before .before .before .ask-refusal .ensures) (c .before .before .before .before .before .before .if1 .left) .session .below,
+      room-40 4 (a .head) (a .assigned .now) (a .xs) (a .ledger .now) (a .user) (a .session) (a .lower .now) (a .upper .now) (a .first) (a .second) _ _
+          (c .before .before .before .before .before .before .before .ask-refusal .ensures) (c .before .before .before .before .before .before .if1 .left),
+    )
+
+returns-2 : tie.Need-returns-2
+returns-2 c p h g j =
+    let a = c .before .before .before .before .before .before .before .before .before .before .before .before .before .before .before .before .before .before .args in
+    let r = ask-for 4 (a .head) (a .assigned .now) (a .xs) (a .ledger .now) (a .user) (a .session) (a .lower .now) (a .upper .now) (a .first) (a .second) _ _
+    (c .before .before .before .before .before .before .before .before .before .before .before .before .ask-refusal .ensures) (c .before .before .before .before .before .before .before .before .before .before .before .if1 .left) p h in
+    answers-searched p (a .ledger .now) (a .user) (a .session) (a .lower .now) (a .upper .now) (a .first) (a .second) _ _ _ _ _ _ _ r
+    (c .before .before .before .before .before .before .before .before .before .bound .ensures) (c .before .before .before .before .before .before .before .before .bound2 .ensures)
+    (c .before .before .before .before .put-best .ensures p
+    (searched-of p (a .head) (a .assigned .now) (a .xs) (a .ledger .now) (values (a .granted .now)) (a .juniors .now) (a .user) _ h g j (c .before .before .before .before .before .before .before .before .before .before .roles-of .ensures) (r .first)))
+
+pub ask-roles-spec : {M : Type 1} → statement M
+ask-roles-spec =
+    tie.close
+    (tie.spec
+    (λ c κs. search needs)
+    (λ c. search needs)
+    returns
+    roles-of-requires
+    bound-requires
+    bound-requires-2
+    cast-first
+    cast-second
+    put-best-requires
+    (λ c. search needs)
+    (λ c. search needs)
+    returns-2)

@@ -1,0 +1,2 @@
+-- What the contracts of an ask's parts say, beside the model's definitions.
+pub mod Asks

@@ -1,0 +1,203 @@
+-- The first steps of a call: the refusals 9 to 11, which leave the ledger and the answer buffer alone.
+-- Assumes nothing.
+use mathlib.Core.Path.{_≡_, refl, sym, ap, _∙_}
+use mathlib.Core.Bool.{Bool, true, false, not}
+use mathlib.Core.Option.{none, some}
+use mathlib.Core.List.{List, [], _∷_}
+use Prim.Native.Nat.{ℕ, _+_, _*_, _≤_, _<_}
+use native.Mathlib.Nat.{add-zero}
+use native.Mathlib.Omega.{arith}
+use lib.Dec.{eqb, ltb}
+use lib.ListN.{length, getD}
+use borrow.Author.Tests.{eq-eqb, ne-eqb, lt-ltb, le-ltb, eqb-true, ltb-true}
+use Rattle.model.specs.declared.Head.{Head}
+use Rattle.model.specs.declared.Exclusions.{Exclusions}
+use Rattle.model.specs.Tests.{pick, all, first}
+use Rattle.model.specs.Policy.{Policy, Meaning, authorized, met, meaning}
+use Rattle.model.specs.Line.{lineSize, readLine, sound}
+use Rattle.model.specs.Session.{Operation, open-session, close-session, ask, short-ask, show, sessionOf, queryOf, refuse, Result, Refusal, bad-line, refusalNumber, canGive, applies, perform, unless, rule}
+use Rattle.model.specs.Run.{Call, Event, lineAt, withLine, ruled, stepOn, returned, filledWith, answered}
+use Rattle.model.proofs.LedgerLaws.{apart, own-line, step-below}
+use Rattle.ledger.specs.Held.{Held}
+use Rattle.calls.specs.Calls.{Known, policyBy, lineOf, firstRefusal, Gives, Shows}
+
+-- ---- a refusal, which leaves the ledger alone
+abbrev pub refusedBy : ℕ → List ℕ → Event
+refusedBy n ledger = record { reply = refuse n 0; ledger = ledger }
+
+pub gives-refusal : (e : Event) (n : ℕ) (ledger : List ℕ) → e ≡ refusedBy n ledger → Gives e n ledger
+unfolding returned refuse
+gives-refusal e n ledger h =
+    record { number = sym (ap (λ (x : Event). returned (x .reply)) h ∙ add-zero n); bytes = sym (ap (λ (x : Event). x .ledger) h) }
+
+pub shows-refusal : (e : Event) (n : ℕ) (ledger room : List ℕ) → e ≡ refusedBy n ledger → Shows e n room room
+unfolding returned refuse answered filledWith
+shows-refusal e n ledger room h =
+    record { number = sym (ap (λ (x : Event). returned (x .reply)) h ∙ add-zero n); buffer = sym (ap (λ (x : Event). answered room (x .reply)) h) }
+
+-- ---- 9, 10 and 11
+module _ (W : ℕ) (p : Policy) (ledger : List ℕ) (u : ℕ) where
+  pub first9 : (length ledger ≡ lineSize W * p .head .users → ⊥) → 9 ≡ firstRefusal W p ledger u
+  unfolding firstRefusal pick
+  first9 h = simp (ne-eqb _ _ h)
+
+  pub first10 : length ledger ≡ lineSize W * p .head .users → p .head .users ≤ u → 10 ≡ firstRefusal W p ledger u
+  unfolding firstRefusal pick
+  first10 h i = simp (eq-eqb _ _ h, le-ltb _ _ i)
+
+  pub first11 : length ledger ≡ lineSize W * p .head .users → u < p .head .users → sound W (meaning p u) (lineOf W ledger u) ≡ false
+      → 11 ≡ firstRefusal W p ledger u
+  unfolding firstRefusal pick
+  first11 h i s = simp (eq-eqb _ _ h, lt-ltb _ _ i, s)
+
+  pub first0 : length ledger ≡ lineSize W * p .head .users → u < p .head .users → sound W (meaning p u) (lineOf W ledger u) ≡ true
+      → 0 ≡ firstRefusal W p ledger u
+  unfolding firstRefusal pick
+  first0 h i s = simp (eq-eqb _ _ h, lt-ltb _ _ i, s)
+
+  -- a call that none of them refuses: the ledger fits, the user has a line, and it is sound
+  pub record Ready : Type 0 where
+    pub fits : length ledger ≡ lineSize W * p .head .users
+    pub below : u < p .head .users
+    pub sound-line : sound W (meaning p u) (lineOf W ledger u) ≡ true
+
+  pub ready : 0 ≡ firstRefusal W p ledger u → Ready
+  unfolding firstRefusal pick
+  ready h =
+      go (eqb (length ledger) (lineSize W * p .head .users)) refl (ltb u (p .head .users)) refl
+      (sound W (meaning p u) (lineOf W ledger u)) refl h
+    where
+      go : (a : Bool) → eqb (length ledger) (lineSize W * p .head .users) ≡ a → (b : Bool) → ltb u (p .head .users) ≡ b
+          → (c : Bool) → sound W (meaning p u) (lineOf W ledger u) ≡ c
+          → 0 ≡ pick {X = ℕ} (not a) 9 (pick {X = ℕ} (not b) 10 (pick {X = ℕ} (not c) 11 0)) → Ready
+      go true i true j true k h = record { fits = eqb-true _ _ i; below = ltb-true _ _ j; sound-line = k }
+      go true i true j false k h = absurd (omega arith)
+      go true i false j c k h = absurd (omega arith)
+      go false i b j c k h = absurd (omega arith)
+
+-- ---- the session rules: the first refusal whose case holds, or the work
+module _ (f : Refusal → Bool) (x : Refusal) (xs : List Refusal) where
+  pub holds : f x ≡ true → first f (x ∷ xs) ≡ some x
+  unfolding first
+  holds e = rw (first, e)
+
+  pub fails : f x ≡ false → first f (x ∷ xs) ≡ first f xs
+  unfolding first
+  fails e = rw (first, e)
+
+pub ends : (f : Refusal → Bool) → first f [] ≡ none
+unfolding first
+ends f = refl
+
+module _ (W : ℕ) (m : Meaning) (bs : List ℕ) (op : Operation) where
+  pub rule-refuses : (x : Refusal) → first (applies W m (readLine W bs) (sessionOf op) (queryOf op)) (canGive op) ≡ some x
+      → rule W m bs op ≡ record { reply = refuse (refusalNumber x) 0; line = bs }
+  unfolding rule unless
+  rule-refuses x e = rw e
+
+  pub rule-performs : first (applies W m (readLine W bs) (sessionOf op) (queryOf op)) (canGive op) ≡ none
+      → rule W m bs op ≡ perform W m (readLine W bs) bs op
+  unfolding rule unless
+  rule-performs e = rw e
+
+-- a line that is not sound refuses every call
+rule11 : (W : ℕ) (m : Meaning) (bs : List ℕ) (op : Operation) → sound W m (readLine W bs) ≡ false
+    → rule W m bs op ≡ record { reply = refuse 11 0; line = bs }
+unfolding canGive applies refusalNumber
+rule11 W m bs op e = rule-refuses W m bs op bad-line (go op)
+  where
+    go : (o : Operation) → first (applies W m (readLine W bs) (sessionOf o) (queryOf o)) (canGive o) ≡ some bad-line
+    go open-session = holds _ _ _ (ap not e)
+    go (close-session k) = holds _ _ _ (ap not e)
+    go (ask k q) = holds _ _ _ (ap not e)
+    go (short-ask k lower upper room) = holds _ _ _ (ap not e)
+    go (show k room) = holds _ _ _ (ap not e)
+
+module _ (W : ℕ) (p : Policy) (ledger : List ℕ) (c : Call) where
+  -- under a refusal of the session rules the ledger stays
+  pub ruled-refused : (n : ℕ)
+      → rule W (meaning p (c .user)) (lineAt (lineSize W) (c .user) ledger) (c .operation)
+      ≡ record { reply = refuse n 0; line = lineAt (lineSize W) (c .user) ledger }
+      → ruled W p ledger c ≡ refusedBy n ledger
+  unfolding ruled
+  ruled-refused n e =
+      ap (λ (r : Result). record { reply = r .reply; ledger = withLine (lineSize W) (c .user) (r .line) ledger }) e
+      ∙ ap (λ (l : List ℕ). record { reply = refuse n 0; ledger = l }) (own-line (lineSize W) (c .user) ledger)
+
+  -- a call whose first refusal is n
+  pub stopped : (n : ℕ) → n ≡ firstRefusal W p ledger (c .user) → (n ≡ 0 → ⊥) → stepOn W p ledger c ≡ refusedBy n ledger
+  unfolding stepOn firstRefusal pick lineOf
+  stopped n h z =
+      go (eqb (length ledger) (lineSize W * p .head .users)) (ltb (c .user) (p .head .users))
+      (sound W (meaning p (c .user)) (lineOf W ledger (c .user))) refl h
+    where
+      go : (a b x : Bool) → sound W (meaning p (c .user)) (lineOf W ledger (c .user)) ≡ x
+          → n ≡ pick {X = ℕ} (not a) 9 (pick {X = ℕ} (not b) 10 (pick {X = ℕ} (not x) 11 0))
+          → pick (not a) (refusedBy 9 ledger) (pick (not b) (refusedBy 10 ledger) (ruled W p ledger c)) ≡ refusedBy n ledger
+      go false b x k h = ap (λ (i : ℕ). refusedBy i ledger) (sym h)
+      go true false x k h = ap (λ (i : ℕ). refusedBy i ledger) (sym h)
+      go true true true k h = absurd (z h)
+      go true true false k h =
+          ruled-refused 11 (rule11 W (meaning p (c .user)) (lineAt (lineSize W) (c .user) ledger) (c .operation) k)
+          ∙ ap (λ (i : ℕ). refusedBy i ledger) (sym h)
+
+  -- a call that none of them refuses goes by the session rules
+  pub by-rules : Ready W p ledger (c .user) → stepOn W p ledger c ≡ ruled W p ledger c
+  by-rules r = step-below W p ledger (r .fits) c (r .below)
+
+  -- the session rules' refusal, given in the case of the call
+  pub refuses : Ready W p ledger (c .user) → (x : Refusal)
+      → first (applies W (meaning p (c .user)) (lineOf W ledger (c .user)) (sessionOf (c .operation)) (queryOf (c .operation)))
+      (canGive (c .operation)) ≡ some x
+      → stepOn W p ledger c ≡ refusedBy (refusalNumber x) ledger
+  unfolding lineOf
+  refuses r x e =
+      by-rules r
+      ∙ ruled-refused (refusalNumber x) (rule-refuses W (meaning p (c .user)) (lineAt (lineSize W) (c .user) ledger) (c .operation) x e)
+
+  -- the work, where nothing refuses
+  pub performs : Ready W p ledger (c .user)
+      → first (applies W (meaning p (c .user)) (lineOf W ledger (c .user)) (sessionOf (c .operation)) (queryOf (c .operation)))
+      (canGive (c .operation)) ≡ none
+      → stepOn W p ledger c
+      ≡ (let r = perform W (meaning p (c .user)) (lineOf W ledger (c .user)) (lineAt (lineSize W) (c .user) ledger) (c .operation) in
+      record { reply = r .reply; ledger = withLine (lineSize W) (c .user) (r .line) ledger })
+  unfolding lineOf ruled
+  performs r e =
+      by-rules r
+      ∙ ap (λ (x : Result). record { reply = x .reply; ledger = withLine (lineSize W) (c .user) (x .line) ledger })
+      (rule-performs W (meaning p (c .user)) (lineAt (lineSize W) (c .user) ledger) (c .operation) e)
+
+-- ---- what code knows of a call that none of them refuses
+
+-- the policy of the parts that code holds has them
+pub known : (head : Head) (assigned : List ℕ) (xs : Exclusions) → Known head assigned xs (policyBy head assigned xs)
+unfolding policyBy
+known head assigned xs = record { head-is = refl; assigned-is = refl; exclusions-are = refl }
+
+-- the user's bytes are in the ledger
+pub room : (W : ℕ) (p : Policy) (ledger : List ℕ) (u : ℕ) → Ready W p ledger u → lineSize W * u + lineSize W ≤ length ledger
+room W p ledger u r = rw (r .fits) (apart (lineSize W) u (p .head .users) (r .below))
+
+-- what code holds of the policy is what it holds of its meaning for a user
+pub held : (head : Head) (assigned : List ℕ) (xs : Exclusions) (p : Policy) (u : ℕ) → Known head assigned xs p
+    → Held (head .roles) (getD assigned u 0) xs (meaning p u)
+unfolding meaning authorized
+held head assigned xs p u k =
+    record {
+      number = ap (λ (h : Head). h .roles) (k .head-is);
+      allowed = ap (λ (rows : List ℕ). getD rows u 0) (sym (k .assigned-is));
+      exclusions = λ counted. ap (all (met counted)) (sym (k .exclusions-are));
+    }
+
+-- code that got 0 of the first refusals
+module _ (W : ℕ) (head : Head) (assigned : List ℕ) (xs : Exclusions) (ledger : List ℕ) (u n : ℕ)
+    (e : (p : Policy) → Known head assigned xs p → n ≡ firstRefusal W p ledger u) (z : n ≡ 0) where
+  pub ready-for : (p : Policy) → Known head assigned xs p → Ready W p ledger u
+  ready-for p k = ready W p ledger u (sym z ∙ e p k)
+
+  pub ready-by : Ready W (policyBy head assigned xs) ledger u
+  ready-by = ready-for (policyBy head assigned xs) (known head assigned xs)
+
+  pub room-for : lineSize W * u + lineSize W ≤ length ledger
+  room-for = room W (policyBy head assigned xs) ledger u ready-by

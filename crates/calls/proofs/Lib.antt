@@ -1,0 +1,6 @@
+-- The laws that the proofs of the calls cite.
+pub mod FirstSteps
+pub mod Opens
+pub mod Closes
+pub mod Filled
+pub mod Shown

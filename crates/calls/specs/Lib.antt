@@ -1,0 +1,2 @@
+-- What the contracts of the calls say, beside the model's definitions.
+pub mod Calls

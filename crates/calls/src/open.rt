@@ -1,0 +1,41 @@
+// Opening a session under an accepted policy.
+ghost use mathlib.Core.Path.{_≡_};
+ghost use Prim.Native.Nat.{_≤_};
+ghost use Rattle.model.specs.Policy.{Policy};
+ghost use Rattle.model.specs.Run.{stepOn, openBy};
+ghost use Rattle.calls.specs.Calls.{Known, Gives};
+use crate::first::first_refusal;
+use ledger::bytes::line_of;
+use ledger::bytes::put_line;
+use ledger::change::lowest_closed;
+use ledger::change::opened;
+use model::Exclusions;
+use model::Head;
+use model::SESSIONS;
+
+// The user's lowest closed session is opened, and returned as the extra.
+pub fn open_session(
+    ledger: &mut [u8],
+    head: Head,
+    assigned: &[u64; 64],
+    xs: Exclusions,
+    user: u64,
+) -> u64
+    requires { ⌜ (head .users ≤ 64) × (xs .count ≤ 32) ⌝ }
+    ensures { λ r. ⌜ ((p : Policy) → Known head (now (assigned .entry)) xs p
+        → Gives (stepOn 4 p (now (ledger .entry)) (openBy user)) r (now (ledger .exit))) ⌝ }
+{
+    let n = first_refusal(ledger, head, assigned, xs, user);
+    if n != 0 {
+        return n;
+    }
+    let u = user as usize;
+    let l = line_of(ledger, u);
+    if sets::size(l.opened) == SESSIONS as u32 {
+        return 14;
+    }
+    let k = lowest_closed(l);
+    let next = opened(l, k);
+    put_line(ledger, u, next);
+    256 * (k as u64)
+}

@@ -1,0 +1,58 @@
+// Showing a session under an accepted policy.
+ghost use mathlib.Core.Path.{_≡_};
+ghost use Prim.Native.Nat.{_≤_};
+ghost use lib.ListN.{length};
+ghost use Rattle.model.specs.Policy.{Policy};
+ghost use Rattle.model.specs.Run.{stepOn, showBy};
+ghost use Rattle.sets.specs.Words.{values};
+ghost use Rattle.calls.specs.Calls.{Known, Shows};
+use crate::answer::fill;
+use crate::first::first_refusal;
+use ledger::bytes::line_of;
+use ledger::change::is_open;
+use model::Exclusions;
+use model::Head;
+use model::SESSIONS;
+use tables::carried::carried_by;
+
+// The active roles of the user's session and the permissions that they carry fill the answer buffer. The juniors' table is closed in
+// place.
+pub fn show_session(
+    ledger: &[u8],
+    head: Head,
+    assigned: &[u64; 64],
+    granted: &[[u64; 4]; 64],
+    juniors: &mut [u64; 64],
+    xs: Exclusions,
+    user: u64,
+    session: u64,
+    answer: &mut [u8],
+) -> u64
+    requires { ⌜ (head .users ≤ 64) × (head .roles ≤ 64) × (xs .count ≤ 32) × (length (now juniors) ≡ 64) ⌝ }
+    ensures { λ r. ⌜ ((p : Policy) → Known head (now (assigned .entry)) xs p → values (now (granted .entry)) ≡ p .granted
+        → now (juniors .entry) ≡ p .juniors
+        → Shows (stepOn 4 p (now (ledger .entry)) (showBy user session (length (now (answer .entry))))) r (now (answer .entry))
+        (now (answer .exit))) ⌝ }
+{
+    let n = first_refusal(ledger, head, assigned, xs, user);
+    if n != 0 {
+        return n;
+    }
+    if SESSIONS as u64 <= session {
+        return 12;
+    }
+    let u = user as usize;
+    let k = session as usize;
+    let l = line_of(ledger, u);
+    if !is_open(l, k) {
+        return 13;
+    }
+    if answer.len() != 40 {
+        return 19;
+    }
+    let shown = l.sessions[k];
+    let active = shown.active;
+    let permissions = carried_by(granted, juniors, head.roles as usize, active);
+    fill(answer, active, permissions);
+    0
+}

@@ -1,3 +1,0 @@
--- What the contracts of the calls' parts say, beside the model's definitions.
-pub mod Calls
-pub mod Asks
