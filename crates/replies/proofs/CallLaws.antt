@@ -1,6 +1,6 @@
 -- The call that a parsed line is, by its form: what the calls of a host give is what the script's definition says.
 -- Assumes nothing.
-use mathlib.Core.Path.{_≡_, refl, sym, ap, _∙_}
+use mathlib.Core.Path.{_≡_, refl, sym, subst}
 use mathlib.Core.Option.{Option, none, some}
 use mathlib.Core.List.{List, []}
 use Prim.Native.Nat.{ℕ}
@@ -81,21 +81,21 @@ module _ (image ledger room₀ : List ℕ) (p : Parsed) where
   unfolding answerBy formed returned refuse answered filledWith
   answers-unreadable g = by-form Unreadable 21 ledger room₀ g (record { number = refl; bytes = refl; buffer = refl })
 
-  -- the program's answer buffer has room for an answer
+  -- where the answer buffer has the program's room
   module _ (h : length room₀ ≡ 40) where
+    -- what a call with the buffer's room gives, the call with 40 bytes of room gives
+    in-room : (c : ℕ → Call) (n : ℕ) (after answer : List ℕ) → Answers (step 4 image ledger (c (length room₀))) n after room₀ answer
+        → Answers (step 4 image ledger (c 40)) n after room₀ answer
+    in-room c n after answer a = subst (λ x. Answers (step 4 image ledger (c x)) n after room₀ answer) h a
+
     pub answers-show : (u s n : ℕ) (answer : List ℕ) → p .form ≡ Show u s
         → (n ≡ returned (step 4 image ledger (showBy u s (length room₀)) .reply))
         × (answer ≡ answered room₀ (step 4 image ledger (showBy u s (length room₀)) .reply))
         → Answers (answerBy image ledger (callIn p)) n ledger room₀ answer
     unfolding answerBy formed room
     answers-show u s n answer g k =
-        let e = ap (λ x. step 4 image ledger (showBy u s x)) h in
         by-form (Show u s) n ledger answer g
-        (record {
-          number = k .0 ∙ ap (λ (x : Event). returned (x .reply)) e;
-          bytes = sym (show-keeps 4 image ledger u s 40);
-          buffer = k .1 ∙ ap (λ (x : Event). answered room₀ (x .reply)) e;
-        })
+        (in-room (showBy u s) n ledger answer (record { number = k .0; bytes = sym (show-keeps 4 image ledger u s (length room₀)); buffer = k .1 }))
 
     pub answers-short-ask : (u s n : ℕ) (after answer : List ℕ) → p .form ≡ ShortAsk u s
         → (n ≡ returned (step 4 image ledger (shortAskBy u s (p .lower) (p .upper) (length room₀)) .reply))
@@ -104,13 +104,8 @@ module _ (image ledger room₀ : List ℕ) (p : Parsed) where
         → Answers (answerBy image ledger (callIn p)) n after room₀ answer
     unfolding answerBy formed room
     answers-short-ask u s n after answer g k =
-        let e = ap (λ x. step 4 image ledger (shortAskBy u s (p .lower) (p .upper) x)) h in
         by-form (ShortAsk u s) n after answer g
-        (record {
-          number = k .0 ∙ ap (λ (x : Event). returned (x .reply)) e;
-          bytes = k .1 ∙ ap (λ (x : Event). x .ledger) e;
-          buffer = k .2 ∙ ap (λ (x : Event). answered room₀ (x .reply)) e;
-        })
+        (in-room (shortAskBy u s (p .lower) (p .upper)) n after answer (record { number = k .0; bytes = k .1; buffer = k .2 }))
 
     pub answers-ask : (u s a b n : ℕ) (after answer : List ℕ) → p .form ≡ Ask u s a b
         → (n ≡ returned (step 4 image ledger (askBy u s (p .lower) (p .upper) a b (length room₀)) .reply))
@@ -119,10 +114,5 @@ module _ (image ledger room₀ : List ℕ) (p : Parsed) where
         → Answers (answerBy image ledger (callIn p)) n after room₀ answer
     unfolding answerBy formed room
     answers-ask u s a b n after answer g k =
-        let e = ap (λ x. step 4 image ledger (askBy u s (p .lower) (p .upper) a b x)) h in
         by-form (Ask u s a b) n after answer g
-        (record {
-          number = k .0 ∙ ap (λ (x : Event). returned (x .reply)) e;
-          bytes = k .1 ∙ ap (λ (x : Event). x .ledger) e;
-          buffer = k .2 ∙ ap (λ (x : Event). answered room₀ (x .reply)) e;
-        })
+        (in-room (askBy u s (p .lower) (p .upper) a b) n after answer (record { number = k .0; bytes = k .1; buffer = k .2 }))
