@@ -18,7 +18,7 @@ use Rattle.script.specs.declared.Form.the-variants.{Open, Close, Show, ShortAsk
 use Rattle.script.specs.declared.Parsed.{Parsed}
 use Rattle.script.specs.Script.{room, answerBy}
 use Rattle.script.specs.Reading.{formed, callIn}
-use Rattle.nutrameza.specs.Asks.{Answers}
+use Rattle.asks.specs.Asks.{Answers}
 
 -- ---- a call that fills nothing leaves the answer buffer alone
 

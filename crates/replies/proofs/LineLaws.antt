@@ -14,7 +14,7 @@ use Rattle.script.specs.Reading.{callIn}
 use Rattle.script.specs.Writing.{Puts}
 use Rattle.script.proofs.ReplyLaws.{step-small, number-returned, extra-returned}
 use Rattle.script.proofs.TextLaws.{puts-as}
-use Rattle.nutrameza.specs.Asks.{Answers}
+use Rattle.asks.specs.Asks.{Answers}
 
 -- ---- what fills the answer buffer
 

@@ -2,7 +2,7 @@
 ghost use mathlib.Core.Path.{_≡_};
 ghost use Prim.Native.Nat.{_+_, _≤_};
 ghost use lib.ListN.{length};
-ghost use Rattle.nutrameza.specs.Asks.{Answers};
+ghost use Rattle.asks.specs.Asks.{Answers};
 ghost use Rattle.script.specs.Script.{answerBy, answerTo, printed};
 ghost use Rattle.script.specs.Reading.{callIn};
 ghost use Rattle.script.specs.Writing.{Puts};
