@@ -16,4 +16,5 @@ settled-spec =
     λ _. settled-short (g .job) (g .chosen) (g .free) (value (g .carried)) (value (g .top)) (g .best) _ (c .before .perm-within .ensures) (not-true _ (c .if1 .taken)))
     (λ c κs. search needs)
     (λ c κs. search needs)
-    (λ c. search (needs, settled-rank)))
+    (λ c. let g = c .before .before .before .before .before .args in
+    settled-rank (g .job) (g .chosen) (g .free) (value (g .carried)) (value (g .top)) (g .best) _ _ (c .before .least-key .ensures) (c .no-worse .ensures)))
