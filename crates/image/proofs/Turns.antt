@@ -17,7 +17,7 @@ use Rattle.model.specs.declared.Checked.{Checked}
 use Rattle.model.specs.declared.Checked.the-variants.{Accepted, Refused}
 use Rattle.model.specs.Tests.{pick}
 use Rattle.model.specs.Image.{wordAt, decode, wrongKind, inRange, repeats, crowds, entryFault, sparing, fault, assigning, next, scan, balanced}
-use Rattle.image.specs.Bounds.{Due}
+use Rattle.image.specs.Bounds.{Due, Taken}
 
 -- ---- a word without fault is due
 
@@ -60,6 +60,32 @@ unfolding entryFault crowds pick
 room h rows t x m spare n e z =
     leb-false 32 (t .exclusions)
     (none-of false (not (eqb spare 0)) (not (inRange h (Exclude x m))) (repeats t (Exclude x m)) (leb 32 (t .exclusions)) (sym e ∙ z) .1)
+
+-- ---- one word, judged and taken in
+
+-- a word of the right kind, by what its entry says
+pub right-kind : (h : Head) (rows : List ℕ) (t : Scan) (final : Bool) (w : Word) (n : ℕ) (e : Entry) → w .entry ≡ e
+    → wrongKind final (t .due) (w .entry) ≡ false → n ≡ sparing (w .spare) (entryFault h rows t e) → n ≡ fault h rows t final w
+unfolding fault pick
+right-kind h rows t final w n e ee ek en =
+    en ∙ ap (λ (x : Entry). sparing (w .spare) (entryFault h rows t x)) (sym ee)
+    ∙ ap (λ (b : Bool). pick b 3 (sparing (w .spare) (entryFault h rows t (w .entry)))) (sym ek)
+
+pub wrong-kind : (h : Head) (rows : List ℕ) (t : Scan) (final : Bool) (w : Word) → wrongKind final (t .due) (w .entry) ≡ true
+    → 3 ≡ fault h rows t final w
+unfolding fault pick
+wrong-kind h rows t final w ek = ap (λ (b : Bool). pick b 3 (sparing (w .spare) (entryFault h rows t (w .entry)))) (sym ek)
+
+-- and so taken
+pub took : {h : Head} {rows₀ : List ℕ} {t : Scan} {final : Bool} {w : Word} {n : ℕ} {rows : List ℕ} (e : Entry) → w .entry ≡ e
+    → wrongKind final (t .due) (w .entry) ≡ false → n ≡ sparing (w .spare) (entryFault h rows₀ t e) → (n ≡ 0 → rows ≡ assigning rows₀ e)
+    → Taken h rows₀ t final w n rows
+took {h} {rows₀} {t} {final} {w} {n} e ee ek en ea =
+    record { faulty = right-kind h rows₀ t final w n e ee ek en; assigned-is = λ z. ea z ∙ ap (assigning rows₀) (sym ee) }
+
+pub mistook : {h : Head} {rows₀ : List ℕ} {t : Scan} {final : Bool} {w : Word} {rows : List ℕ} → wrongKind final (t .due) (w .entry) ≡ true
+    → Taken h rows₀ t final w 3 rows
+mistook {h} {rows₀} {t} {final} {w} ek = record { faulty = wrong-kind h rows₀ t final w ek; assigned-is = λ z. absurd (omega arith) }
 
 -- ---- one turn
 

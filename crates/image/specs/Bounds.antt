@@ -1,9 +1,15 @@
 -- What the code needs to know of a decoded word, and of a word without fault.
 -- Assumes nothing.
-use Prim.Native.Nat.{_<_}
+use mathlib.Core.Path.{_≡_}
+use mathlib.Core.Bool.{Bool}
+use mathlib.Core.List.{List}
+use Prim.Native.Nat.{ℕ, _<_}
+use Rattle.model.specs.declared.Head.{Head}
 use Rattle.model.specs.declared.Scan.{Scan}
+use Rattle.model.specs.declared.Word.{Word}
 use Rattle.model.specs.declared.Entry.{Entry}
 use Rattle.model.specs.declared.Entry.the-variants.{Assignment, Grant, Senior, Exclude, Member, End, Unknown}
+use Rattle.model.specs.Image.{fault, assigning}
 
 -- the numbers of an entry are as small as their fields
 unfoldable pub Small : Entry → Type 0
@@ -24,3 +30,8 @@ Due t (Exclude x m) = t .exclusions < 32
 Due t (Member r) = 0 < t .due
 Due t End = 0 < 1
 Due t Unknown = 0 < 1
+
+-- a word judged, n its fault, and where it has none taken into the roles assigned so far
+pub record Taken (h : Head) (assigned₀ : List ℕ) (t : Scan) (final : Bool) (w : Word) (n : ℕ) (assigned : List ℕ) : Type 0 where
+  pub faulty : n ≡ fault h assigned₀ t final w
+  pub assigned-is : n ≡ 0 → assigned ≡ assigning assigned₀ (w .entry)

@@ -3,8 +3,8 @@ ghost use mathlib.Core.Path.{_≡_};
 ghost use mathlib.Core.List.{List};
 ghost use Prim.Native.Nat.{ℕ, _+_, _-_, _*_, _≤_, _<_};
 ghost use lib.ListN.{length};
-ghost use Rattle.model.specs.Image.{wrongKind, sparing, entryFault, fault as faultOf, assigning, next as nextOf, scan, emptyRows, start, judge};
-ghost use Rattle.image.specs.Bounds.{Small, Due};
+ghost use Rattle.model.specs.Image.{wrongKind, sparing, entryFault, assigning, next as nextOf, scan, emptyRows, start, judge};
+ghost use Rattle.image.specs.Bounds.{Small, Due, Taken};
 use crate::word::decode;
 use crate::word::head_of;
 use crate::word::head_right;
@@ -128,13 +128,37 @@ pub fn spared(spare: u32, number: u8) -> u8
     number
 }
 
-// 4 to 7, or 0. The spare bits are tested in each arm, so that one jump goes to the arm.
-fn entry_fault(h: Head, assigned: &[u64; 64], t: Scan, spare: u32, e: Entry) -> u8
-    requires { ⌜ Small e ⌝ }
-    ensures { λ n. ⌜ n ≡ sparing spare (entryFault h (now (assigned .entry)) t e) ⌝ }
+// ---- a word judged and, where it has no fault, taken in
+
+// An assignment without fault goes into the roles assigned so far.
+pub fn take_assignment(h: Head, assigned: &mut [u64; 64], spare: u32, u: User, r: Role) -> u8
+    requires { ⌜ (u .0 < 64) × (r .0 < 64) ⌝ }
+    ensures { λ n. ⌜ ((t : Scan) → n ≡ sparing spare (entryFault h (now (assigned .entry)) t (Entry.Assignment u r)))
+        × (n ≡ 0 → now (assigned .exit) ≡ assigning (now (assigned .entry)) (Entry.Assignment u r)) ⌝ }
 {
+    let n = spared(spare, assignment_fault(h, assigned, u, r));
+    if n != 0 {
+        return n;
+    }
+    let who = u.0 as usize;
+    let row = sets::with(assigned[who], r);
+    assigned[who] = row;
+    n
+}
+
+// 3 to 7, or 0. One match a word, so that one jump goes to the arm: each tests the spare bits and judges, and that of an assignment
+// stores.
+fn taken(h: Head, assigned: &mut [u64; 64], t: Scan, last: bool, w: Word) -> u8
+    requires { ⌜ Small (w .entry) ⌝ }
+    ensures { λ n. ⌜ Taken h (now (assigned .entry)) t last w n (now (assigned .exit)) ⌝ }
+{
+    let e = w.entry;
+    let spare = w.spare;
+    if wrong_kind(last, t.due, e) {
+        return 3;
+    }
     match e {
-        Entry::Assignment(u, r) => spared(spare, assignment_fault(h, assigned, u, r)),
+        Entry::Assignment(u, r) => take_assignment(h, assigned, spare, u, r),
         Entry::Grant(r, p) => spared(spare, grant_fault(h, r, p)),
         Entry::Senior(a, b) => spared(spare, senior_fault(h, a, b)),
         Entry::Exclude(x, m) => spared(spare, exclusion_fault(h, t, x, m)),
@@ -144,40 +168,7 @@ fn entry_fault(h: Head, assigned: &[u64; 64], t: Scan, spare: u32, e: Entry) -> 
     }
 }
 
-// 3 to 7, or 0.
-fn fault(h: Head, assigned: &[u64; 64], t: Scan, last: bool, w: Word) -> u8
-    requires { ⌜ Small (w .entry) ⌝ }
-    ensures { λ n. ⌜ n ≡ faultOf h (now (assigned .entry)) t last w ⌝ }
-{
-    let e = w.entry;
-    if wrong_kind(last, t.due, e) {
-        return 3;
-    }
-    entry_fault(h, assigned, t, w.spare, e)
-}
-
-// ---- a word without fault, taken in
-
-// The roles assigned so far, with the one that an assignment gives.
-fn assign(assigned: &mut [u64; 64], e: Entry)
-    requires { ⌜ Small e ⌝ }
-    ensures { λ r. ⌜ now (assigned .exit) ≡ assigning (now (assigned .entry)) e ⌝ }
-{
-    match e {
-        Entry::Assignment(u, r) => {
-            let who = u.0 as usize;
-            let mine = sets::with(assigned[who], r);
-            assigned[who] = mine;
-        }
-        Entry::Grant(_, _) => {}
-        Entry::Senior(_, _) => {}
-        Entry::Exclude(_, _) => {}
-        Entry::Member(_) => {}
-        Entry::End => {}
-        Entry::Unknown => {}
-    }
-}
-
+// What a word without fault leaves to judge the next one by.
 pub fn next(t: Scan, e: Entry) -> Scan
     requires { ⌜ Small e × Due t e ⌝ }
     ensures { λ r. ⌜ r ≡ nextOf t e ⌝ }
@@ -217,12 +208,11 @@ fn check_words(image: &[u8], words: usize, h: Head, first: u32) -> Checked
     for place in 1..words {
         let w = octets::word_at(image, place);
         let word = decode(w);
-        let number = fault(h, &assigned, t, place + 1 == words, word);
+        let number = taken(h, &mut assigned, t, place + 1 == words, word);
         if number != 0 {
             return Checked::Refused(number, place as u16);
         }
         let e = word.entry;
-        assign(&mut assigned, e);
         t = next(t, e);
         sum = std::num::wrapping_add_u32(sum, w);
     }

@@ -21,12 +21,7 @@ fn refusal_of(c: Checked) -> u64
 pub extern "C" fn nutrameza_check(image: &[u8]) -> u64
     ensures { λ r. ⌜ r ≡ checkNumber (judge (now (image .entry))) ⌝ }
 {
-    let mut assigned = [0u64; 64];
-    let mut granted = [[0u64; 4]; 64];
-    let mut juniors = [0u64; 64];
-    let all = tables::read::read(image, &mut assigned, &mut granted, &mut juniors);
-    let c = all.checked;
-    refusal_of(c)
+    refusal_of(image::check::check(image))
 }
 
 // Opens the user's lowest closed session, and returns it as the extra.

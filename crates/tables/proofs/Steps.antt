@@ -9,9 +9,9 @@ use Rattle.model.specs.declared.Head.{Head}
 use Rattle.model.specs.declared.Scan.{Scan}
 use Rattle.model.specs.declared.Word.{Word}
 use Rattle.model.specs.declared.Entry.{Entry}
-use Rattle.model.specs.Tests.{pick}
-use Rattle.model.specs.Image.{wrongKind, entryFault, sparing, fault, assigning}
+use Rattle.model.specs.Image.{wrongKind, entryFault, sparing, assigning}
 use Rattle.model.specs.Policy.{granting, ordering}
+use Rattle.image.proofs.Turns.{right-kind, wrong-kind}
 use Rattle.tables.specs.Tables.{noting, Step}
 
 -- a word of the right kind, by what its entry says
@@ -19,12 +19,9 @@ pub took : {h : Head} {t : Scan} {final : Bool} {place : ℕ} {w : Word} {a₀ g
     → w .entry ≡ e → wrongKind final (t .due) (w .entry) ≡ false → n ≡ sparing (w .spare) (entryFault h a₀ t e)
     → (n ≡ 0 → a ≡ assigning a₀ e) → (n ≡ 0 → g ≡ granting g₀ e) → (n ≡ 0 → j ≡ ordering j₀ e) → (n ≡ 0 → p ≡ noting place (t .exclusions) p₀ e)
     → Step h t final place w a₀ g₀ j₀ p₀ n a g j p
-unfolding fault pick
-took {h} {t} {final} {place} {w} {a₀} {g₀} {j₀} {p₀} e ee ek en fa fg fj fp =
+took {h} {t} {final} {place} {w} {a₀} {g₀} {j₀} {p₀} {n} e ee ek en fa fg fj fp =
     record {
-      faulty =
-          en ∙ ap (λ (x : Entry). sparing (w .spare) (entryFault h a₀ t x)) (sym ee)
-          ∙ ap (λ (b : Bool). pick b 3 (sparing (w .spare) (entryFault h a₀ t (w .entry)))) (sym ek);
+      faulty = right-kind h a₀ t final w n e ee ek en;
       assigned-is = λ z. fa z ∙ ap (assigning a₀) (sym ee);
       granted-is = λ z. fg z ∙ ap (granting g₀) (sym ee);
       juniors-is = λ z. fj z ∙ ap (ordering j₀) (sym ee);
@@ -34,10 +31,9 @@ took {h} {t} {final} {place} {w} {a₀} {g₀} {j₀} {p₀} e ee ek en fa fg fj
 -- a word of the wrong kind
 pub mistook : {h : Head} {t : Scan} {final : Bool} {place : ℕ} {w : Word} {a₀ g₀ j₀ p₀ : List ℕ} {a g j p : List ℕ}
     → wrongKind final (t .due) (w .entry) ≡ true → Step h t final place w a₀ g₀ j₀ p₀ 3 a g j p
-unfolding fault pick
 mistook {h} {t} {final} {place} {w} {a₀} ek =
     record {
-      faulty = ap (λ (b : Bool). pick b 3 (sparing (w .spare) (entryFault h a₀ t (w .entry)))) (sym ek);
+      faulty = wrong-kind h a₀ t final w ek;
       assigned-is = λ z. absurd (omega arith);
       granted-is = λ z. absurd (omega arith);
       juniors-is = λ z. absurd (omega arith);

@@ -10,13 +10,13 @@ ghost use Rattle.sets.specs.Words.{values};
 ghost use Rattle.image.specs.Bounds.{Small};
 ghost use Rattle.tables.specs.Tables.{noting, Step, Fresh, Gathered, Tables};
 use crate::exclusions::exclusions_at;
-use image::check::assignment_fault;
 use image::check::exclusion_fault;
 use image::check::grant_fault;
 use image::check::member_fault;
 use image::check::next;
 use image::check::senior_fault;
 use image::check::spared;
+use image::check::take_assignment;
 use image::check::wrong_kind;
 use image::word::decode;
 use image::word::head_of;
@@ -30,7 +30,6 @@ use model::Kind;
 use model::Permission;
 use model::Role;
 use model::Scan;
-use model::User;
 use model::Word;
 
 // What a pass over an image answers: the judgement and, of an accepted image, the exclusions.
@@ -40,21 +39,6 @@ pub struct Reading {
 }
 
 // ---- a word judged and, where it has no fault, taken in
-
-fn take_assignment(h: Head, assigned: &mut [u64; 64], spare: u32, u: User, r: Role) -> u8
-    requires { ⌜ (u .0 < 64) × (r .0 < 64) ⌝ }
-    ensures { λ n. ⌜ ((t : Scan) → n ≡ sparing spare (entryFault h (now (assigned .entry)) t (Entry.Assignment u r)))
-        × (n ≡ 0 → now (assigned .exit) ≡ assigning (now (assigned .entry)) (Entry.Assignment u r)) ⌝ }
-{
-    let n = spared(spare, assignment_fault(h, assigned, u, r));
-    if n != 0 {
-        return n;
-    }
-    let who = u.0 as usize;
-    let row = sets::with(assigned[who], r);
-    assigned[who] = row;
-    n
-}
 
 fn take_grant(h: Head, granted: &mut [[u64; 4]; 64], spare: u32, r: Role, p: Permission) -> u8
     requires { ⌜ r .0 < 64 ⌝ }

@@ -23,33 +23,34 @@ loop-holds c = (omega arith, omega arith, refl)
 returns : tie.Need-returns Inv-loop μ-loop
 returns c =
     let f = c .before in
-    let d = c .before .before .before in
-    let w = c .before .before .before .before in
-    let l = c .before .before .before .before .before .before in
+    let d = f .before .before in
+    let w = d .before in
+    let l = w .before .before in
     let a = l .before .before .args in
-    stops (a .image .now) (a .h) (a .words) (l .loop .place) (l .loop .assigned) (l .loop .t) (l .loop .sum) (w .word-at .result) (d .decode .result) (f .fault .result)
-    (w .before .loop-test .taken) (w .word-at .ensures) (d .decode .ensures .0) (f .fault .ensures) (c .if1 .taken)
+    stops (a .image .now) (a .h) (a .words) (l .loop .place) (l .loop .assigned) (l .loop .t) (l .loop .sum) (w .word-at .result) (d .decode .result) (f .taken .result)
+    (w .before .loop-test .taken) (w .word-at .ensures) (d .decode .ensures .0) (f .taken .ensures .faulty) (c .if1 .taken)
     ∙ l .loop .inv .2
 
 next-requires : tie.Need-next-requires Inv-loop μ-loop
 next-requires c κs =
-    let f = c .before .before .before in
-    let l = c .before .before .before .before .before .before .before .before in
-    let d = c .before .before .before .before .before in
-    (d .decode .ensures .1, due-of (l .before .before .args .h) (l .loop .assigned) (l .loop .t) _ (d .decode .result) (f .fault .result) (f .fault .ensures) (c .before .before .if1 .left))
+    let f = c .before in
+    let d = f .before .before in
+    let l = d .before .before .before in
+    (d .decode .ensures .1, due-of (l .before .before .args .h) (l .loop .assigned) (l .loop .t) _ (d .decode .result) (f .taken .result) (f .taken .ensures .faulty) (c .if1 .left))
 
 loop-again : tie.Need-loop-again Inv-loop μ-loop
 loop-again c =
-    let f = c .before .before .before .before .before in
-    let d = c .before .before .before .before .before .before .before in
-    let w = c .before .before .before .before .before .before .before .before in
-    let l = c .before .before .before .before .before .before .before .before .before .before in
-    let a = l .before .before .args in (
+    let f = c .before .before .before in
+    let d = f .before .before in
+    let w = d .before in
+    let l = w .before .before in
+    let a = l .before .before .args in
+    let z = c .before .before .if1 .left in (
       omega arith,
       omega arith,
-      goes (a .image .now) (a .h) (a .words) (l .loop .place) (l .loop .assigned) (l .loop .t) (l .loop .sum) (w .word-at .result) (d .decode .result) (f .fault .result)
-          (w .before .loop-test .taken) (w .word-at .ensures) (d .decode .ensures .0) (f .fault .ensures) (c .before .before .before .before .if1 .left)
-          _ _ _ (c .before .before .assign .ensures) (c .before .next .ensures) (c .wrapping-add-u32 .ensures)
+      goes (a .image .now) (a .h) (a .words) (l .loop .place) (l .loop .assigned) (l .loop .t) (l .loop .sum) (w .word-at .result) (d .decode .result) (f .taken .result)
+          (w .before .loop-test .taken) (w .word-at .ensures) (d .decode .ensures .0) (f .taken .ensures .faulty) z
+          _ _ _ (f .taken .ensures .assigned-is z) (c .before .next .ensures) (c .wrapping-add-u32 .ensures)
           ∙ l .loop .inv .2,
     )
 
@@ -82,7 +83,6 @@ check-words-spec =
     (λ c κs. search needs)
     (λ c. search needs)
     returns
-    (λ c κs. search needs)
     next-requires
     (λ c κs. search needs)
     (λ c. search needs)

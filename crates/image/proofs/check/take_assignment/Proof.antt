@@ -1,10 +1,10 @@
--- `tables::read::take_assignment` meets its contract.
+-- `image::check::take_assignment` meets its contract.
 -- Assumes nothing.
 use mathlib.Core.Path.{ap, _∙_}
 use borrow.Author.Needs.{needs}
 use Rattle.model.specs.Image.{sparing, assigning}
-use Rattle.tables.proofs.read.take_assignment.Statement.{statement}
-use Rattle.tables.proofs.read.take_assignment.Tie as tie
+use Rattle.image.proofs.check.take_assignment.Statement.{statement}
+use Rattle.image.proofs.check.take_assignment.Tie as tie
 
 returns : tie.Need-returns
 returns c =
