@@ -30,12 +30,14 @@ unionTo-same f g s (suc d) h = ap₂ union (unionTo-same f g s d (λ r l m. h r 
 
 -- ---- over two sets joined
 
+-- the order of unions does not matter
 union-assoc : (a b c : ℕ) → union (union a b) c ≡ union a (union b c)
 union-assoc a b c = or-comm (union a b) c ∙ union-swap c a b ∙ ap (union a) (or-comm c b)
 
 crossed : (a b c d : ℕ) → union (union a b) (union c d) ≡ union (union a c) (union b d)
 crossed a b c d = union-assoc a b (union c d) ∙ ap (union a) (union-swap b c d) ∙ sym (union-assoc a c (union b d))
 
+-- a row taken by either of two tests
 picked : (a b : Bool) (x : ℕ) → pick (a || b) x 0 ≡ union (pick a x 0) (pick b x 0)
 unfolding pick
 picked true true x = sym (or-self x)
@@ -62,6 +64,7 @@ unionTo-one row r d l = same-sets (unionTo row (2 ^ r) d) (row r) (λ m. bool-ex
     from : (m : ℕ) → has (row r) m ≡ true → has (unionTo row (2 ^ r) d) m ≡ true
     from m e = has-unionTo row (2 ^ r) m d .1 (record { member = r; below = l; chosen = has-power r r ∙ eq-eqb r r refl; holds = e })
 
+-- with the member r too
 pub unionTo-with : (row : ℕ → ℕ) (d s r : ℕ) → r < d → unionTo row (with s r) d ≡ union (unionTo row s d) (row r)
 unionTo-with row d s r l = unionTo-union row s (2 ^ r) d ∙ ap (union (unionTo row s d)) (unionTo-one row r d l)
 
@@ -77,6 +80,7 @@ unionTo-unions row sets s (suc d) e =
     go true = refl
     go false = sym (unionTo-none row e)
 
+-- the same of tables
 pub unionAt-unions : (rows sets : List ℕ) (s : ℕ) → unionAt (map (unionAt rows) sets) s ≡ unionAt rows (unionAt sets s)
 unfolding unionAt
 unionAt-unions rows sets s =
@@ -92,14 +96,17 @@ pub record Joins (row : ℕ → ℕ) (s left all : ℕ) : Type 0 where
   pub whole : union all (unionTo row left 64) ≡ unionTo row s 64
 
 module _ (row : ℕ → ℕ) (s : ℕ) where
+  -- at first all are to come
   pub joins-start : (all : ℕ) → all ≡ 0 → s < 2 ^ 64 → Joins row s s all
   joins-start all e h = record { small = h; whole = rw e }
 
+  -- at last none is
   pub joins-end : (left all : ℕ) → left ≡ 0 → Joins row s left all → all ≡ unionTo row s 64
   joins-end left all e j =
       sym (or-zero-r all) ∙ ap (union all) (sym (unionTo-none row 64)) ∙ ap (λ (x : ℕ). union all (unionTo row x 64)) (sym e) ∙ j .whole
 
   module _ (left all r less : ℕ) (j : Joins row s left all) (low : Lowest left r) (el : less ≡ without left r) where
+    -- the row of the lowest member to come is joined
     pub joins-next : (more : ℕ) → more ≡ union all (row r) → Joins row s less more
     joins-next more em =
         rw (el, em)

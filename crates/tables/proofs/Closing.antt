@@ -82,6 +82,7 @@ closed-next k rows₀ rows rows′ e f = rw (f, e, add-one)
 
 -- ---- an empty row is passed over
 
+-- an empty row adds nothing
 taking-empty : (k row : ℕ) → taking k 0 row ≡ row
 unfolding taking pick
 taking-empty k row = go (has row k)
@@ -90,6 +91,7 @@ taking-empty k row = go (has row k)
     go true = or-zero-r row
     go false = refl
 
+-- where row k is empty, no row changes
 pub passed-over : (k : ℕ) (rows : List ℕ) → getD rows k 0 ≡ 0 → rows ≡ through k rows
 unfolding through
 passed-over k rows e = sym (ap (λ (x : ℕ). map (taking k x) rows) e ∙ same rows)
@@ -100,14 +102,17 @@ passed-over k rows e = sym (ap (λ (x : ℕ). map (taking k x) rows) e ∙ same 
 
 -- ---- the roles themselves may be put into their rows after the closure
 
+-- a table of 64 rows
 pub length-selves : (rows : List ℕ) → length (selfAndJuniors rows) ≡ 64
 unfolding selfAndJuniors
 length-selves rows = length-tableOf 64 (λ a. with (getD rows a 0) a)
 
+-- row r with the role r
 pub selves-at : (rows : List ℕ) (r : ℕ) → r < 64 → getD (selfAndJuniors rows) r 0 ≡ with (getD rows r 0) r
 unfolding selfAndJuniors
 selves-at rows r l = getD-tableOf 64 (λ a. with (getD rows a 0) a) r l
 
+-- row i after it took in row k
 through-at : (k : ℕ) (rows : List ℕ) (i : ℕ) → getD (through k rows) i 0 ≡ taking k (getD rows k 0) (getD rows i 0)
 unfolding through taking pick
 through-at k rows i =
@@ -116,12 +121,14 @@ through-at k rows i =
 
 -- row i takes in row k, each with its own role
 module _ (i k row other : ℕ) (own : k ≡ i → other ≡ row) where
+  -- where d implies a, d may be left out
   tests : (a b c d : Bool) → (d ≡ true → a ≡ true) → ((a || c) || (b || d)) ≡ ((a || b) || c)
   tests true b c d h = refl
   tests false true c d h = or-true c
   tests false false c true h = absurd (false≢true (h refl))
   tests false false c false h = or-false c
 
+  -- a row that has k takes in nothing new by k itself
   both-with : has row k ≡ true → union (with row i) (with other k) ≡ with (union row other) i
   both-with m =
       same-sets (union (with row i) (with other k)) (with (union row other) i)
@@ -130,6 +137,7 @@ module _ (i k row other : ℕ) (own : k ≡ i → other ≡ row) where
       ∙ tests (has row j) (has other j) (eqb j i) (eqb j k) (λ e. ap (has row) (eqb-true j k e) ∙ m)
       ∙ sym (has-with (union row other) i j ∙ ap (λ (b : Bool). b || eqb j i) (has-union row other j)))
 
+  -- the roles may be put in before or after
   taking-with : taking k (with other k) (with row i) ≡ with (taking k other row) i
   unfolding taking pick
   taking-with = ap (λ (b : Bool). pick b (union (with row i) (with other k)) (with row i)) (has-with row i k) ∙ go (has row k) refl (eqb k i) refl
@@ -142,6 +150,7 @@ module _ (i k row other : ℕ) (own : k ≡ i → other ≡ row) where
           ap₂ (λ (x y : ℕ). union (with row i) (with x y)) (own q) q ∙ or-self (with row i)
       go false m false e = refl
 
+-- for the whole table
 through-selves : (k : ℕ) (rows : List ℕ) → k < 64 → through k (selfAndJuniors rows) ≡ selfAndJuniors (through k rows)
 unfolding through
 through-selves k rows h =
@@ -159,6 +168,7 @@ through-selves k rows h =
         ∙ ap (λ (x : ℕ). with x i) (sym (through-at k rows i))
         ∙ sym (selves-at (through k rows) i l)
 
+-- and for all passes of the closure
 pub closed-selves : (n : ℕ) (rows : List ℕ) → n ≤ 64 → closed n (selfAndJuniors rows) ≡ selfAndJuniors (closed n rows)
 unfolding closed
 closed-selves zero rows h = refl
@@ -185,6 +195,7 @@ module _ (granted reached : List ℕ) (wanted : ℕ) where
   empty-rows (suc n) zero = refl
   empty-rows (suc n) (suc r) = empty-rows n r
 
+  -- at first none of the rows of `wanted` is made
   pub made-start : wanted < 2 ^ 64 → Made granted reached wanted wanted (replicate 64 (0 ∷ 0 ∷ 0 ∷ 0 ∷ []))
   unfolding pick
   made-start h =
@@ -195,6 +206,7 @@ module _ (granted reached : List ℕ) (wanted : ℕ) where
         rows = λ r m. empty-rows 64 r ∙ sym (ap (λ (b : Bool). pick b (unionAt granted (getD reached r 0)) 0) m);
       }
 
+  -- at last all are
   pub made-end : (left : ℕ) (out : List (List ℕ)) → left ≡ 0 → Made granted reached wanted left out → values out ≡ rowsOf granted reached wanted
   unfolding rowsOf values
   made-end left out e m =
@@ -205,6 +217,7 @@ module _ (granted reached : List ℕ) (wanted : ℕ) where
       ∙ sym (getD-tableOf 64 (wantedRow granted reached wanted) r (omega (arith, length-map out value ∙ m .size))))
 
   module _ (left r less : ℕ) (out : List (List ℕ)) (m : Made granted reached wanted left out) (low : Lowest left r) (el : less ≡ without left r) where
+    -- the row of the lowest role to come is stored
     pub made-next : (row : List ℕ) → value row ≡ unionAt granted (getD reached r 0) → Made granted reached wanted less (set out r row)
     unfolding values pick
     made-next row er =

@@ -74,7 +74,7 @@ fn reached_by(rows: &[u64; 64], set: u64) -> u64
 // ---- what roles carry
 
 // The permissions of the rows at the roles.
-pub fn joined(rows: &[[u64; 4]; 64], roles: u64) -> [u64; 4]
+fn joined(rows: &[[u64; 4]; 64], roles: u64) -> [u64; 4]
     ensures { λ s. ⌜ value s ≡ unionAt (values (now (rows .entry))) roles ⌝ }
 {
     let mut left = roles;
