@@ -10,6 +10,7 @@ ghost use Rattle.sets.specs.Words.{value, values};
 ghost use Rattle.query.specs.Search.{rowsOf};
 ghost use Rattle.query.specs.Answer.{answered};
 ghost use Rattle.calls.specs.Calls.{Known, lineOf};
+ghost use Rattle.rows.specs.Rows.{exclusionsIn};
 ghost use Rattle.asks.specs.Asks.{Asked, Searched, askedOn, Answers};
 use crate::bounds::bound;
 use crate::request::ask_refusal;
@@ -17,7 +18,6 @@ use calls::answer::fill;
 use ledger::bytes::line_of;
 use ledger::bytes::put_line;
 use ledger::change::put_in;
-use model::Exclusions;
 use model::Head;
 use model::Line;
 use query::Choice;
@@ -27,7 +27,8 @@ use query::rank::Job;
 fn best(
     rows: &[[u64; 4]; 64],
     authorized: u64,
-    xs: Exclusions,
+    xs: &[[u64; 2]; 32],
+    count: usize,
     l: Line,
     k: usize,
     lower: [u64; 4],
@@ -35,11 +36,11 @@ fn best(
     first: u8,
     second: u8,
 ) -> Choice
-    requires { ⌜ (xs .count ≤ 32) × (k < 4) ⌝ }
-    ensures { λ r. ⌜ ((p : Policy) (u : ℕ) → Asked p u l authorized xs (rowsOf (now (rows .entry)))
+    requires { ⌜ (count ≤ 32) × (k < 4) × (length (now xs) ≡ 32) ⌝ }
+    ensures { λ r. ⌜ ((p : Policy) (u : ℕ) → Asked p u l authorized (exclusionsIn (now (xs .entry)) count) (rowsOf (now (rows .entry)))
         → answered r ≡ choose (meaning p u) l k (value lower) (value upper) first second) ⌝ }
 {
-    let reduced = query::exclusions::reduce(xs, l, k);
+    let reduced = query::exclusions::reduce(xs, count, l, k);
     let masks = reduced.masks;
     let rooms = reduced.rooms;
     let job = Job {
@@ -58,7 +59,8 @@ fn put_best(
     roles: u8,
     granted: &[[u64; 4]; 64],
     juniors: &mut [u64; 64],
-    xs: Exclusions,
+    xs: &[[u64; 2]; 32],
+    count: usize,
     authorized: u64,
     u: usize,
     k: usize,
@@ -68,16 +70,27 @@ fn put_best(
     second: u8,
     answer: &mut [u8],
 ) -> u64
-    requires { ⌜ (roles ≤ 64) × (length (now juniors) ≡ 64) × (xs .count ≤ 32) × (lineSize 4 * u + lineSize 4 ≤ length (now ledger)) × (k < 4)
-        × (length (now answer) ≡ 40) ⌝ }
-    ensures { λ r. ⌜ ((p : Policy) → Searched p u (now (ledger .entry)) roles (values (now (granted .entry))) (now (juniors .entry)) authorized xs
+    requires { ⌜ (roles ≤ 64) × (length (now juniors) ≡ 64) × (count ≤ 32) × (lineSize 4 * u + lineSize 4 ≤ length (now ledger)) × (k < 4)
+        × (length (now answer) ≡ 40) × (length (now xs) ≡ 32) ⌝ }
+    ensures { λ r. ⌜ ((p : Policy) → Searched p u (now (ledger .entry)) roles (values (now (granted .entry))) (now (juniors .entry)) authorized (exclusionsIn (now (xs .entry)) count)
         → Answers (askedOn p (now (ledger .entry)) u k
         (choose (meaning p u) (lineOf 4 (now (ledger .entry)) u) k (value lower) (value upper) first second))
         r (now (ledger .exit)) (now (answer .entry)) (now (answer .exit))) ⌝ }
 {
     let rows = tables::carried::carried(granted, juniors, roles as usize, authorized);
     let l = line_of(ledger, u);
-    let choice = best(&rows, authorized, xs, l, k, lower, upper, first, second);
+    let choice = best(
+        &rows,
+        authorized,
+        xs,
+        count,
+        l,
+        k,
+        lower,
+        upper,
+        first,
+        second,
+    );
     let Choice::Roles(s) = choice else {
         return 20;
     };
@@ -102,7 +115,8 @@ pub fn ask_roles(
     assigned: &[u64; 64],
     granted: &[[u64; 4]; 64],
     juniors: &mut [u64; 64],
-    xs: Exclusions,
+    xs: &[[u64; 2]; 32],
+    count: usize,
     user: u64,
     session: u64,
     lower: &[u8],
@@ -111,8 +125,8 @@ pub fn ask_roles(
     second: u64,
     answer: &mut [u8],
 ) -> u64
-    requires { ⌜ (head .users ≤ 64) × (head .roles ≤ 64) × (xs .count ≤ 32) × (length (now juniors) ≡ 64) ⌝ }
-    ensures { λ r. ⌜ ((p : Policy) → Known head (now (assigned .entry)) xs p → values (now (granted .entry)) ≡ p .granted
+    requires { ⌜ (head .users ≤ 64) × (head .roles ≤ 64) × (count ≤ 32) × (length (now juniors) ≡ 64) × (length (now xs) ≡ 32) ⌝ }
+    ensures { λ r. ⌜ ((p : Policy) → Known head (now (assigned .entry)) (exclusionsIn (now (xs .entry)) count) p → values (now (granted .entry)) ≡ p .granted
         → now (juniors .entry) ≡ p .juniors
         → Answers (stepOn 4 p (now (ledger .entry)) (askBy user session (now (lower .entry)) (now (upper .entry)) first second (length (now (answer .entry)))))
         r (now (ledger .exit)) (now (answer .entry)) (now (answer .exit))) ⌝ }
@@ -122,6 +136,7 @@ pub fn ask_roles(
         head,
         assigned,
         xs,
+        count,
         user,
         session,
         lower,
@@ -144,6 +159,7 @@ pub fn ask_roles(
         granted,
         juniors,
         xs,
+        count,
         authorized,
         u,
         k,

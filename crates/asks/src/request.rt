@@ -1,16 +1,17 @@
 // What refuses an ask before any role set is looked for: the refusals 12 to 19.
 ghost use mathlib.Core.Path.{_≡_};
 ghost use Prim.Native.Nat.{_≤_};
+ghost use lib.ListN.{length};
 ghost use Rattle.model.specs.Policy.{Policy};
 ghost use Rattle.calls.specs.Calls.{Known};
 ghost use Rattle.sets.specs.Words.{value};
+ghost use Rattle.rows.specs.Rows.{exclusionsIn};
 ghost use Rattle.asks.specs.Asks.{sessionRefusal, boundsRefusal, queryRefusal, askRefusal};
 use crate::bounds::below;
 use crate::bounds::bound;
 use calls::first::first_refusal;
 use ledger::bytes::line_of;
 use ledger::change::is_open;
-use model::Exclusions;
 use model::Head;
 use model::Line;
 use model::SESSIONS;
@@ -86,7 +87,8 @@ pub fn ask_refusal(
     ledger: &[u8],
     head: Head,
     assigned: &[u64; 64],
-    xs: Exclusions,
+    xs: &[[u64; 2]; 32],
+    count: usize,
     user: u64,
     session: u64,
     lower: &[u8],
@@ -95,11 +97,11 @@ pub fn ask_refusal(
     second: u64,
     room: usize,
 ) -> u64
-    requires { ⌜ (head .users ≤ 64) × (xs .count ≤ 32) ⌝ }
-    ensures { λ r. ⌜ ((p : Policy) → Known head (now (assigned .entry)) xs p
+    requires { ⌜ (head .users ≤ 64) × (count ≤ 32) × (length (now xs) ≡ 32) ⌝ }
+    ensures { λ r. ⌜ ((p : Policy) → Known head (now (assigned .entry)) (exclusionsIn (now (xs .entry)) count) p
         → r ≡ askRefusal 4 p (now (ledger .entry)) user session (now (lower .entry)) (now (upper .entry)) first second room) ⌝ }
 {
-    let n = first_refusal(ledger, head, assigned, xs, user);
+    let n = first_refusal(ledger, head, assigned, xs, count, user);
     if n != 0 {
         return n;
     }

@@ -1,15 +1,16 @@
 // Closing a session under an accepted policy.
 ghost use mathlib.Core.Path.{_≡_};
 ghost use Prim.Native.Nat.{_≤_};
+ghost use lib.ListN.{length};
 ghost use Rattle.model.specs.Policy.{Policy};
 ghost use Rattle.model.specs.Run.{stepOn, closeBy};
+ghost use Rattle.rows.specs.Rows.{exclusionsIn};
 ghost use Rattle.calls.specs.Calls.{Known, Gives};
 use crate::first::first_refusal;
 use ledger::bytes::line_of;
 use ledger::bytes::put_line;
 use ledger::change::closed;
 use ledger::change::is_open;
-use model::Exclusions;
 use model::Head;
 use model::SESSIONS;
 
@@ -18,15 +19,16 @@ pub fn close_session(
     ledger: &mut [u8],
     head: Head,
     assigned: &[u64; 64],
-    xs: Exclusions,
+    xs: &[[u64; 2]; 32],
+    count: usize,
     user: u64,
     session: u64,
 ) -> u64
-    requires { ⌜ (head .users ≤ 64) × (xs .count ≤ 32) ⌝ }
-    ensures { λ r. ⌜ ((p : Policy) → Known head (now (assigned .entry)) xs p
+    requires { ⌜ (head .users ≤ 64) × (count ≤ 32) × (length (now xs) ≡ 32) ⌝ }
+    ensures { λ r. ⌜ ((p : Policy) → Known head (now (assigned .entry)) (exclusionsIn (now (xs .entry)) count) p
         → Gives (stepOn 4 p (now (ledger .entry)) (closeBy user session)) r (now (ledger .exit))) ⌝ }
 {
-    let n = first_refusal(ledger, head, assigned, xs, user);
+    let n = first_refusal(ledger, head, assigned, xs, count, user);
     if n != 0 {
         return n;
     }

@@ -1,12 +1,13 @@
 // The first steps of a call on a line, once its image is accepted: the refusals 9 to 11.
 ghost use mathlib.Core.Path.{_≡_};
 ghost use Prim.Native.Nat.{_≤_};
+ghost use lib.ListN.{length};
 ghost use Rattle.model.specs.Policy.{Policy};
+ghost use Rattle.rows.specs.Rows.{exclusionsIn};
 ghost use Rattle.calls.specs.Calls.{Known, firstRefusal};
 use ledger::bytes::LINE;
 use ledger::bytes::line_of;
 use ledger::sound::sound;
-use model::Exclusions;
 use model::Head;
 
 // 9 for a ledger that does not fit, 10 for a user without a line, 11 for a line that is not sound, else 0.
@@ -14,11 +15,12 @@ pub fn first_refusal(
     ledger: &[u8],
     head: Head,
     assigned: &[u64; 64],
-    xs: Exclusions,
+    xs: &[[u64; 2]; 32],
+    count: usize,
     user: u64,
 ) -> u64
-    requires { ⌜ (head .users ≤ 64) × (xs .count ≤ 32) ⌝ }
-    ensures { λ r. ⌜ ((p : Policy) → Known head (now (assigned .entry)) xs p → r ≡ firstRefusal 4 p (now (ledger .entry)) user) ⌝ }
+    requires { ⌜ (head .users ≤ 64) × (count ≤ 32) × (length (now xs) ≡ 32) ⌝ }
+    ensures { λ r. ⌜ ((p : Policy) → Known head (now (assigned .entry)) (exclusionsIn (now (xs .entry)) count) p → r ≡ firstRefusal 4 p (now (ledger .entry)) user) ⌝ }
 {
     let users = head.users as usize;
     if ledger.len() != LINE * users {
@@ -30,7 +32,7 @@ pub fn first_refusal(
     let u = user as usize;
     let l = line_of(ledger, u);
     let authorized = assigned[u];
-    if !sound(l, head.roles, authorized, xs) {
+    if !sound(l, head.roles, authorized, xs, count) {
         return 11;
     }
     0

@@ -5,12 +5,12 @@ ghost use lib.ListN.{length};
 ghost use Rattle.model.specs.Policy.{Policy};
 ghost use Rattle.model.specs.Run.{stepOn, showBy};
 ghost use Rattle.sets.specs.Words.{values};
+ghost use Rattle.rows.specs.Rows.{exclusionsIn};
 ghost use Rattle.calls.specs.Calls.{Known, Shows};
 use crate::answer::fill;
 use crate::first::first_refusal;
 use ledger::bytes::line_of;
 use ledger::change::is_open;
-use model::Exclusions;
 use model::Head;
 use model::SESSIONS;
 use tables::carried::carried_by;
@@ -23,18 +23,19 @@ pub fn show_session(
     assigned: &[u64; 64],
     granted: &[[u64; 4]; 64],
     juniors: &mut [u64; 64],
-    xs: Exclusions,
+    xs: &[[u64; 2]; 32],
+    count: usize,
     user: u64,
     session: u64,
     answer: &mut [u8],
 ) -> u64
-    requires { ⌜ (head .users ≤ 64) × (head .roles ≤ 64) × (xs .count ≤ 32) × (length (now juniors) ≡ 64) ⌝ }
-    ensures { λ r. ⌜ ((p : Policy) → Known head (now (assigned .entry)) xs p → values (now (granted .entry)) ≡ p .granted
+    requires { ⌜ (head .users ≤ 64) × (head .roles ≤ 64) × (count ≤ 32) × (length (now juniors) ≡ 64) × (length (now xs) ≡ 32) ⌝ }
+    ensures { λ r. ⌜ ((p : Policy) → Known head (now (assigned .entry)) (exclusionsIn (now (xs .entry)) count) p → values (now (granted .entry)) ≡ p .granted
         → now (juniors .entry) ≡ p .juniors
         → Shows (stepOn 4 p (now (ledger .entry)) (showBy user session (length (now (answer .entry))))) r (now (answer .entry))
         (now (answer .exit))) ⌝ }
 {
-    let n = first_refusal(ledger, head, assigned, xs, user);
+    let n = first_refusal(ledger, head, assigned, xs, count, user);
     if n != 0 {
         return n;
     }

@@ -1,26 +1,14 @@
 // A word decoded: the head's numbers, or what a word behind the head says, in the enum of entries.
 ghost use mathlib.Core.Path.{_≡_};
-ghost use Rattle.model.specs.Image.{kindOf, decode as decodeOf, headOf, headRight};
+ghost use Rattle.model.specs.Image.{decode as decodeOf, headOf, headRight};
 ghost use Rattle.image.specs.Bounds.{Small};
 use model::Entry;
 use model::Exclusion;
 use model::Head;
-use model::Kind;
 use model::Permission;
 use model::Role;
 use model::User;
 use model::Word;
-
-fn kind_of(k: u8) -> Kind
-    ensures { λ r. ⌜ r ≡ kindOf k ⌝ }
-{
-    match k {
-        0 => Kind::SsDmer,
-        1 => Kind::MsDmer,
-        2 => Kind::SsHmer,
-        _ => Kind::MsHmer,
-    }
-}
 
 // A word behind the head: what it says, and its spare bits.
 pub fn decode(w: u32) -> Word
@@ -42,7 +30,7 @@ pub fn decode(w: u32) -> Word
             spare: w % 65536,
         },
         5 => {
-            let k = kind_of((w / 67108864 % 4) as u8);
+            let k = rows::kind_of((w / 67108864 % 4) as u8);
             let x = Exclusion {
                 kind: k,
                 limit: (w / 524288 % 128) as u8,

@@ -3,15 +3,17 @@ ghost use mathlib.Core.Path.{_≡_};
 ghost use mathlib.Core.Bool.{Bool};
 ghost use Prim.Native.Nat.{_≤_, _<_, _^_};
 ghost use lib.Dec.{ltb};
+ghost use lib.ListN.{length};
 ghost use Rattle.model.specs.Policy.{Meaning, met};
 ghost use Rattle.model.specs.Line.{activeIn, counted as countedBy, exclusionsMet, sessionSound, sessionsSound, sound as soundBy};
+ghost use Rattle.rows.specs.Rows.{exclusionsIn};
 ghost use Rattle.ledger.specs.Held.{metAt, Listed, Held};
 use model::Exclusion;
-use model::Exclusions;
 use model::Kind;
 use model::Line;
 use model::SESSIONS;
 use model::Session;
+use rows::exclusion_of;
 
 // ---- exclusions
 
@@ -64,13 +66,12 @@ fn exclusion_met(l: Line, x: Exclusion) -> bool
 }
 
 // Every exclusion is met at every session.
-pub fn exclusions_met(l: Line, xs: Exclusions) -> bool
-    requires { ⌜ xs .count ≤ 32 ⌝ }
-    ensures { λ r. ⌜ ((m : Meaning) → Listed xs m → r ≡ exclusionsMet m l) ⌝ }
+pub fn exclusions_met(l: Line, xs: &[[u64; 2]; 32], count: usize) -> bool
+    requires { ⌜ (count ≤ 32) × (length (now xs) ≡ 32) ⌝ }
+    ensures { λ r. ⌜ ((m : Meaning) → Listed (exclusionsIn (now (xs .entry)) count) m → r ≡ exclusionsMet m l) ⌝ }
 {
-    let count = xs.count;
     for i in 0..count {
-        let x = xs.list[i];
+        let x = exclusion_of(xs[i]);
         if !exclusion_met(l, x) {
             return false;
         }
@@ -119,12 +120,12 @@ fn below(set: u64, n: u8) -> bool
 }
 
 // The line is sound.
-pub fn sound(l: Line, roles: u8, authorized: u64, xs: Exclusions) -> bool
-    requires { ⌜ xs .count ≤ 32 ⌝ }
-    ensures { λ r. ⌜ ((m : Meaning) → Held roles authorized xs m → r ≡ soundBy 4 m l) ⌝ }
+pub fn sound(l: Line, roles: u8, authorized: u64, xs: &[[u64; 2]; 32], count: usize) -> bool
+    requires { ⌜ (count ≤ 32) × (length (now xs) ≡ 32) ⌝ }
+    ensures { λ r. ⌜ ((m : Meaning) → Held roles authorized (exclusionsIn (now (xs .entry)) count) m → r ≡ soundBy 4 m l) ⌝ }
 {
     let opened = below(l.opened, SESSIONS as u8);
     let history = below(l.history, roles);
     let sessions = sessions_sound(l, authorized);
-    opened & history & sessions & exclusions_met(l, xs)
+    opened & history & sessions & exclusions_met(l, xs, count)
 }

@@ -5,7 +5,6 @@ use mathlib.Core.List.{List, [], _∷_}
 use Prim.Native.Nat.{ℕ, _≤_}
 use lib.ListN.{length, replicate}
 use Rattle.model.specs.declared.Head.{Head}
-use Rattle.model.specs.declared.Exclusions.{Exclusions}
 use Rattle.model.specs.declared.Entry.{Entry}
 use Rattle.model.specs.declared.Checked.the-variants.{Accepted, Refused}
 use Rattle.model.specs.Image.{emptyRows, judge, checkNumber}
@@ -15,6 +14,7 @@ use Rattle.model.specs.Run.{Call, Event, stepOn, stepBy, step, returned, filled
 use Rattle.model.proofs.Accepted.{accepted-head, accepted-in-range}
 use Rattle.model.proofs.Tables.{ordering-length}
 use Rattle.sets.specs.Words.{value, values}
+use Rattle.rows.specs.Rows.{exclusionsIn}
 use Rattle.tables.specs.Tables.{Fresh, Tables}
 use Rattle.calls.specs.Calls.{Known, Gives, Shows}
 use Rattle.asks.specs.Asks.{Answers}
@@ -43,9 +43,10 @@ unfolding policyOf emptyRows
 length-juniors s = ordering-keeps (entriesOf s) emptyRows
 
 -- an accepted image's tables are known
-pub known-of : (s : List ℕ) (h : Head) (assigned granted juniors : List ℕ) (xs : Exclusions) → judge s ≡ Accepted h
-    → Tables (policyOf s) assigned granted juniors xs → Known h assigned xs (policyOf s)
-known-of s h assigned granted juniors xs e t =
+pub known-of : (s : List ℕ) (h : Head) (assigned granted juniors : List ℕ) (rows : List (List ℕ)) (count : ℕ) → judge s ≡ Accepted h
+    → Tables (policyOf s) assigned granted juniors rows count → Known h assigned (exclusionsIn rows count) (policyOf s)
+unfolding exclusionsIn
+known-of s h assigned granted juniors rows count e t =
     record { head-is = accepted-head s h e; assigned-is = t .assigned-is; exclusions-are = t .exclusions-are }
 
 module _ (W : ℕ) (s ledger : List ℕ) (c : Call) where

@@ -33,13 +33,14 @@ pub extern "C" fn nutrameza_open(image: &[u8], ledger: &mut [u8], user: u64) -> 
     let mut assigned = [0u64; 64];
     let mut granted = [[0u64; 4]; 64];
     let mut juniors = [0u64; 64];
-    let all = tables::read::read(image, &mut assigned, &mut granted, &mut juniors);
+    let mut xs = [[0u64; 2]; 32];
+    let all = tables::read::read(image, &mut assigned, &mut granted, &mut juniors, &mut xs);
     let c = all.checked;
     let Checked::Accepted(head) = c else {
         return refusal_of(c);
     };
-    let xs = all.exclusions;
-    calls::open::open_session(ledger, head, &assigned, xs, user)
+    let count = all.count;
+    calls::open::open_session(ledger, head, &assigned, &xs, count, user)
 }
 
 // Closes the user's session.
@@ -51,13 +52,14 @@ pub extern "C" fn nutrameza_close(image: &[u8], ledger: &mut [u8], user: u64, se
     let mut assigned = [0u64; 64];
     let mut granted = [[0u64; 4]; 64];
     let mut juniors = [0u64; 64];
-    let all = tables::read::read(image, &mut assigned, &mut granted, &mut juniors);
+    let mut xs = [[0u64; 2]; 32];
+    let all = tables::read::read(image, &mut assigned, &mut granted, &mut juniors, &mut xs);
     let c = all.checked;
     let Checked::Accepted(head) = c else {
         return refusal_of(c);
     };
-    let xs = all.exclusions;
-    calls::close::close_session(ledger, head, &assigned, xs, user, session)
+    let count = all.count;
+    calls::close::close_session(ledger, head, &assigned, &xs, count, user, session)
 }
 
 // Shows the active roles of the user's session and the permissions that they carry.
@@ -76,19 +78,21 @@ pub extern "C" fn nutrameza_show(
     let mut assigned = [0u64; 64];
     let mut granted = [[0u64; 4]; 64];
     let mut juniors = [0u64; 64];
-    let all = tables::read::read(image, &mut assigned, &mut granted, &mut juniors);
+    let mut xs = [[0u64; 2]; 32];
+    let all = tables::read::read(image, &mut assigned, &mut granted, &mut juniors, &mut xs);
     let c = all.checked;
     let Checked::Accepted(head) = c else {
         return refusal_of(c);
     };
-    let xs = all.exclusions;
+    let count = all.count;
     calls::show::show_session(
         ledger,
         head,
         &assigned,
         &granted,
         &mut juniors,
-        xs,
+        &xs,
+        count,
         user,
         session,
         answer,
@@ -115,19 +119,21 @@ pub extern "C" fn nutrameza_ask(
     let mut assigned = [0u64; 64];
     let mut granted = [[0u64; 4]; 64];
     let mut juniors = [0u64; 64];
-    let all = tables::read::read(image, &mut assigned, &mut granted, &mut juniors);
+    let mut xs = [[0u64; 2]; 32];
+    let all = tables::read::read(image, &mut assigned, &mut granted, &mut juniors, &mut xs);
     let c = all.checked;
     let Checked::Accepted(head) = c else {
         return refusal_of(c);
     };
-    let xs = all.exclusions;
+    let count = all.count;
     asks::ask::ask_roles(
         ledger,
         head,
         &assigned,
         &granted,
         &mut juniors,
-        xs,
+        &xs,
+        count,
         user,
         session,
         lower,

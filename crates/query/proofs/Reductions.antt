@@ -169,17 +169,20 @@ module _ (xs : List Exclusion) (d : Exclusion) (elsewhere session user : ℕ) wh
   pub filled-none : (masks rooms : List ℕ) → length masks ≡ 32 → length rooms ≡ 32 → Filled xs d elsewhere session user masks rooms 0
   filled-none masks rooms a b = record { long = a; wide = b; mask = λ i q. absurd (omega arith); room = λ i q. absurd (omega arith) }
 
-  pub filled-next : (masks rooms : List ℕ) (n base v w : ℕ) → n < 32 → Filled xs d elsewhere session user masks rooms n
-      → base ≡ stay (getD xs n d .kind) elsewhere session user → v ≡ maskOf (getD xs n d .members) base → w ≡ roomOf (getD xs n d .members) (getD xs n d .limit) base
+  pub filled-next : (masks rooms : List ℕ) (n base v w : ℕ) (x : Exclusion) → n < 32 → Filled xs d elsewhere session user masks rooms n
+      → x ≡ getD xs n d → base ≡ stay (x .kind) elsewhere session user → v ≡ maskOf (x .members) base → w ≡ roomOf (x .members) (x .limit) base
       → Filled xs d elsewhere session user (set masks n v) (set rooms n w) (n + 1)
-  filled-next masks rooms n base v w q f eb ev ew =
+  filled-next masks rooms n base v w x q f ex eb ev ew =
+      let kb : base ≡ stay (getD xs n d .kind) elsewhere session user = eb ∙ ap (λ (y : Exclusion). stay (y .kind) elsewhere session user) ex in
+      let kv : v ≡ maskOf (getD xs n d .members) base = ev ∙ ap (λ (y : Exclusion). maskOf (y .members) base) ex in
+      let kw : w ≡ roomOf (getD xs n d .members) (getD xs n d .limit) base = ew ∙ ap (λ (y : Exclusion). roomOf (y .members) (y .limit) base) ex in
       record {
         long = length-set masks n v ∙ f .long;
         wide = length-set rooms n w ∙ f .wide;
         mask = stored (λ i. maskOf (getD xs i d .members) (stay (getD xs i d .kind) elsewhere session user)) masks n v (subst (λ (x : ℕ). n < x) (sym (f .long)) q) (f .mask)
-            (ev ∙ ap (maskOf (getD xs n d .members)) eb);
+            (kv ∙ ap (maskOf (getD xs n d .members)) kb);
         room = stored (λ i. roomOf (getD xs i d .members) (getD xs i d .limit) (stay (getD xs i d .kind) elsewhere session user)) rooms n w (subst (λ (x : ℕ). n < x) (sym (f .wide)) q) (f .room)
-            (ew ∙ ap (roomOf (getD xs n d .members) (getD xs n d .limit)) eb);
+            (kw ∙ ap (roomOf (getD xs n d .members) (getD xs n d .limit)) kb);
       }
 
 -- all done, they are reduced for the line and session k

@@ -1,15 +1,17 @@
 // The exclusions reduced, once per ask, to what roles put in for one session may still add (000, Theorem 4.4.1).
 ghost use mathlib.Core.Path.{_≡_};
 ghost use Prim.Native.Nat.{_≤_, _<_};
+ghost use lib.ListN.{length};
 ghost use Rattle.model.specs.Line.{activeIn};
 ghost use Rattle.model.specs.Conditions.{others};
+ghost use Rattle.rows.specs.Rows.{exclusionsIn};
 ghost use Rattle.query.specs.Rooms.{stay, maskOf, roomOf};
 ghost use Rattle.query.specs.Reduction.{Reduces};
-use model::Exclusions;
 use model::Kind;
 use model::Line;
 use model::SESSIONS;
 use model::Session;
+use rows::exclusion_of;
 
 // Each exclusion by the members that are not counted yet and by its room, one more than the number of them that may still join: the
 // first `count` of both lists.
@@ -77,21 +79,19 @@ fn room_of(members: u64, limit: u8, base: u64) -> u32
 }
 
 // The exclusions, for roles to be put in for session k of the line.
-pub fn reduce(exclusions: Exclusions, line: Line, k: usize) -> Reduced
-    requires { ⌜ (exclusions .count ≤ 32) × (k < 4) ⌝ }
-    ensures { λ r. ⌜ (r .count ≡ exclusions .count) × (Reduces exclusions line k (r .masks) (r .rooms)) ⌝ }
+pub fn reduce(xs: &[[u64; 2]; 32], count: usize, line: Line, k: usize) -> Reduced
+    requires { ⌜ (count ≤ 32) × (length (now xs) ≡ 32) × (k < 4) ⌝ }
+    ensures { λ r. ⌜ (r .count ≡ count) × (Reduces (exclusionsIn (now (xs .entry)) count) line k (r .masks) (r .rooms)) ⌝ }
 {
     let sessions = line.sessions;
     let elsewhere = active_elsewhere(sessions, k);
     let own = sessions[k].history;
     let user = line.history;
-    let list = exclusions.list;
-    let count = exclusions.count;
     let mut masks = [0u64; 32];
     let mut rooms = [0u32; 32];
     let mut i: usize = 0;
     while i < count {
-        let x = list[i];
+        let x = exclusion_of(xs[i]);
         let kind = x.kind;
         let base = staying(kind, elsewhere, own, user);
         masks[i] = mask_of(x.members, base);

@@ -6,7 +6,6 @@ use Prim.Native.Nat.{ℕ, zero, suc, _+_, _-_, _/_, _≤_, _<_}
 use native.Mathlib.Omega.{arith}
 use lib.ListN.{length, getD, set, List·getD-map}
 use Rattle.sets.specs.Words.{value, values}
-use Rattle.model.specs.declared.Exclusions.{Exclusions}
 use Rattle.model.specs.declared.Entry.{Entry}
 use Rattle.model.specs.declared.Word.{Word}
 use Rattle.model.specs.Sets.{with}
@@ -32,10 +31,10 @@ pub values-at : (rows : List (List ℕ)) (r : ℕ) → getD (values rows) r 0 �
 unfolding values value
 values-at rows r = List·getD-map value rows r []
 
-map-set : {A : Type 0} (f : A → ℕ) (l : List A) (i : ℕ) (y : A) → map f (set l i y) ≡ set (map f l) i (f y)
+pub map-set : {A B : Type 0} (f : A → B) (l : List A) (i : ℕ) (y : A) → map f (set l i y) ≡ set (map f l) i (f y)
 map-set f [] i y = refl
 map-set f (x ∷ l) zero y = refl
-map-set f (x ∷ l) (suc i) y = ap (λ (t : List ℕ). f x ∷ t) (map-set f l i y)
+map-set {A} {B} f (x ∷ l) (suc i) y = ap (λ (t : List B). f x ∷ t) (map-set f l i y)
 
 pub values-set : (rows : List (List ℕ)) (r : ℕ) (row : List ℕ) → values (set rows r row) ≡ set (values rows) r (value row)
 unfolding values
@@ -47,10 +46,10 @@ pub row-put : (rows : List (List ℕ)) (r p : ℕ) (row : List ℕ) → value ro
 row-put rows r p row e = values-set rows r row ∙ ap (set (values rows) r) (e ∙ ap (λ (x : ℕ). with x p) (sym (values-at rows r)))
 
 -- ---- the whole: what was gathered from empty tables is the policy's
-pub tables-of : (s : List ℕ) (a₀ g₀ j₀ a g j : List ℕ) (xs : Exclusions) → Fresh a₀ g₀ j₀ → Gathered s (length s / 4 - 1) a₀ g₀ j₀ a g j xs
-    → Tables (policyOf s) a g j xs
+pub tables-of : (s : List ℕ) (a₀ g₀ j₀ a g j : List ℕ) (rows : List (List ℕ)) (count : ℕ) → Fresh a₀ g₀ j₀
+    → Gathered s (length s / 4 - 1) a₀ g₀ j₀ a g j rows count → Tables (policyOf s) a g j rows count
 unfolding policyOf entriesOf behindHead
-tables-of s a₀ g₀ j₀ a g j xs f t =
+tables-of s a₀ g₀ j₀ a g j rows count f t =
     let es : List Entry = entriesFrom s (length s / 4 - 1) 1 in
     record {
       assigned-is = t .assigned-is ∙ ap (λ (x : List ℕ). fold assigning x es) (f .assigned-none);
@@ -58,4 +57,5 @@ tables-of s a₀ g₀ j₀ a g j xs f t =
       juniors-is = t .juniors-is ∙ ap (λ (x : List ℕ). fold ordering x es) (f .juniors-none);
       exclusions-are = t .exclusions-are;
       few = t .few;
+      full = t .full;
     }

@@ -7,7 +7,7 @@ use Prim.Native.Nat.{ℕ, zero, suc, _+_, _-_, _≤_, _<_}
 use native.Mathlib.Omega.{arith}
 use native.Mathlib.Numerals.{add-one}
 use lib.Dec.{eqb, ltb}
-use lib.ListN.{length, getD, set, take, replicate, length-set}
+use lib.ListN.{length, getD, set, take, replicate, length-set, length-map}
 use lib.Seq.{take-suc, take-suc-set, getD-set-same, getD-set-other, set-out, append-snoc}
 use borrow.Author.Tests.{eqb-true, eqb-false, ltb-true, ltb-false}
 use Rattle.model.specs.declared.Exclusion.{Exclusion}
@@ -18,7 +18,9 @@ use Rattle.model.specs.declared.Word.{Word}
 use Rattle.model.specs.Image.{wordAt, decode, next}
 use Rattle.model.specs.Policy.{entryAt, entriesFrom, fold, joining, withMembers, exclusionsOf}
 use Rattle.image.specs.Bounds.{Due}
+use Rattle.rows.specs.Rows.{exclusionOf}
 use Rattle.tables.specs.Tables.{noting, exclusionBy, exclusionAt}
+use Rattle.tables.proofs.Fills.{map-set}
 
 -- the place first, where the entry is an exclusion
 unfoldable pub placed : Entry → ℕ → List ℕ → List ℕ
@@ -171,12 +173,14 @@ members-of s words place to m x set lt le ge lm all e =
     let k = take-entries s m (words - (place + 1)) (to - (place + 1)) (place + 1) (omega arith) (omega arith) (λ l. let z = all (omega arith) in omega arith) in
     rw (e, k)
 
--- ---- a turn of the loop that reads the exclusions at the places
-module _ (f : ℕ → Exclusion) (places : List ℕ) (list : List Exclusion) (i : ℕ) (e : take i list ≡ map f (take i places)) where
-  pub one-read : (x : Exclusion) → i < length list → i < length places → x ≡ f (getD places i 0)
-      → take (i + 1) (set list i x) ≡ map f (take (i + 1) places)
-  one-read x hl hp ex =
-      ap (λ (n : ℕ). take n (set list i x)) (add-one i) ∙ take-suc-set list i x hl
+-- ---- a turn of the loop that reads the exclusions at the places, a row each
+module _ (f : ℕ → Exclusion) (places : List ℕ) (rows : List (List ℕ)) (i : ℕ) (e : take i (map exclusionOf rows) ≡ map f (take i places)) where
+  pub one-read : (row : List ℕ) → i < length rows → i < length places → exclusionOf row ≡ f (getD places i 0)
+      → take (i + 1) (map exclusionOf (set rows i row)) ≡ map f (take (i + 1) places)
+  one-read row hl hp ex =
+      let h : i < length (map exclusionOf rows) = rw length-map hl in
+      ap₂ (λ (n : ℕ) (xs : List Exclusion). take n xs) (add-one i) (map-set exclusionOf rows i row)
+      ∙ take-suc-set (map exclusionOf rows) i (exclusionOf row) h
       ∙ ap₂ (λ (ys : List Exclusion) (y : Exclusion). ys ++ (y ∷ [])) e ex
       ∙ sym (map-append f (take i places) (getD places i 0 ∷ []))
       ∙ ap (map f) (sym (ap (λ (n : ℕ). take n places) (add-one i) ∙ take-suc places i 0 hp))

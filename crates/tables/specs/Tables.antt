@@ -2,19 +2,19 @@
 -- Assumes nothing.
 use mathlib.Core.Path.{_≡_}
 use mathlib.Core.Bool.{Bool}
-use mathlib.Core.List.{List}
+use mathlib.Core.List.{List, map}
 use Prim.Native.Nat.{ℕ, _+_, _-_, _≤_}
-use lib.ListN.{set, take}
+use lib.ListN.{length, set, take}
 use Rattle.model.specs.declared.Head.{Head}
 use Rattle.model.specs.declared.Kind.the-variants.{SsDmer}
 use Rattle.model.specs.declared.Exclusion.{Exclusion}
-use Rattle.model.specs.declared.Exclusions.{Exclusions}
 use Rattle.model.specs.declared.Scan.{Scan}
 use Rattle.model.specs.declared.Word.{Word}
 use Rattle.model.specs.declared.Entry.{Entry}
 use Rattle.model.specs.declared.Entry.the-variants.{Assignment, Grant, Senior, Exclude, Member, End, Unknown}
 use Rattle.model.specs.Image.{fault, assigning, emptyRows}
 use Rattle.model.specs.Policy.{Policy, entryAt, entriesFrom, fold, granting, ordering, withMembers, exclusionsOf}
+use Rattle.rows.specs.Rows.{exclusionOf}
 
 -- ---- exclusions, by the places of their words
 
@@ -62,12 +62,13 @@ pub record Step
 
 -- the tables after n words from place 1, which held the first three before, and the exclusions among those words
 pub record Gathered
-    (s : List ℕ) (n : ℕ) (assigned₀ granted₀ juniors₀ : List ℕ) (assigned granted juniors : List ℕ) (xs : Exclusions) : Type 0 where
+    (s : List ℕ) (n : ℕ) (assigned₀ granted₀ juniors₀ : List ℕ) (assigned granted juniors : List ℕ) (rows : List (List ℕ)) (count : ℕ) : Type 0 where
   pub assigned-is : assigned ≡ fold assigning assigned₀ (entriesFrom s n 1)
   pub granted-is : granted ≡ fold granting granted₀ (entriesFrom s n 1)
   pub juniors-is : juniors ≡ fold ordering juniors₀ (entriesFrom s n 1)
-  pub exclusions-are : take (xs .count) (xs .list) ≡ exclusionsOf (entriesFrom s n 1)
-  pub few : xs .count ≤ 32
+  pub exclusions-are : take count (map exclusionOf rows) ≡ exclusionsOf (entriesFrom s n 1)
+  pub few : count ≤ 32
+  pub full : length rows ≡ 32
 
 -- tables before any word
 pub record Fresh (assigned granted juniors : List ℕ) : Type 0 where
@@ -76,9 +77,10 @@ pub record Fresh (assigned granted juniors : List ℕ) : Type 0 where
   pub juniors-none : juniors ≡ emptyRows
 
 -- the tables and the exclusions are those of the policy
-pub record Tables (p : Policy) (assigned granted juniors : List ℕ) (xs : Exclusions) : Type 0 where
+pub record Tables (p : Policy) (assigned granted juniors : List ℕ) (rows : List (List ℕ)) (count : ℕ) : Type 0 where
   pub assigned-is : assigned ≡ p .assigned
   pub granted-is : granted ≡ p .granted
   pub juniors-is : juniors ≡ p .juniors
-  pub exclusions-are : take (xs .count) (xs .list) ≡ p .exclusions
-  pub few : xs .count ≤ 32
+  pub exclusions-are : take count (map exclusionOf rows) ≡ p .exclusions
+  pub few : count ≤ 32
+  pub full : length rows ≡ 32

@@ -5,12 +5,13 @@ ghost use Prim.Native.Nat.{ℕ, _+_, _-_, _*_, _≤_, _<_};
 ghost use lib.ListN.{length, getD, take};
 ghost use Rattle.model.specs.Policy.{fold, joining, entriesFrom};
 ghost use Rattle.image.specs.Bounds.{Small};
+ghost use Rattle.rows.specs.Rows.{exclusionOf};
 ghost use Rattle.tables.specs.Tables.{nothing as nothingOf, exclusionAt};
 use image::word::decode;
 use model::Entry;
 use model::Exclusion;
-use model::Exclusions;
 use model::Kind;
+use rows::row_of;
 
 // No exclusion.
 pub fn nothing() -> Exclusion
@@ -92,21 +93,21 @@ fn exclusion_at(image: &[u8], words: usize, place: usize) -> Exclusion
     }
 }
 
-// The exclusions at the first `count` of the places.
-pub fn exclusions_at(image: &[u8], words: usize, places: &[usize; 32], count: usize) -> Exclusions
+// The exclusions at the first `count` of the places, a row each.
+pub fn exclusions_at(
+    image: &[u8],
+    words: usize,
+    places: &[usize; 32],
+    count: usize,
+    xs: &mut [[u64; 2]; 32],
+)
     requires { ⌜ (4 * words ≤ length (now image)) × (words ≤ 4096) × (count ≤ 32) × (length (now places) ≡ 32)
-        × ((i : ℕ) → getD (now places) i 0 < words) ⌝ }
-    ensures { λ xs. ⌜ (take (xs .count) (xs .list) ≡ map (exclusionAt (now (image .entry)) words) (take count (now (places .entry))))
-        × (xs .count ≡ count) ⌝ }
+        × ((i : ℕ) → getD (now places) i 0 < words) × (length (now xs) ≡ 32) ⌝ }
+    ensures { λ _. ⌜ (take count (map exclusionOf (now (xs .exit))) ≡ map (exclusionAt (now (image .entry)) words) (take count (now (places .entry))))
+        × (length (now (xs .exit)) ≡ 32) ⌝ }
 {
-    let mut list = [Exclusion {
-        kind: Kind::SsDmer,
-        limit: 0,
-        members: 0,
-    }; 32];
     for i in 0..count {
-        let x = exclusion_at(image, words, places[i]);
-        list[i] = x;
+        let row = row_of(exclusion_at(image, words, places[i]));
+        xs[i] = row;
     }
-    Exclusions { list, count }
 }

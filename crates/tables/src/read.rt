@@ -24,18 +24,16 @@ use image::word::head_right;
 use model::Checked;
 use model::Entry;
 use model::Exclusion;
-use model::Exclusions;
 use model::Head;
-use model::Kind;
 use model::Permission;
 use model::Role;
 use model::Scan;
 use model::Word;
 
-// What a pass over an image answers: the judgement and, of an accepted image, the exclusions.
+// What a pass over an image answers: the judgement and, of an accepted image, the number of exclusions.
 pub struct Reading {
     pub checked: Checked,
-    pub exclusions: Exclusions,
+    pub count: usize,
 }
 
 // ---- a word judged and, where it has no fault, taken in
@@ -132,14 +130,7 @@ fn refused(number: u8, place: u16) -> Reading
 {
     Reading {
         checked: Checked::Refused(number, place),
-        exclusions: Exclusions {
-            list: [Exclusion {
-                kind: Kind::SsDmer,
-                limit: 0,
-                members: 0,
-            }; 32],
-            count: 0,
-        },
+        count: 0,
     }
 }
 
@@ -151,12 +142,13 @@ fn read_words(
     assigned: &mut [u64; 64],
     granted: &mut [[u64; 4]; 64],
     juniors: &mut [u64; 64],
+    xs: &mut [[u64; 2]; 32],
 ) -> Reading
-    requires { ⌜ (4 * words ≤ length (now image)) × (1 ≤ words) × (words ≤ 4096) ⌝ }
+    requires { ⌜ (4 * words ≤ length (now image)) × (1 ≤ words) × (words ≤ 4096) × (length (now xs) ≡ 32) ⌝ }
     ensures { λ r. ⌜ (r .checked ≡ scan (now (image .entry)) h (words - 1) 1 (now (assigned .entry)) start first)
         × ((g : HeadOf) → r .checked ≡ Checked.Accepted g
         → Gathered (now (image .entry)) (words - 1) (now (assigned .entry)) (values (now (granted .entry))) (now (juniors .entry))
-        (now (assigned .exit)) (values (now (granted .exit))) (now (juniors .exit)) (r .exclusions)) ⌝ }
+        (now (assigned .exit)) (values (now (granted .exit))) (now (juniors .exit)) (now (xs .exit)) (r .count)) ⌝ }
 {
     let mut places = [0usize; 32];
     let mut t = Scan {
@@ -189,25 +181,27 @@ fn read_words(
     if sum % 268435456 != 0 {
         return refused(8, (words - 1) as u16);
     }
-    let exclusions = exclusions_at(image, words, &places, t.exclusions as usize);
+    let count = t.exclusions as usize;
+    exclusions_at(image, words, &places, count, xs);
     Reading {
         checked: Checked::Accepted(h),
-        exclusions,
+        count,
     }
 }
 
-// Judges an image and, where it is accepted, leaves in the tables the roles assigned to each user, the permissions granted to each role
-// and the direct juniors of each role.
+// Judges an image and, where it is accepted, leaves in the tables the roles assigned to each user, the permissions granted to each role,
+// the direct juniors of each role and the exclusions.
 pub fn read(
     image: &[u8],
     assigned: &mut [u64; 64],
     granted: &mut [[u64; 4]; 64],
     juniors: &mut [u64; 64],
+    xs: &mut [[u64; 2]; 32],
 ) -> Reading
-    requires { ⌜ Fresh (now assigned) (values (now granted)) (now juniors) ⌝ }
+    requires { ⌜ (Fresh (now assigned) (values (now granted)) (now juniors)) × (length (now xs) ≡ 32) ⌝ }
     ensures { λ r. ⌜ (r .checked ≡ judge (now (image .entry)))
         × ((g : HeadOf) → r .checked ≡ Checked.Accepted g
-        → Tables (policyOf (now (image .entry))) (now (assigned .exit)) (values (now (granted .exit))) (now (juniors .exit)) (r .exclusions)) ⌝ }
+        → Tables (policyOf (now (image .entry))) (now (assigned .exit)) (values (now (granted .exit))) (now (juniors .exit)) (now (xs .exit)) (r .count)) ⌝ }
 {
     let len = image.len();
     if len % 4 != 0 {
@@ -221,7 +215,16 @@ pub fn read(
     }
     let w = octets::word_at(image, 0);
     if head_right(w) {
-        return read_words(image, len / 4, head_of(w), w, assigned, granted, juniors);
+        return read_words(
+            image,
+            len / 4,
+            head_of(w),
+            w,
+            assigned,
+            granted,
+            juniors,
+            xs,
+        );
     }
     refused(2, 0)
 }

@@ -1,6 +1,6 @@
 -- `nutrameza::nutrameza_close` meets its contract.
 -- Assumes nothing.
-use mathlib.Core.Path.{sym, ap, _∙_}
+use mathlib.Core.Path.{refl, sym, ap, _∙_}
 use borrow.Author.Needs.{needs}
 use Rattle.model.specs.Image.{checkNumber}
 use Rattle.model.specs.Policy.{policyOf}
@@ -10,13 +10,13 @@ use Rattle.nutrameza.proofs.nutrameza_close.Statement.{statement}
 use Rattle.nutrameza.proofs.nutrameza_close.Tie as tie
 
 read-requires : tie.Need-read-requires
-read-requires c κs = fresh
+read-requires c κs = (fresh, refl)
 
 returns : tie.Need-returns
 returns c =
     let g = c .before .enum-told .given .1 in
     let k = c .before .before .before .read .ensures .0 in
-    let a = c .before .before .before .before .before .before .before .before .before .args in
+    let a = c .before .before .before .before .before .before .before .before .before .before .args in
     let e = gives-judged 4 (a .image .now) (a .ledger .now) (closeBy (a .user) (a .session)) _ _ _ (sym k ∙ g) (c .refusal-of .ensures ∙ ap checkNumber g) in
     (e .number, e .bytes)
 
@@ -24,17 +24,17 @@ close-requires : tie.Need-close-session-requires
 close-requires c κs =
     let g = c .before .before .before .before .c .given .1 in
     let k = c .before .before .before .before .before .before .read .ensures in
-    (accepted-users _ _ (sym (k .0) ∙ g), k .1 _ g .few)
+    (accepted-users _ _ (sym (k .0) ∙ g), k .1 _ g .few, k .1 _ g .full)
 
 returns-2 : tie.Need-returns-2
 returns-2 c =
     let o = c .before .before in
     let g = o .before .before .before .before .before .c .given .1 in
     let k = o .before .before .before .before .before .before .before .read .ensures in
-    let a = o .before .before .before .before .before .before .before .before .before .before .before .before .before .args in
+    let a = o .before .before .before .before .before .before .before .before .before .before .before .before .before .before .args in
     let j = sym (k .0) ∙ g in
     let e = gives-accepted 4 (a .image .now) (a .ledger .now) (closeBy (a .user) (a .session)) _ _ _ j
-    (o .close-session .ensures (policyOf (a .image .now)) (known-of (a .image .now) _ _ _ _ _ j (k .1 _ g))) in
+    (o .close-session .ensures (policyOf (a .image .now)) (known-of (a .image .now) _ _ _ _ _ _ j (k .1 _ g))) in
     (e .number, e .bytes)
 
 pub nutrameza-close-spec : {M : Type 1} → statement M

@@ -8,6 +8,7 @@ use Rattle.model.specs.Line.{lineSize, putIn, writeLine}
 use Rattle.model.specs.Run.{withLine}
 use Rattle.sets.specs.Words.{value, values}
 use Rattle.calls.specs.Calls.{lineOf}
+use Rattle.rows.specs.Rows.{exclusionsIn}
 use Rattle.asks.proofs.Asks.{answers-none, answers-some}
 use Rattle.asks.proofs.Rows.{asked-of, chosen-none, chosen-some, chosen-own, carry-within}
 use Rattle.asks.proofs.ask.put_best.Statement.{statement}
@@ -19,7 +20,7 @@ returns c p g =
     let s = c .before .before .before .before .before .before .before .before .before .before in
     let a = s .args in
     let l = c .before .before .before .before .line-of .ensures in
-    let q = asked-of p (a .u) (a .ledger .now) (a .roles) (values (a .granted .now)) (a .juniors .now) (a .authorized) (a .xs) _ _ g
+    let q = asked-of p (a .u) (a .ledger .now) (a .roles) (values (a .granted .now)) (a .juniors .now) (a .authorized) (exclusionsIn (a .xs .now) (a .count)) _ _ g
     (s .fits .authorized .fits) (c .before .before .before .before .before .before .carried .ensures) l in
     answers-none p (a .ledger .now) (a .u) (a .k) _ _
     (chosen-none p (a .u) (a .ledger .now) _ l _ (a .k) (value (a .lower)) (value (a .upper)) (a .first) (a .second)
@@ -31,7 +32,7 @@ returns-2 c p g =
     let s = c .before .before .before .before .before .before .before .before .before .before .before .before .before .before .before .before .before .before .before .before .before .before in
     let a = s .args in
     let l = c .before .before .before .before .before .before .before .before .before .before .before .before .before .before .before .before .line-of .ensures in
-    let q = asked-of p (a .u) (a .ledger .now) (a .roles) (values (a .granted .now)) (a .juniors .now) (a .authorized) (a .xs) _ _ g
+    let q = asked-of p (a .u) (a .ledger .now) (a .roles) (values (a .granted .now)) (a .juniors .now) (a .authorized) (exclusionsIn (a .xs .now) (a .count)) _ _ g
     (s .fits .authorized .fits) (c .before .before .before .before .before .before .before .before .before .before .before .before .before .before .before .before .before .before .carried .ensures) l in
     let o = chosen-some p (a .u) (a .ledger .now) _ l _ (a .k) (value (a .lower)) (value (a .upper)) (a .first) (a .second)
     (c .before .before .before .before .before .before .before .before .before .before .before .before .before .before .best .ensures p (a .u) q) _ (c .before .before .before .before .before .before .before .before .before .before .before .before .choice .given .1) in

@@ -5,6 +5,7 @@ use borrow.Author.Needs.{needs}
 use Rattle.model.specs.declared.Head.{Head}
 use Rattle.model.specs.declared.Line.{Line}
 use Rattle.calls.specs.Calls.{lineOf}
+use Rattle.rows.specs.Rows.{exclusionsIn}
 use Rattle.asks.specs.Asks.{sessionRefusal, queryRefusal, askRefusal}
 use Rattle.calls.proofs.FirstSteps.{room-for}
 use Rattle.asks.proofs.Requests.{or-first, or-second}
@@ -18,7 +19,7 @@ returns c p h = or-first _ _ _ (c .before .first-refusal .ensures p h) (c .if1 .
 line-of-requires : tie.Need-line-of-requires
 line-of-requires c κs =
     let a = c .before .before .before .before .before .args in
-    room-for 4 (a .head) (a .assigned .now) (a .xs) (a .ledger .now) (a .user) _ (c .before .first-refusal .ensures) (c .if1 .left)
+    room-for 4 (a .head) (a .assigned .now) (exclusionsIn (a .xs .now) (a .count)) (a .ledger .now) (a .user) _ (c .before .first-refusal .ensures) (c .if1 .left)
 
 returns-2 : tie.Need-returns-2
 unfolding askRefusal lineOf

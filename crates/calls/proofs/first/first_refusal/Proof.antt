@@ -8,6 +8,7 @@ use borrow.Author.Tests.{not-true, not-false}
 use Rattle.model.specs.declared.Head.{Head}
 use Rattle.model.specs.Policy.{meaning}
 use Rattle.model.specs.Line.{lineSize, sound}
+use Rattle.rows.specs.Rows.{exclusionsIn}
 use Rattle.calls.specs.Calls.{lineOf}
 use Rattle.calls.proofs.FirstSteps.{first9, first10, first11, first0, held}
 use Rattle.calls.proofs.first.first_refusal.Statement.{statement}
@@ -38,7 +39,7 @@ returns-3 c p h =
     let a = l .before .before .before .before .before .args in
     let e : p .head .users ≡ a .head .users = ap (λ (x : Head). x .users) (h .head-is) in
     let m = meaning p (a .user) in
-    let s = c .before .sound .ensures m (held (a .head) (a .assigned .now) (a .xs) p (a .user) h) in
+    let s = c .before .sound .ensures m (held (a .head) (a .assigned .now) (exclusionsIn (a .xs .now) (a .count)) p (a .user) h) in
     first11 4 p _ _ (omega arith) (omega arith) (ap (sound 4 m) (sym (l .line-of .ensures)) ∙ sym s ∙ not-true _ (c .if3 .taken))
 
 returns-4 : tie.Need-returns-4
@@ -48,7 +49,7 @@ returns-4 c p h =
     let a = l .before .before .before .before .before .args in
     let e : p .head .users ≡ a .head .users = ap (λ (x : Head). x .users) (h .head-is) in
     let m = meaning p (a .user) in
-    let s = c .before .sound .ensures m (held (a .head) (a .assigned .now) (a .xs) p (a .user) h) in
+    let s = c .before .sound .ensures m (held (a .head) (a .assigned .now) (exclusionsIn (a .xs .now) (a .count)) p (a .user) h) in
     first0 4 p _ _ (omega arith) (omega arith) (ap (sound 4 m) (sym (l .line-of .ensures)) ∙ sym s ∙ not-false _ (c .if3 .left))
 
 pub first-refusal-spec : {M : Type 1} → statement M

@@ -13,6 +13,7 @@ use Rattle.model.specs.Policy.{meaning}
 use Rattle.model.specs.Line.{emptySession, sessionAt, isOpen}
 use Rattle.model.specs.Choice.{carriedBy}
 use Rattle.model.specs.Run.{showBy}
+use Rattle.rows.specs.Rows.{exclusionsIn}
 use Rattle.calls.specs.Calls.{lineOf}
 use Rattle.calls.proofs.FirstSteps.{shows-refusal, stopped, ready-for, room-for}
 use Rattle.calls.proofs.Shown.{show12, show13, show19, show0, set-carries}
@@ -32,21 +33,21 @@ returns-2 : tie.Need-returns-2
 returns-2 c p h eg ej =
     let f = c .before .before in
     let a = f .before .before .before .args in
-    let r = ready-for 4 (a .head) (a .assigned .now) (a .xs) (a .ledger .now) (a .user) _ (f .first-refusal .ensures) (c .before .if1 .left) p h in
+    let r = ready-for 4 (a .head) (a .assigned .now) (exclusionsIn (a .xs .now) (a .count)) (a .ledger .now) (a .user) _ (f .first-refusal .ensures) (c .before .if1 .left) p h in
     show12 4 p (a .ledger .now) (a .user) (a .session) (a .answer .now) r (c .if2 .taken)
 
 line-of-requires : tie.Need-line-of-requires
 line-of-requires c κs =
     let f = c .before .before in
     let a = f .before .before .before .args in
-    room-for 4 (a .head) (a .assigned .now) (a .xs) (a .ledger .now) (a .user) _ (f .first-refusal .ensures) (c .before .if1 .left)
+    room-for 4 (a .head) (a .assigned .now) (exclusionsIn (a .xs .now) (a .count)) (a .ledger .now) (a .user) _ (f .first-refusal .ensures) (c .before .if1 .left)
 
 returns-3 : tie.Need-returns-3
 unfolding lineOf
 returns-3 c p h eg ej =
     let f = c .before .before .before .before .before in
     let a = f .before .before .before .args in
-    let r = ready-for 4 (a .head) (a .assigned .now) (a .xs) (a .ledger .now) (a .user) _ (f .first-refusal .ensures) (c .before .before .before .before .if1 .left) p h in
+    let r = ready-for 4 (a .head) (a .assigned .now) (exclusionsIn (a .xs .now) (a .count)) (a .ledger .now) (a .user) _ (f .first-refusal .ensures) (c .before .before .before .before .if1 .left) p h in
     show13 4 p (a .ledger .now) (a .user) (a .session) (a .answer .now) r (c .before .before .before .if2 .left)
     (ap (λ (x : Line). isOpen x (a .session)) (sym (c .before .before .line-of .ensures)) ∙ sym (c .before .is-open .ensures) ∙ not-true _ (c .if3 .taken))
 
@@ -55,7 +56,7 @@ unfolding lineOf
 returns-4 c p h eg ej =
     let f = c .before .before .before .before .before .before in
     let a = f .before .before .before .args in
-    let r = ready-for 4 (a .head) (a .assigned .now) (a .xs) (a .ledger .now) (a .user) _ (f .first-refusal .ensures) (c .before .before .before .before .before .if1 .left) p h in
+    let r = ready-for 4 (a .head) (a .assigned .now) (exclusionsIn (a .xs .now) (a .count)) (a .ledger .now) (a .user) _ (f .first-refusal .ensures) (c .before .before .before .before .before .if1 .left) p h in
     show19 4 p (a .ledger .now) (a .user) (a .session) (a .answer .now) r (c .before .before .before .before .if2 .left)
     (ap (λ (x : Line). isOpen x (a .session)) (sym (c .before .before .before .line-of .ensures)) ∙ sym (c .before .before .is-open .ensures)
     ∙ not-false _ (c .before .if3 .left)) (c .if4 .taken)
@@ -70,7 +71,7 @@ returns-5 c p h eg ej =
     let f = n .before .before .before in
     let a = f .before .before .before .args in
     let l = n .line-of .ensures in
-    let r = ready-for 4 (a .head) (a .assigned .now) (a .xs) (a .ledger .now) (a .user) _ (f .first-refusal .ensures) (n .before .before .if1 .left) p h in
+    let r = ready-for 4 (a .head) (a .assigned .now) (exclusionsIn (a .xs .now) (a .count)) (a .ledger .now) (a .user) _ (f .first-refusal .ensures) (n .before .before .if1 .left) p h in
     let g = show0 4 p (a .ledger .now) (a .user) (a .session) (a .answer .now) r (n .before .if2 .left)
     (ap (λ (x : Line). isOpen x (a .session)) (sym l) ∙ sym (o .is-open .ensures) ∙ not-false _ (t .before .if3 .left)) (t .if4 .left) in
     let s = ap (λ (x : Line). sessionAt x (a .session) .active) l in

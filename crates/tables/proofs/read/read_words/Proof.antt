@@ -20,7 +20,7 @@ use Rattle.tables.proofs.read.read_words.Statement.{statement}
 use Rattle.tables.proofs.read.read_words.Tie as tie
 
 abbrev Inv-loop : tie.InvT-loop
-Inv-loop image words h first assigned₀ granted₀ juniors₀ places₀ t₀ sum₀ place₀ assigned granted juniors places t sum place =
+Inv-loop image words h first assigned₀ granted₀ juniors₀ xs places₀ t₀ sum₀ place₀ assigned granted juniors places t sum place =
     (1 ≤ place) × (place ≤ words) × (scan image h (words - place) place assigned t sum ≡ scan image h (words - 1) 1 assigned₀ start first)
     × (t .exclusions ≤ 32) × (length places ≡ 32) × ((j : ℕ) → getD places j 0 < words)
     × (fold assigning assigned (entriesFrom image (words - place) place) ≡ fold assigning assigned₀ (entriesFrom image (words - 1) 1))
@@ -29,7 +29,7 @@ Inv-loop image words h first assigned₀ granted₀ juniors₀ places₀ t₀ su
     × (take (t .exclusions) places ++ placesFrom image (words - place) place ≡ placesFrom image (words - 1) 1)
 
 abbrev μ-loop : tie.MeasureT-loop
-μ-loop image words h first assigned₀ granted₀ juniors₀ places₀ t₀ sum₀ place₀ assigned granted juniors places t sum place = words - place
+μ-loop image words h first assigned₀ granted₀ juniors₀ xs places₀ t₀ sum₀ place₀ assigned granted juniors places t sum place = words - place
 
 loop-holds : tie.Need-loop-holds Inv-loop μ-loop
 unfolding start
@@ -105,19 +105,19 @@ returns-2 c =
 
 exclusions-at-requires : tie.Need-exclusions-at-requires Inv-loop μ-loop
 exclusions-at-requires c κs =
-    let l = c .before .before .before .before in
+    let l = c .before .before .before .before .before in
     let a = l .before .before in
-    (a .pre .0, a .pre .2, l .loop .inv .3, l .loop .inv .4, l .loop .inv .5)
+    (a .pre .0, a .pre .2, l .loop .inv .3, l .loop .inv .4, l .loop .inv .5, a .pre .3)
 
 returns-3 : tie.Need-returns-3 Inv-loop μ-loop
 returns-3 c =
     let x = c .exclusions-at in
-    let l = c .before .before .before .before .before in
+    let l = c .before .before .before .before .before .before in
     let a = l .before .before .args in
-    let n = c .before .before .before .before .loop-test .left in
+    let n = c .before .before .before .before .before .loop-test .left in
     let one = l .before .before .pre .1 in (
       sym (ends (a .image .now) (a .h) (a .words) (l .loop .place) (l .loop .assigned) (l .loop .t) (l .loop .sum) n (l .loop .inv .1)
-          ∙ sum-right (a .h) (a .words) (l .loop .sum) (c .before .before .before .if2 .left))
+          ∙ sum-right (a .h) (a .words) (l .loop .sum) (c .before .before .before .before .if2 .left))
           ∙ l .loop .inv .2,
       λ g e. record {
         assigned-is = fold-end assigning (a .image .now) (a .words) (l .loop .place) (l .loop .assigned) n ∙ l .loop .inv .6;
@@ -127,7 +127,8 @@ returns-3 c =
             x .ensures .0
             ∙ ap (map (exclusionAt (a .image .now) (a .words))) (places-end (a .image .now) (a .words) (l .loop .place) (l .loop .t) (l .loop .places) n ∙ l .loop .inv .9)
             ∙ sym (exclusions-placed (a .image .now) (a .words) (a .words - 1) 1 (omega (arith, one)));
-        few = omega (arith, x .ensures .1, l .loop .inv .3);
+        few = l .loop .inv .3;
+        full = x .ensures .1;
       },
     )
 

@@ -1,10 +1,10 @@
--- `image::word::kind_of` meets its contract.
+-- `rows::kind_of` meets its contract.
 -- Assumes nothing.
 use Rattle.model.specs.Image.{kindOf}
 use Rattle.model.specs.Tests.{pick}
 use borrow.Author.Tests.{ne-eqb}
-use Rattle.image.proofs.word.kind_of.Statement.{statement}
-use Rattle.image.proofs.word.kind_of.Tie as tie
+use Rattle.rows.proofs.kind_of.Statement.{statement}
+use Rattle.rows.proofs.kind_of.Tie as tie
 
 returns : tie.Need-returns
 unfolding kindOf pick

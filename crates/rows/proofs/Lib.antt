@@ -1,0 +1,2 @@
+-- The laws that the proofs of the rows' code use.
+pub mod Packing

@@ -1,0 +1,39 @@
+-- An exclusion put into a row and taken out of it is the same, and a table of rows read at an index.
+-- Assumes nothing.
+use mathlib.Core.Path.{_≡_, refl, sym, ap, _∙_}
+use mathlib.Core.List.{List, [], _∷_, map}
+use Prim.Native.Nat.{ℕ, _+_, _*_, _/_, _%_, _<_}
+use native.Mathlib.Omega.{arith}
+use lib.ListN.{getD, List·getD-map}
+use Rattle.model.specs.declared.Kind.{Kind}
+use Rattle.model.specs.declared.Kind.the-variants.{SsDmer, MsDmer, SsHmer, MsHmer}
+use Rattle.model.specs.declared.Exclusion.{Exclusion}
+use Rattle.model.specs.Tests.{pick}
+use Rattle.model.specs.Image.{kindOf}
+use Rattle.rows.specs.Rows.{numberOf, exclusionOf}
+
+kind-back : (k : Kind) (l : ℕ) → kindOf ((4 * l + numberOf k) % 4) ≡ k
+unfolding numberOf kindOf pick
+kind-back SsDmer l = let e : (4 * l + 0) % 4 ≡ 0 = omega arith in ap kindOf e
+kind-back MsDmer l = let e : (4 * l + 1) % 4 ≡ 1 = omega arith in ap kindOf e
+kind-back SsHmer l = let e : (4 * l + 2) % 4 ≡ 2 = omega arith in ap kindOf e
+kind-back MsHmer l = let e : (4 * l + 3) % 4 ≡ 3 = omega arith in ap kindOf e
+
+number-small : (k : Kind) → numberOf k < 4
+unfolding numberOf
+number-small SsDmer = omega arith
+number-small MsDmer = omega arith
+number-small SsHmer = omega arith
+number-small MsHmer = omega arith
+
+pub packed : (x : Exclusion) (n : ℕ) → x .limit < 256 → n ≡ numberOf (x .kind) → exclusionOf ((4 * x .limit + n) ∷ x .members ∷ []) ≡ x
+unfolding exclusionOf
+packed x n h e =
+    let s = number-small (x .kind) in
+    let l : (4 * x .limit + n) / 4 % 256 ≡ x .limit = omega arith in
+    let k : kindOf ((4 * x .limit + n) % 4) ≡ x .kind = ap (λ (m : ℕ). kindOf ((4 * x .limit + m) % 4)) e ∙ kind-back (x .kind) (x .limit) in
+    rw (l, k)
+
+-- row i of a table
+pub row-at : (rows : List (List ℕ)) (i : ℕ) → getD (map exclusionOf rows) i (exclusionOf []) ≡ exclusionOf (getD rows i [])
+row-at rows i = List·getD-map exclusionOf rows i []

@@ -1,0 +1,2 @@
+-- What the contracts of the rows' code say, beside the model's definitions.
+pub mod Rows
