@@ -1,7 +1,7 @@
 // The image and the script as they are read, and the answers as they are written.
 ghost use mathlib.Core.Path.{_≡_};
-ghost use Prim.Native.Nat.{_+_, _*_, _≤_, _<_};
-ghost use lib.ListN.{length, take};
+ghost use Prim.Native.Nat.{_+_, _≤_, _<_};
+ghost use lib.ListN.{length};
 ghost use Rattle.io.specs.Counts.{Counts};
 use crate::lines::Place;
 use crate::lines::answer_last;
@@ -14,6 +14,17 @@ struct Run {
     kept: usize,
     calls: u64,
     going: bool,
+}
+
+// A run that goes no further.
+fn stopped(calls: u64) -> Run
+    ensures { λ r. ⌜ (r .kept ≤ 174) × (r .calls ≡ calls) ⌝ }
+{
+    Run {
+        kept: 0,
+        calls,
+        going: false,
+    }
 }
 
 // What a read into a buffer from a place on finds: how many bytes, none at the end of the file, and whether it failed.
@@ -67,7 +78,7 @@ pub fn read_image(file: &mut [u8]) -> usize
     size
 }
 
-// Answers lines of a chunk from a place on and writes the answers; the run stops where they can't be written.
+// Answers the lines of a chunk and writes the answers; the run stops where they can't be written.
 fn answer_chunk(
     image: &[u8],
     ledger: &mut [u8],
@@ -90,11 +101,7 @@ fn answer_chunk(
         let filled = answered.filled;
         let is_written = io::write_all(STDOUT_FILENO, &out[0..filled]);
         if !is_written {
-            return Run {
-                kept: 0,
-                calls: run.calls,
-                going: false,
-            };
+            return stopped(run.calls);
         }
         p = Place {
             next: answered.next,
@@ -127,11 +134,7 @@ fn answer_some(
     if count == 0 {
         let filled = answer_last(image, ledger, line, run.kept, run.calls, out);
         io::write_all(STDOUT_FILENO, &out[0..filled]);
-        return Run {
-            kept: 0,
-            calls: run.calls,
-            going: false,
-        };
+        return stopped(run.calls);
     }
     answer_chunk(image, ledger, line, &chunk[..count], out, run)
 }
