@@ -2,13 +2,14 @@
 -- Assumes nothing.
 use mathlib.Core.Path.{_≡_, refl, sym, ap, _∙_}
 use mathlib.Core.List.{List, [], _∷_, _++_}
-use Prim.Native.Nat.{ℕ, suc, _+_, _*_, _≤_, _<_}
+use Prim.Native.Nat.{ℕ, zero, suc, _+_, _-_, _*_, _≤_, _<_}
 use native.Mathlib.Numerals.{add-one}
 use native.Mathlib.Omega.{arith}
-use lib.ListN.{length, getD, set, take, drop, length-append, length-replicate}
+use lib.ListN.{length, getD, set, take, drop, replicate, length-append, length-replicate}
 use lib.Seq.{sets-eq, length-take-le, take-suc-set, take-at, drop-cons}
 use borrow.Author.Tests.{lt-ltb, le-ltb, eq-eqb, ne-eqb}
 use Rattle.model.specs.declared.Head.{Head}
+use Rattle.model.specs.declared.Checked.{Checked}
 use Rattle.model.specs.declared.Checked.the-variants.{Accepted, Refused}
 use Rattle.model.specs.Image.{judge}
 use Rattle.model.specs.Line.{lineSize}
@@ -119,3 +120,22 @@ accepted-length image h e = rw e (sym (length-replicate (80 * h .users) 0))
 
 pub accepted-most : (image : List ℕ) (h : Head) → judge image ≡ Accepted h → 80 * h .users ≤ 5120
 accepted-most image h e = omega (arith, accepted-head image h e .fits .users-few)
+
+-- it is as many zeros as it is long
+abbrev zeros : ℕ → List ℕ
+zeros n = replicate n 0
+
+zeros-taken : (k n : ℕ) → k ≤ n → take k (zeros n) ≡ zeros k
+zeros-taken zero n h = refl
+zeros-taken (suc k) zero h = absurd (omega arith)
+zeros-taken (suc k) (suc n) h = ap (λ x. 0 ∷ x) (zeros-taken k n (omega arith))
+
+ledger-zeros : (c : Checked) → firstLedger c ≡ zeros (length (firstLedger c))
+unfolding firstLedger
+ledger-zeros (Accepted h) = ap zeros (sym (length-replicate {A = ℕ} (lineSize 4 * h .users) 0))
+ledger-zeros (Refused n place) = refl
+
+pub first-zeros : (image : List ℕ) (k n : ℕ) → k ≡ length (firstLedger (judge image)) → k ≤ n → take (k - 0) (zeros n) ≡ firstLedger (judge image)
+first-zeros image k n e h =
+    let z : k - 0 ≡ k = omega arith in
+    ap (λ x. take x (zeros n)) z ∙ zeros-taken k n h ∙ ap zeros e ∙ sym (ledger-zeros (judge image))

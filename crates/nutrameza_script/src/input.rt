@@ -2,6 +2,8 @@
 ghost use mathlib.Core.Path.{_≡_};
 ghost use Prim.Native.Nat.{_+_, _≤_, _<_};
 ghost use lib.ListN.{length};
+ghost use Rattle.model.specs.Image.{judge};
+ghost use Rattle.script.specs.Script.{firstLedger};
 ghost use Rattle.io.specs.Counts.{Counts};
 use crate::lines::Place;
 use crate::lines::answer_last;
@@ -156,8 +158,10 @@ fn answer_each(image: &[u8], ledger: &mut [u8], line: &mut [u8], chunk: &mut [u8
     }
 }
 
-// Answers all of the input, by a buffer for a line and one each for what is read and what is written.
-pub fn answer_all(image: &[u8], ledger: &mut [u8]) {
+// Answers all of the input from the first ledger on, by a buffer for a line and one each for what is read and what is written.
+pub fn answer_all(image: &[u8], ledger: &mut [u8])
+    requires { ⌜ now ledger ≡ firstLedger (judge (now image)) ⌝ }
+{
     let mut line = [0u8; 174];
     let mut chunk = io::large_buffer();
     let mut out = io::large_buffer();
