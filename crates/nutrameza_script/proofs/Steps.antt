@@ -13,7 +13,7 @@ use Rattle.model.specs.declared.Checked.{Checked}
 use Rattle.model.specs.declared.Checked.the-variants.{Accepted, Refused}
 use Rattle.model.specs.Image.{judge}
 use Rattle.model.specs.Line.{lineSize}
-use Rattle.image.proofs.Heads.{accepted-head}
+use Rattle.nutrameza.proofs.Images.{accepted-users}
 use Rattle.script.specs.Script.{answerTo, printed, firstLedger}
 use Rattle.script.specs.Writing.{Puts}
 use Rattle.nutrameza_script.specs.Progress.{Progress, keeping, extended, answered, afterByte, after, endedBy, ended}
@@ -119,7 +119,7 @@ unfolding firstLedger lineSize
 accepted-length image h e = rw e (sym (length-replicate (80 * h .users) 0))
 
 pub accepted-most : (image : List ℕ) (h : Head) → judge image ≡ Accepted h → 80 * h .users ≤ 5120
-accepted-most image h e = omega (arith, accepted-head image h e .fits .users-few)
+accepted-most image h e = omega (arith, accepted-users image h e)
 
 -- it is as many zeros as it is long
 abbrev zeros : ℕ → List ℕ
