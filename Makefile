@@ -2,11 +2,12 @@
 #
 #   make lib                  proves the kit and writes target/staticlib/libnutrameza.a
 #   make install PREFIX=DIR   library, header, nutrameza.pc and, if built, the program (DESTDIR is put before PREFIX)
-#   make ward                 runs the ward example
+#   make ward                 runs the ward example: the script beside what the program answers
+#   make host                 runs the ward example as a C host of the library
 #   make test                 the gate: every proof and every test
 #   make bench                the kit beside plain Rust, as ratios
 #
-# Install, ward and bench take the library and the program that are there; what is missing, they make, except that install does
+# Install, ward, host and bench take the library and the program that are there; what is missing, they make, except that install does
 # without the program. NUTRAMEZA_LIB names another folder for the library.
 
 VERSION := 0.1.0
@@ -19,7 +20,7 @@ program := target/bin/nutrameza_script
 prefix := $(abspath $(PREFIX))
 to := $(DESTDIR)$(prefix)
 
-.PHONY: lib install ward test bench
+.PHONY: lib install ward host test bench
 
 lib:
 	$(RT) staticlib nutrameza
@@ -35,26 +36,25 @@ install: $(library)
 	chmod 644 '$(to)/lib/pkgconfig/nutrameza.pc'
 	if [ -x $(program) ]; then install -d '$(to)/bin' && install -m 755 $(program) '$(to)/bin/nutrameza_script'; fi
 
-# The script of the ward example beside the lines that the program answers; where there is no program, the C host.
 $(program):
 	$(RT) check nutrameza_script
 
-ifneq ($(wildcard $(program) crates/nutrameza_script),)
+# The script of the ward example beside the lines that the program answers.
 ward: $(program)
 	mkdir -p target/ward
 	tools/policy build examples/ward.policy -o target/ward/policy.img
 	cd target/ward && ../bin/nutrameza_script < ../../examples/ward.script > answers
 	paste examples/ward.script target/ward/answers | expand -t 24
 	cmp target/ward/answers examples/ward.answers
-else
-ward: $(library)
+
+# A small clinic as a C host.
+host: $(library)
 	mkdir -p target/ward
 	$(CC) -std=c99 -O2 -Wall -Wextra -Iinclude examples/host.c -L$(NUTRAMEZA_LIB) -lnutrameza -o target/ward/host
 	target/ward/host
-endif
 
 test:
 	bash .ci/run
 
-bench: $(library)
-	NUTRAMEZA_LIB='$(abspath $(NUTRAMEZA_LIB))' cargo run --release --offline --manifest-path bench/Cargo.toml --features asks
+bench: $(library) $(program)
+	NUTRAMEZA_LIB='$(abspath $(NUTRAMEZA_LIB))' NUTRAMEZA_PROGRAM='$(abspath $(program))' cargo run --release --offline --manifest-path bench/Cargo.toml --features asks,script

@@ -1,12 +1,13 @@
-//! The program nutrameza_script: 01's script, every kind of unreadable line, images that cannot be read, and generated scripts
-//! beside the solver.
+//! The program nutrameza_script: 01's script, every kind of unreadable line, images that cannot be read, lines across the chunks in
+//! which it reads, golden files, and generated scripts beside the solver.
 
 use nutrameza_tests::compare::spread;
 use nutrameza_tests::gen::{damage, policy, script, Rng};
-use nutrameza_tests::program::run_in;
+use nutrameza_tests::program::{run_in, run_on_file, start_in};
 use nutrameza_tests::solver::image::judge;
 use nutrameza_tests::solver::script::output;
 use nutrameza_tests::{ward, words};
+use std::io::{BufRead, BufReader, Write};
 use std::path::{Path, PathBuf};
 use std::sync::atomic::{AtomicU64, Ordering};
 
@@ -68,6 +69,9 @@ fn reads_decimals_of_nine_digits_and_hex_of_sixty_four_of_either_size() {
     assert_eq!(asked("1F"), "1 0 0 0 0\n2 0 0 1 f\n");
     assert_eq!(asked(&one_more), "1 0 0 0 0\n2 21 0 0 0\n");
     assert_eq!(asked(&"f".repeat(64)), "1 0 0 0 0\n2 16 0 0 0\n");
+    assert_eq!(asked(&"F".repeat(65)), "1 0 0 0 0\n2 21 0 0 0\n");
+    assert_eq!(text(Some(&ward::image_a()), format!("ask 0 0 {one_more} 1f\n").as_bytes()), "1 21 0 0 0\n");
+    assert_eq!(text(Some(&ward::image_a()), b"open 1234567890\nask 0 0 3 1f 0 0000000000\n"), "1 21 0 0 0\n2 21 0 0 0\n");
     assert_eq!(text(Some(&ward::image_a()), b"open 999999999\nclose 0 999999999\n"), "1 10 0 0 0\n2 12 0 0 0\n");
 }
 
@@ -76,7 +80,14 @@ fn a_refused_image_answers_each_readable_line() {
     let mut unbalanced = ward::image_a();
     unbalanced[48] ^= 1;
     assert_eq!(text(Some(&unbalanced), b"open 0\nopen\nshow 9 9\n"), "1 8 12 0 0\n2 21 0 0 0\n3 8 12 0 0\n");
-    for image in [None, Some(&[][..]), Some(&[0; 16388][..]), Some(&[0; 1_000_000][..]), Some(&ward::image_a()[..51])] {
+    for image in [
+        None,
+        Some(&[][..]),
+        Some(&[0; 16385][..]),
+        Some(&[0; 16388][..]),
+        Some(&[0; 1_000_000][..]),
+        Some(&ward::image_a()[..51]),
+    ] {
         assert_eq!(text(image, b"open 0\n"), "1 1 0 0 0\n");
     }
 }
@@ -90,6 +101,29 @@ fn an_image_that_is_a_folder_counts_as_empty() {
 }
 
 #[test]
+fn an_image_of_4096_words_is_read_whole_and_one_byte_more_is_refused() {
+    let mut image = ward::A.to_vec();
+    image.splice(3..3, std::iter::repeat_n(words::grant(0, 0), 4096 - ward::A.len()));
+    words::rebalance(&mut image);
+    let mut image = words::bytes(&image);
+    assert_eq!(image.len(), 16384);
+    assert_eq!(text(Some(&image), b"open 0\nask 0 0 3 1f\n"), "1 0 0 0 0\n2 0 0 1 f\n");
+    image.push(0);
+    assert_eq!(text(Some(&image), b"open 0\nask 0 0 3 1f\n"), "1 1 0 0 0\n2 1 0 0 0\n");
+}
+
+#[test]
+fn the_longest_readable_line_has_173_bytes() {
+    let longest = format!("ask 000000000 000000000 {:064x} {:064x} 000000000 000000000", 3, 0x1f);
+    assert_eq!(longest.len(), 173);
+    let answered = |line: &str| text(Some(&ward::image_a()), format!("open 0\n{line}\nshow 0 0").as_bytes());
+    assert_eq!(answered(&longest), "1 0 0 0 0\n2 0 0 1 f\n3 0 0 1 f\n");
+    for tail in ["0", " ", "\r", "\0", " 0", "00000000000000000000", " open 0"] {
+        assert_eq!(answered(&format!("{longest}{tail}")), "1 0 0 0 0\n2 21 0 0 0\n3 0 0 0 0\n", "{tail:?}");
+    }
+}
+
+#[test]
 fn a_line_of_megabytes_is_one_unreadable_line() {
     let long = [b"open 0\n", &b"ask 0 0 ".repeat(500_000)[..], b"\n", &b"7".repeat(3_000_000)[..], b"\nopen 0"].concat();
     assert_eq!(text(Some(&ward::image_a()), &long), "1 0 0 0 0\n2 21 0 0 0\n3 21 0 0 0\n4 0 1 0 0\n");
@@ -100,6 +134,105 @@ fn many_lines_keep_their_numbers() {
     let script = b"open 0\nclose 0 0\n".repeat(40_000);
     let printed = text(Some(&ward::image_a()), &script);
     assert!(printed.ends_with("\n80000 0 0 0 0\n"));
+}
+
+/// A script of some calls and unreadable lines whose next line starts at a place.
+fn script_up_to(place: usize) -> Vec<u8> {
+    let mut script = b"open 0\nclose 0 0\n".repeat(20);
+    while script.len() + 200 < place {
+        script.extend(b"open 0 and a tail that no form has, for a line that is unreadable\n");
+    }
+    script.extend(vec![b'x'; place - 1 - script.len()]);
+    script.push(b'\n');
+    assert_eq!(script.len(), place);
+    script
+}
+
+#[test]
+fn a_line_across_two_chunks_is_one_line() {
+    const CHUNK: usize = 65_536;
+    let (image, folder) = (ward::image_a(), folder());
+    let file = folder.join("script");
+    std::fs::write(folder.join("policy.img"), &image).expect("the image is written");
+    for chunks in 1..=2 {
+        for before in 0..=20 {
+            for end in [&b""[..], b"\n", b"\n\nshow 0 0"] {
+                let mut script = script_up_to(chunks * CHUNK + 1 - before);
+                script.extend(b"open 0\nask 0 0 3 1f 1 0");
+                script.extend(end);
+                std::fs::write(&file, &script).expect("the script is written");
+                assert_eq!(run_on_file(&folder, &file), output(Some(&image), &script), "{before} before chunk {chunks}");
+            }
+        }
+    }
+    std::fs::remove_dir_all(&folder).expect("the folder is removed");
+}
+
+#[test]
+fn a_line_of_many_chunks_from_a_file_is_one_unreadable_line() {
+    let (image, folder) = (ward::image_a(), folder());
+    let file = folder.join("script");
+    std::fs::write(folder.join("policy.img"), &image).expect("the image is written");
+    for length in [65_535, 65_536, 65_537, 131_072, 5_000_000] {
+        let script = [&vec![b'7'; length][..], b"\nopen 0\n"].concat();
+        std::fs::write(&file, &script).expect("the script is written");
+        assert_eq!(run_on_file(&folder, &file), b"1 21 0 0 0\n2 0 0 0 0\n");
+    }
+    std::fs::remove_dir_all(&folder).expect("the folder is removed");
+}
+
+#[test]
+fn answers_before_it_waits_for_more() {
+    let folder = folder();
+    std::fs::write(folder.join("policy.img"), ward::image_a()).expect("the image is written");
+    let mut child = start_in(&folder);
+    let mut input = child.stdin.take().expect("the program reads");
+    let mut answers = BufReader::new(child.stdout.take().expect("the program prints"));
+    let mut say = |text: &[u8], expected: &str| {
+        input.write_all(text).expect("the program takes the script");
+        let mut line = String::new();
+        answers.read_line(&mut line).expect("the program answers");
+        assert_eq!(line, expected);
+    };
+    say(b"open 0\nask 0", "1 0 0 0 0\n");
+    say(b" 0 3 1f\n", "2 0 0 1 f\n");
+    say(b"\nsho", "3 21 0 0 0\n");
+    say(b"w 0 0\nshow 0 ", "4 0 0 1 f\n");
+    drop(say);
+    drop(input);
+    let mut rest = String::new();
+    answers.read_line(&mut rest).expect("the program answers");
+    assert_eq!(rest, "5 21 0 0 0\n");
+    assert!(child.wait().expect("the program ends").success());
+    std::fs::remove_dir_all(&folder).expect("the folder is removed");
+}
+
+#[test]
+fn ends_where_nobody_reads_its_answers() {
+    let folder = folder();
+    let mut child = start_in(&folder);
+    drop(child.stdout.take());
+    let mut input = child.stdin.take().expect("the program reads");
+    let script = b"open 0\n".repeat(1_000_000);
+    assert!(input.write_all(&script).is_err(), "the program stops reading");
+    child.wait().expect("the program ends");
+    std::fs::remove_dir_all(&folder).expect("the folder is removed");
+}
+
+#[test]
+fn prints_what_the_golden_files_say() {
+    let golden = Path::new(env!("CARGO_MANIFEST_DIR")).join("golden");
+    let mut names: Vec<PathBuf> =
+        std::fs::read_dir(&golden).expect("the golden files").map(|entry| entry.expect("a folder").path()).collect();
+    names.sort();
+    assert!(names.len() >= 11, "{} golden folders", names.len());
+    for case in names {
+        let image = std::fs::read(case.join("policy.img")).ok();
+        let script = std::fs::read(case.join("script")).expect("the script");
+        let answers = std::fs::read_to_string(case.join("answers")).expect("the answers");
+        assert_eq!(text(image.as_deref(), &script), answers, "{}", case.display());
+        assert_eq!(run_on_file(&case, &case.join("script")), answers.as_bytes(), "{}", case.display());
+    }
 }
 
 /// Cuts a script at lines until it is as short as it can be and still fails.

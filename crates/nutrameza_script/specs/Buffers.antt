@@ -25,6 +25,12 @@ pub record Gathers (chunk : List ℕ) (next : ℕ) (before : List ℕ) (kept : �
 unfoldable pub running : List ℕ → List ℕ → List ℕ → Place → Progress
 running line ledger out p = during line (p .kept) ledger (p .calls) (take (p .filled) out)
 
+-- there is a byte to read and room for a line, and the calls in the rest of the chunk can be counted in 64 bits
+abbrev pub Ready : List ℕ → List ℕ → List ℕ → Place → Type 0
+Ready line chunk out p =
+    (length line ≡ 174) × (p .kept ≤ 174) × (p .next < length chunk) × (p .filled + 160 ≤ length out)
+    × (p .calls + length chunk ≤ 18446744073709551615 + p .next)
+
 -- the lines of a chunk are answered from one place to another: what is left to do is the same
 pub record AnswersLines (image chunk line ledger out : List ℕ) (p : Place) (line′ ledger′ out′ : List ℕ) (r : Place) : Type 0 where
   pub few : r .kept ≤ 174

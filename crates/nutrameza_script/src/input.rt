@@ -1,7 +1,9 @@
 // The image and the script as they are read, and the answers as they are written.
 ghost use mathlib.Core.Path.{_≡_};
-ghost use Prim.Native.Nat.{_+_, _*_, _≤_, _<_};
-ghost use lib.ListN.{length, take};
+ghost use Prim.Native.Nat.{_+_, _≤_, _<_};
+ghost use lib.ListN.{length};
+ghost use Rattle.model.specs.Image.{judge};
+ghost use Rattle.script.specs.Script.{firstLedger};
 ghost use Rattle.io.specs.Counts.{Counts};
 use crate::lines::Place;
 use crate::lines::answer_last;
@@ -14,6 +16,17 @@ struct Run {
     kept: usize,
     calls: u64,
     going: bool,
+}
+
+// A run that goes no further.
+fn stopped(calls: u64) -> Run
+    ensures { λ r. ⌜ (r .kept ≤ 174) × (r .calls ≡ calls) ⌝ }
+{
+    Run {
+        kept: 0,
+        calls,
+        going: false,
+    }
 }
 
 // What a read into a buffer from a place on finds: how many bytes, none at the end of the file, and whether it failed.
@@ -67,7 +80,7 @@ pub fn read_image(file: &mut [u8]) -> usize
     size
 }
 
-// Answers lines of a chunk from a place on and writes the answers; the run stops where they can't be written.
+// Answers the lines of a chunk and writes the answers; the run stops where they can't be written.
 fn answer_chunk(
     image: &[u8],
     ledger: &mut [u8],
@@ -90,11 +103,7 @@ fn answer_chunk(
         let filled = answered.filled;
         let is_written = io::write_all(STDOUT_FILENO, &out[0..filled]);
         if !is_written {
-            return Run {
-                kept: 0,
-                calls: run.calls,
-                going: false,
-            };
+            return stopped(run.calls);
         }
         p = Place {
             next: answered.next,
@@ -127,11 +136,7 @@ fn answer_some(
     if count == 0 {
         let filled = answer_last(image, ledger, line, run.kept, run.calls, out);
         io::write_all(STDOUT_FILENO, &out[0..filled]);
-        return Run {
-            kept: 0,
-            calls: run.calls,
-            going: false,
-        };
+        return stopped(run.calls);
     }
     answer_chunk(image, ledger, line, &chunk[..count], out, run)
 }
@@ -153,8 +158,10 @@ fn answer_each(image: &[u8], ledger: &mut [u8], line: &mut [u8], chunk: &mut [u8
     }
 }
 
-// Answers all of the input, by a buffer for a line and one each for what is read and what is written.
-pub fn answer_all(image: &[u8], ledger: &mut [u8]) {
+// Answers all of the input from the first ledger on, by a buffer for a line and one each for what is read and what is written.
+pub fn answer_all(image: &[u8], ledger: &mut [u8])
+    requires { ⌜ now ledger ≡ firstLedger (judge (now image)) ⌝ }
+{
     let mut line = [0u8; 174];
     let mut chunk = io::large_buffer();
     let mut out = io::large_buffer();

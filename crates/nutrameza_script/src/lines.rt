@@ -6,7 +6,7 @@ ghost use lib.ListN.{length, take};
 ghost use Rattle.model.specs.Image.{judge};
 ghost use Rattle.script.specs.Script.{firstLedger};
 ghost use Rattle.nutrameza_script.specs.Progress.{keeping, ended};
-ghost use Rattle.nutrameza_script.specs.Buffers.{during, Gathers, AnswersLines};
+ghost use Rattle.nutrameza_script.specs.Buffers.{during, Gathers, Ready, AnswersLines};
 use model::Checked;
 
 // A line that is begun: the place of the next byte in the chunk, and how many bytes of the line are kept.
@@ -74,8 +74,7 @@ pub fn answer_lines(
     out: &mut [u8],
     p: Place,
 ) -> Place
-    requires { ⌜ (length (now line) ≡ 174) × (p .kept ≤ 174) × (p .next < length (now chunk)) × (p .filled + 160 ≤ length (now out))
-        × (p .calls + length (now chunk) ≤ 18446744073709551615 + p .next) ⌝ }
+    requires { ⌜ Ready (now line) (now chunk) (now out) p ⌝ }
     ensures { λ r. ⌜ AnswersLines (now (image .entry)) (now (chunk .entry)) (now (line .entry)) (now (ledger .entry)) (now (out .entry)) p
         (now (line .exit)) (now (ledger .exit)) (now (out .exit)) r ⌝ }
 {
@@ -85,11 +84,10 @@ pub fn answer_lines(
     let mut filled = p.filled;
     while 160 <= out.len() - filled {
         let begun = gather(line, kept, chunk, next);
-        let end = begun.next;
         kept = begun.kept;
-        if chunk.len() <= end {
+        if chunk.len() <= begun.next {
             return Place {
-                next: end,
+                next: begun.next,
                 kept,
                 calls,
                 filled,
@@ -98,7 +96,7 @@ pub fn answer_lines(
         calls += 1;
         filled = replies::respond(image, ledger, &line[..kept], calls, out, filled);
         kept = 0;
-        next = end + 1;
+        next = begun.next + 1;
     }
     Place {
         next,

@@ -56,6 +56,7 @@ answer-chunk-spec =
     (λ c. search needs)
     part-write-all-end
     (λ c κs. search needs)
+    (λ c κs. search needs)
     (λ c. search needs)
     (λ c. search needs)
     (λ c. search needs)

@@ -32,7 +32,7 @@ gather-requires c κs = search needs
 returns : tie.Need-returns Inv-loop μ-loop
 unfolding running
 returns c =
-    let g = c .before .before .before in
+    let g = c .before .before .before .before in
     let l = g .before .before .before in
     let e = g .gather .ensures in
     let a = l .before .before .before .before .before .before .args in
@@ -46,14 +46,14 @@ returns c =
     }
 
 add-calls : tie.Need-add-calls Inv-loop μ-loop
-add-calls c = let g = c .before .before .before in omega (arith, c .if1 .left, g .gather .ensures .onward, g .before .before .before .loop .inv)
+add-calls c = let g = c .before .before .before .before in omega (arith, c .if1 .left, g .gather .ensures .onward, g .before .before .before .loop .inv)
 
 slice-reshare-prefix-respond : tie.Need-slice-reshare-prefix-respond Inv-loop μ-loop
-slice-reshare-prefix-respond c = let g = c .before .before .before .before in omega (arith, g .gather .ensures .few, g .gather .kept, g .before .before .before .loop .inv)
+slice-reshare-prefix-respond c = let g = c .before .before .before .before .before in omega (arith, g .gather .ensures .few, g .gather .kept, g .before .before .before .loop .inv)
 
 slice-aggregate-respond : tie.Need-slice-aggregate-respond Inv-loop μ-loop
 slice-aggregate-respond c =
-    let g = c .before .before .before .before .before in
+    let g = c .before .before .before .before .before .before in
     counts (g .gather .result .kept) (g .gather .last .0) (omega (arith, g .gather .ensures .few, g .gather .kept, g .before .before .before .loop .inv))
 
 respond-requires : tie.Need-respond-requires Inv-loop μ-loop
@@ -63,13 +63,13 @@ add-next : tie.Need-add-next Inv-loop μ-loop
 add-next c = search needs
 
 loop-less : tie.Need-loop-less Inv-loop μ-loop
-loop-less c = let g = c .before .before .before .before .before .before .before .before .before .before .before in omega (arith, c .before .before .before .before .before .before .before .before .if1 .left, g .gather .ensures .onward)
+loop-less c = let g = c .before .before .before .before .before .before .before .before .before .before .before .before .before in omega (arith, c .before .before .before .before .before .before .before .before .before .if1 .left, g .gather .ensures .onward)
 
 loop-again : tie.Need-loop-again Inv-loop μ-loop
 loop-again c =
-    let r = c .before .before .before .before in
+    let r = c .before .before .before .before .before in
     let t = r .before .before .before .before in
-    let g = t .before .before .before in
+    let g = t .before .before .before .before in
     let l = g .before .before .before in
     let a = l .before .before .before .before .before .before .args in
     let e = g .gather .ensures in
