@@ -18,12 +18,13 @@ use Rattle.model.specs.Choice.{admissible, choose}
 use Rattle.model.proofs.Bools.{and-l}
 use Rattle.model.proofs.SetLaws.{within-has}
 use Rattle.model.proofs.UnionLaws.{has-below}
+use Rattle.model.proofs.Closure.{getD-tableOf}
 use Rattle.model.proofs.Choices.{choice}
 use Rattle.model.proofs.SoundLaws.{sound-parts}
 use Rattle.sets.specs.Words.{values}
 use Rattle.tables.specs.Carried.{rowsOf as joinedRows, carriedRows}
 use Rattle.tables.proofs.Fills.{values-at}
-use Rattle.tables.proofs.Closing.{length-closed, length-selves, getD-tableOf, wantedRow}
+use Rattle.tables.proofs.Closing.{length-closed, length-selves, wantedRow}
 use Rattle.query.specs.Search.{rowsOf}
 use Rattle.query.specs.Rooms.{roomy}
 use Rattle.query.specs.Reduction.{Reduces}

@@ -57,7 +57,7 @@ joined-bytes f h (suc d) =
     ∙ ap (λ (l : List ℕ). l ++ bytesOf 8 (f d)) (joined-bytes f h d)
 
 -- the bytes of a set of four words
-pub set-bytes : (ws : List ℕ) → ((i : ℕ) → Fits w64 (getD ws i 0))
+set-bytes : (ws : List ℕ) → ((i : ℕ) → Fits w64 (getD ws i 0))
     → bytesOf 32 (value ws)
     ≡ bytesOf 8 (getD ws 0 0) ++ (bytesOf 8 (getD ws 1 0) ++ (bytesOf 8 (getD ws 2 0) ++ bytesOf 8 (getD ws 3 0)))
 unfolding value wordBytes
@@ -76,7 +76,7 @@ longer : (n : ℕ) (xs : List ℕ) (b : ℕ) → length xs ≡ n → length (xs 
 longer n xs b e = omega (arith, length-append xs (bytesOf 8 b), length-bytesOf 8 b)
 
 -- five numbers fill a buffer of 40 bytes
-pub five : (s : List ℕ) (r a b c d : ℕ) → length s ≡ 40
+five : (s : List ℕ) (r a b c d : ℕ) → length s ≡ 40
     → splice (splice (splice (splice (splice s 0 (bytesOf 8 r)) 8 (bytesOf 8 a)) 16 (bytesOf 8 b)) 24 (bytesOf 8 c)) 32 (bytesOf 8 d)
     ≡ bytesOf 8 r ++ (bytesOf 8 a ++ (bytesOf 8 b ++ (bytesOf 8 c ++ bytesOf 8 d)))
 five s r a b c d h =
@@ -95,3 +95,12 @@ five s r a b c d h =
     ∙ splice-all s (x3 ++ bytesOf 8 d) (longer 32 x3 d n3 ∙ sym h)
     ∙ append-assoc x2 (bytesOf 8 c) (bytesOf 8 d) ∙ append-assoc x1 (bytesOf 8 b) (bytesOf 8 c ++ bytesOf 8 d)
     ∙ append-assoc x0 (bytesOf 8 a) (bytesOf 8 b ++ (bytesOf 8 c ++ bytesOf 8 d))
+
+-- the roles and the set behind them, as code puts them
+pub filled : (s ws : List ℕ) (r : ℕ) (x0 x1 x2 x3 x4 : List ℕ) → length s ≡ 40 → ((i : ℕ) → Fits w64 (getD ws i 0)) → x0 ≡ splice s 0 (bytesOf 8 r)
+    → x1 ≡ splice x0 8 (bytesOf 8 (getD ws 0 0)) → x2 ≡ splice x1 16 (bytesOf 8 (getD ws 1 0)) → x3 ≡ splice x2 24 (bytesOf 8 (getD ws 2 0))
+    → x4 ≡ splice x3 32 (bytesOf 8 (getD ws 3 0)) → x4 ≡ bytesOf 8 r ++ bytesOf 32 (value ws)
+filled s ws r x0 x1 x2 x3 x4 h fit e0 e1 e2 e3 e4 =
+    let e = set-bytes ws fit in
+    let f = five s r (getD ws 0 0) (getD ws 1 0) (getD ws 2 0) (getD ws 3 0) h in
+    cc (e, f)

@@ -7,25 +7,23 @@ use Prim.Native.Nat.{ℕ, _+_, _*_, _≤_, _<_}
 use lib.ListN.{length}
 use borrow.Author.Tests.{le-leb, lt-leb, eq-eqb, ne-eqb}
 use Rattle.model.specs.Sets.{unionAt}
-use Rattle.model.specs.Policy.{Policy, meaning}
+use Rattle.model.specs.Policy.{Policy, reached, carriedTable, meaning}
 use Rattle.model.specs.Bytes.{bytesOf}
 use Rattle.model.specs.Line.{sessionAt, isOpen}
 use Rattle.model.specs.Choice.{carriedBy}
 use Rattle.model.specs.Session.{given, bad-session, is-closed, bad-room, refusalNumber, canGive, applies, perform, sessionOf, queryOf}
 use Rattle.model.specs.Run.{Event, stepOn, showBy, returned, filledWith, answered}
-use Rattle.model.proofs.Inclusion.{within-refl}
-use Rattle.tables.specs.Carried.{carriedRows}
-use Rattle.tables.proofs.Closing.{wanted-carried}
+use Rattle.tables.specs.Carried.{carriedOf}
 use Rattle.calls.specs.Calls.{lineOf, Shows}
 use Rattle.calls.proofs.FirstSteps.{Ready, shows-refusal, refuses, performs, holds, fails, ends}
 
--- the rows made for the active roles join to what the policy says that these carry
-pub rows-carry : (p : Policy) (u roles active : ℕ) (granted juniors rows : List ℕ) → p .head .roles ≡ roles → granted ≡ p .granted
-    → juniors ≡ p .juniors → rows ≡ carriedRows roles granted juniors active → unionAt rows active ≡ carriedBy (meaning p u) active
-unfolding carriedBy meaning
-rows-carry p u roles active granted juniors rows eh eg ej e =
-    let q : rows ≡ carriedRows (p .head .roles) (p .granted) (p .juniors) active = cc in
-    ap (λ (x : List ℕ). unionAt x active) q ∙ wanted-carried p active active (within-refl active)
+-- what the active roles carry by the tables is what the policy says that they carry
+pub set-carries : (p : Policy) (u roles active : ℕ) (granted juniors : List ℕ) → p .head .roles ≡ roles → granted ≡ p .granted
+    → juniors ≡ p .juniors → unionAt (carriedOf roles granted juniors) active ≡ carriedBy (meaning p u) active
+unfolding carriedBy meaning carriedOf carriedTable reached
+set-carries p u roles active granted juniors eh eg ej =
+    let q : carriedOf roles granted juniors ≡ carriedOf (p .head .roles) (p .granted) (p .juniors) = cc in
+    ap (λ (x : List ℕ). unionAt x active) q
 
 module _ (W : ℕ) (p : Policy) (ledger : List ℕ) (u k : ℕ) (room : List ℕ) (r : Ready W p ledger u) where
   pub show12 : W ≤ k → Shows (stepOn W p ledger (showBy u k (length room))) 12 room room

@@ -13,8 +13,7 @@ use ledger::bytes::line_of;
 use ledger::change::is_open;
 use model::Head;
 use model::SESSIONS;
-use tables::carried::carried;
-use tables::carried::joined;
+use tables::carried::carried_by;
 
 // The active roles of the user's session and the permissions that they carry fill the answer buffer. The juniors' table is closed in
 // place.
@@ -54,8 +53,7 @@ pub fn show_session(
     }
     let shown = l.sessions[k];
     let active = shown.active;
-    let rows = carried(granted, juniors, head.roles as usize, active);
-    let permissions = joined(&rows, active);
+    let permissions = carried_by(granted, juniors, head.roles as usize, active);
     fill(answer, active, permissions);
     0
 }

@@ -1,6 +1,6 @@
 -- A short ask is an ask with no objectives.
 -- Assumes nothing.
-use mathlib.Core.Path.{_≡_, refl}
+use mathlib.Core.Path.{_≡_, refl, sym, subst}
 use mathlib.Core.List.{List}
 use Prim.Native.Nat.{ℕ}
 use Rattle.model.specs.declared.Checked.{Checked}
@@ -10,19 +10,30 @@ use Rattle.model.specs.Image.{judge}
 use Rattle.model.specs.Policy.{Meaning, policyOf, meaning}
 use Rattle.model.specs.Line.{lineSize}
 use Rattle.model.specs.Session.{shortAim, ask, short-ask, sessionOf, queryOf, canGive, applies, perform, unless, rule}
-use Rattle.model.specs.Run.{lineAt, ruled, stepOn, stepBy, step, askBy, shortAskBy}
+use Rattle.model.specs.Run.{Event, lineAt, ruled, stepOn, stepBy, step, askBy, shortAskBy, returned, answered}
 
 module _ (W k : ℕ) (lower upper : List ℕ) (room : ℕ) where
-  pub short-rule : (m : Meaning) (bs : List ℕ)
+  -- the session rules take a short ask as the ask
+  short-rule : (m : Meaning) (bs : List ℕ)
       → rule W m bs (short-ask k lower upper room)
       ≡ rule W m bs (ask k (record { lower = lower; upper = upper; permissionAim = 0; roleAim = 0; room = room }))
   unfolding rule unless shortAim sessionOf queryOf canGive applies first perform
   short-rule m bs = refl
 
-  pub short-step : (u : ℕ) (image ledger : List ℕ) → step W image ledger (shortAskBy u k lower upper room) ≡ step W image ledger (askBy u k lower upper 0 0 room)
+  -- and so does the call
+  short-step : (u : ℕ) (image ledger : List ℕ) → step W image ledger (shortAskBy u k lower upper room) ≡ step W image ledger (askBy u k lower upper 0 0 room)
   unfolding step stepBy stepOn ruled shortAskBy askBy
   short-step u image ledger = go (judge image)
     where
       go : (c : Checked) → stepBy W c (policyOf image) ledger (shortAskBy u k lower upper room) ≡ stepBy W c (policyOf image) ledger (askBy u k lower upper 0 0 room)
       go (Refused n place) = refl
       go (Accepted h) = rw (short-rule (meaning (policyOf image) u) (lineAt (lineSize W) u ledger))
+
+  -- what a host gets of the ask is what it gets of the short ask
+  pub short-given : (u : ℕ) (image ledger : List ℕ) (n : ℕ) (after buffer answer : List ℕ)
+      → (n ≡ returned (step W image ledger (askBy u k lower upper 0 0 room) .reply)) × (after ≡ step W image ledger (askBy u k lower upper 0 0 room) .ledger)
+      × (answer ≡ answered buffer (step W image ledger (askBy u k lower upper 0 0 room) .reply))
+      → (n ≡ returned (step W image ledger (shortAskBy u k lower upper room) .reply)) × (after ≡ step W image ledger (shortAskBy u k lower upper room) .ledger)
+      × (answer ≡ answered buffer (step W image ledger (shortAskBy u k lower upper room) .reply))
+  short-given u image ledger n after buffer answer h =
+      subst (λ (x : Event). (n ≡ returned (x .reply)) × (after ≡ x .ledger) × (answer ≡ answered buffer (x .reply))) (sym (short-step u image ledger)) h

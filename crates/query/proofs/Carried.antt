@@ -1,6 +1,6 @@
 -- What the roles of a set carry: the permissions of its roles and no others.
 -- Assumes nothing.
-use mathlib.Core.Path.{_≡_, refl, sym, ap, ap₂, _∙_}
+use mathlib.Core.Path.{_≡_, refl, sym, ap, _∙_}
 use mathlib.Core.Bool.{Bool, true, false, _||_}
 use mathlib.Core.Logic.{_⊎_, inl, inr}
 use Prim.Native.Nat.{ℕ, zero, suc, _<_}
@@ -8,12 +8,14 @@ use native.Mathlib.Omega.{arith}
 use lib.Dec.{ltb}
 use borrow.Author.Tests.{ltb-true, ltb-false}
 use Rattle.model.specs.Tests.{pick}
-use Rattle.model.specs.Sets.{has, union, with, unionTo}
-use Rattle.model.proofs.Bools.{or-l, or-r, or-cases, bool-ext}
-use Rattle.model.proofs.AnyWidth.{same-sets}
+use Rattle.model.specs.Sets.{has, unionTo}
+use Rattle.model.proofs.Bools.{or-l, or-r, or-cases}
 use Rattle.model.proofs.SetLaws.{has-union}
 use Rattle.query.specs.Search.{Sub}
-use Rattle.query.proofs.Members.{no-member, either, with-new, with-old, with-or}
+use Rattle.query.proofs.Members.{no-member, either}
+-- one role more, no roles, and rows that are the same at the set's roles
+pub use Rattle.model.proofs.UnionLaws.{unionTo-none as carried-none}
+pub use Rattle.sets.proofs.Unions.{unionTo-with as carried-with, unionTo-same as carried-same}
 
 module _ (row : ℕ → ℕ) (s p : ℕ) where
   -- what a role of the set carries
@@ -61,41 +63,3 @@ module _ (row : ℕ → ℕ) (d : ℕ) where
 
   pub row-sub : (s r : ℕ) → r < d → has s r ≡ true → Sub (row r) (unionTo row s d)
   row-sub s r l m p h = carried-in row s p d r l m h
-
-  -- with the role r too
-  pub carried-with : (s r : ℕ) → r < d → unionTo row (with s r) d ≡ union (unionTo row s d) (row r)
-  carried-with s r l = same-sets (unionTo row (with s r) d) (union (unionTo row s d) (row r)) (λ p.
-      bool-ext (has (unionTo row (with s r) d) p) (has (union (unionTo row s d) (row r)) p) (to p) (from p))
-    where
-      to : (p : ℕ) → has (unionTo row (with s r) d) p ≡ true → has (union (unionTo row s d) (row r)) p ≡ true
-      to p m = has-union (unionTo row s d) (row r) p ∙ one (carried-by row (with s r) p d m)
-        where
-          two : (x : (i : ℕ) × (i < d) × (has (with s r) i ≡ true) × (has (row i) p ≡ true)) → (has s (x .0) ≡ true) ⊎ (x .0 ≡ r)
-              → (has (unionTo row s d) p || has (row r) p) ≡ true
-          two x (inl h) = or-l (has (unionTo row s d) p) (has (row r) p) (carried-in row s p d (x .0) (x .1) h (x .3))
-          two x (inr e) = or-r (has (unionTo row s d) p) (has (row r) p) (ap (λ (i : ℕ). has (row i) p) (sym e) ∙ x .3)
-
-          one : (x : (i : ℕ) × (i < d) × (has (with s r) i ≡ true) × (has (row i) p ≡ true)) → (has (unionTo row s d) p || has (row r) p) ≡ true
-          one x = two x (with-or s r (x .0) (x .2))
-
-      from : (p : ℕ) → has (union (unionTo row s d) (row r)) p ≡ true → has (unionTo row (with s r) d) p ≡ true
-      from p m = one (or-cases (has (unionTo row s d) p) (has (row r) p) (sym (has-union (unionTo row s d) (row r) p) ∙ m))
-        where
-          one : (has (unionTo row s d) p ≡ true) ⊎ (has (row r) p ≡ true) → has (unionTo row (with s r) d) p ≡ true
-          one (inl h) = carried-sub s (with s r) (λ i n. with-old s r i n) p h
-          one (inr h) = carried-in row (with s r) p d r l (with-new s r) h
-
-  -- no roles carry nothing
-  pub carried-none : unionTo row 0 d ≡ 0
-  carried-none = same-sets (unionTo row 0 d) 0 (λ p. bool-ext (has (unionTo row 0 d) p) (has 0 p)
-      (λ m. let x = carried-by row 0 p d m in no-member (x .0) (x .2)) (λ m. no-member p m))
-
--- rows that are the same at the set's roles
-pub carried-same : (f g : ℕ → ℕ) (s d : ℕ) → ((r : ℕ) → r < d → has s r ≡ true → f r ≡ g r) → unionTo f s d ≡ unionTo g s d
-unfolding unionTo pick
-carried-same f g s zero h = refl
-carried-same f g s (suc d) h = ap₂ union (carried-same f g s d (λ r l m. h r (omega arith) m)) (go (has s d) refl)
-  where
-    go : (b : Bool) → has s d ≡ b → pick b (f d) 0 ≡ pick b (g d) 0
-    go true e = h d (omega arith) e
-    go false e = refl

@@ -3,14 +3,13 @@
 use mathlib.Core.Path.{_≡_, refl, sym, ap, ap₂, _∙_}
 use mathlib.Core.Bool.{Bool, true, false, _&&_, not}
 use mathlib.Core.List.{List}
-use Prim.Native.Nat.{ℕ, zero, suc, _+_, _*_, _/_, _%_, _^_, _≤_, _<_}
-use native.Mathlib.Nat.{mod-lt, div-add-mod', not-suc-le-zero, le-of-suc-le-suc}
+use Prim.Native.Nat.{ℕ, _+_, _*_, _/_, _%_, _≤_, _<_}
+use native.Mathlib.Nat.{mod-lt, div-add-mod'}
 use native.Mathlib.Omega.{arith}
 use mir.Val.{Fits}
 use mir.Syntax.{w64}
-use lib.Dec.{eqb, ltb, lit<}
-use lib.Pow.{pow-pos}
-use lib.Bits.{bitAnd, bitXor, xor-shr, xor-mod}
+use lib.Dec.{ltb, lit<}
+use lib.Bits.{bitAnd, bitXor}
 use lib.ListN.{getD}
 use borrow.Author.Tests.{ltb-true, ltb-false}
 use Rattle.model.specs.Sets.{has, within}
@@ -19,34 +18,13 @@ use Rattle.model.proofs.SetLaws.{has-inter, has-beyond}
 use Rattle.sets.specs.Members.{Lowest}
 use Rattle.sets.specs.Words.{value, Splits}
 use Rattle.sets.proofs.Machine.{value-has, value-lt}
+use Rattle.sets.proofs.Taken.{apart, has-xor}
 use Rattle.query.specs.Search.{Missing}
 use Rattle.query.proofs.Members.{sub-within, no-member}
 
 -- what a has and b lacks
 abbrev pub lacking : ℕ → ℕ → ℕ
 lacking a b = bitXor a (bitAnd a b)
-
-abbrev apart : Bool → Bool → Bool
-apart true b = not b
-apart false b = b
-
-no-two : {x : ℕ} → suc (suc x) < 2 → ⊥
-no-two h = not-suc-le-zero (le-of-suc-le-suc (le-of-suc-le-suc h))
-
-xor-table : (x y : ℕ) → x < 2 → y < 2 → eqb (bitXor x y) 1 ≡ apart (eqb x 1) (eqb y 1)
-xor-table zero zero hx hy = refl
-xor-table zero (suc zero) hx hy = refl
-xor-table (suc zero) zero hx hy = refl
-xor-table (suc zero) (suc zero) hx hy = refl
-xor-table zero (suc (suc y)) hx hy = absurd (no-two hy)
-xor-table (suc zero) (suc (suc y)) hx hy = absurd (no-two hy)
-xor-table (suc (suc x)) y hx hy = absurd (no-two hx)
-
-has-xor : (a b k : ℕ) → has (bitXor a b) k ≡ apart (has a k) (has b k)
-unfolding has
-has-xor a b k =
-    ap (λ (x : ℕ). eqb (x % 2) 1) (xor-shr a b k) ∙ ap (λ (x : ℕ). eqb x 1) (xor-mod (a / 2 ^ k) (b / 2 ^ k) 1)
-    ∙ xor-table (a / 2 ^ k % 2) (b / 2 ^ k % 2) (mod-lt (a / 2 ^ k) (pow-pos 1)) (mod-lt (b / 2 ^ k) (pow-pos 1))
 
 pub has-lacking : (a b k : ℕ) → has (lacking a b) k ≡ (has a k && not (has b k))
 has-lacking a b k = has-xor a (bitAnd a b) k ∙ ap (apart (has a k)) (has-inter a b k) ∙ table (has a k) (has b k)

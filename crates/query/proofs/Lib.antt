@@ -2,6 +2,7 @@
 pub mod Members
 pub mod Carried
 pub mod Ranks
+pub mod Bounds
 pub mod Steps
 pub mod RoomLaws
 pub mod Walks

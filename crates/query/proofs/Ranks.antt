@@ -1,16 +1,21 @@
 -- Ranks: one set is better than another exactly if its rank is lower, and with objectives below 2 more roles rank no better.
 -- Assumes nothing.
-use mathlib.Core.Path.{_≡_, refl, sym}
+use mathlib.Core.Path.{_≡_, refl, sym, subst, _∙_}
 use mathlib.Core.Bool.{Bool, true, false, _&&_, _||_}
+use mathlib.Core.Logic.{inl, inr}
 use Prim.Native.Nat.{ℕ, zero, suc, _+_, _-_, _*_, _^_, _≤_, _<_, zero-le}
-use native.Mathlib.Nat.{le-refl}
+use native.Mathlib.Nat.{le-refl, le-of-lt}
 use native.Mathlib.Omega.{arith}
 use lib.Dec.{eqb, ltb, leb}
 use borrow.Author.Tests.{eqb-true, eqb-false, ltb-true, ltb-false, leb-true, leb-false, le-leb, lt-leb}
 use lib.Arith.{lt-of-le-ne}
-use Rattle.model.specs.Sets.{has, one, countTo, count}
+use Rattle.model.specs.Sets.{has, within, one, countTo, count}
 use Rattle.model.specs.Choice.{cost}
-use Rattle.query.specs.Search.{Task, carries, Costs, keyBy, rank, rankOf, Sub}
+use Rattle.model.proofs.Bools.{not-both}
+use Rattle.sets.specs.Words.{value}
+use Rattle.query.specs.declared.rank.Best.{Best}
+use Rattle.query.specs.declared.rank.Job.{Job}
+use Rattle.query.specs.Search.{Task, carries, Costs, keyBy, rank, rankOf, rankAt, Sub, Judged}
 use Rattle.query.proofs.Members.{sub-le, sub-count}
 use Rattle.query.proofs.Carried.{carried-sub}
 
@@ -86,3 +91,24 @@ rank-test j r k s hr hs = go (ltb j k) refl (eqb j k) refl (leb r s) refl
     go false p false q z o =
         let h : k < j = lt-of-le-ne (ltb-false j k p) (λ e. eqb-false j k q (sym e)) in
         sym (lt-leb (rank j r) (rank k s) (omega arith))
+
+-- ---- the chosen roles judged
+module _ (job : Job) (chosen carried : ℕ) (a : Best) where
+  -- they lack some of the lower bound
+  pub judged-short : (w : Bool) → w ≡ within (value (job .lower)) carried → w ≡ false → Judged job chosen carried a a
+  judged-short w e f =
+      record { old = le-refl (rankAt a); new = inl refl; least = λ m. not-both (within (value (job .lower)) carried) m (sym e ∙ f) }
+
+  module _ (key : ℕ) (b : Bool) (keyed : key ≡ keyBy (job .first) (job .second) carried chosen) (compared : b ≡ leb (rankAt a) (rank key chosen)) where
+    -- the best so far is no worse
+    pub judged-worse : b ≡ true → Judged job chosen carried a a
+    judged-worse f =
+        record { old = le-refl (rankAt a); new = inl refl; least = λ _. subst (λ (k : ℕ). rankAt a ≤ rank k chosen) keyed (leb-true (rankAt a) (rank key chosen) (sym compared ∙ f)) }
+
+    pub judged-best : b ≡ false → (w : Bool) → w ≡ within (value (job .lower)) carried → w ≡ true → Judged job chosen carried a (record { key = key; roles = chosen })
+    judged-best f w e g =
+        record {
+          old = le-of-lt (leb-false (rankAt a) (rank key chosen) (sym compared ∙ f));
+          new = inr (sym e ∙ g, rw keyed);
+          least = λ _. subst (λ (k : ℕ). rank key chosen ≤ rank k chosen) keyed (le-refl (rank key chosen));
+        }

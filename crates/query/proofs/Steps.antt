@@ -102,20 +102,14 @@ module _ (t : Task) (less : (x y : ℕ) → Sub x y → t .room y ≡ true → t
       go s i b m h k (inl with-it) = absurd (no-room full s b m with-it)
       go s i b m h k (inr off) = rest s i b m k off (fewer-stays tries role here i h)
 
-  -- ---- all subsets: without the role, and then with it
-  pub both-ways : Found t chosen (without free role) a next → Found t (with chosen role) (without free role) next r → Found t chosen free a r
+  -- ---- all subsets: with the role, and then without it
+  pub both-ways : Found t (with chosen role) (without free role) a next → Found t chosen (without free role) next r → Found t chosen free a r
   both-ways f g =
-      record { old = le-trans (g .old) (f .old); new = joined (f .new) (g .new); least = λ s b m. go s b m (either (has s role)) }
+      record { old = le-trans (g .old) (f .old); new = still (g .new) (grown (f .new)); least = λ s b m. go s b m (either (has s role)) }
     where
-      joined : (next ≡ a) ⊎ Served t chosen (without free role) next → (r ≡ next) ⊎ Served t (with chosen role) (without free role) r → (r ≡ a) ⊎ Served t chosen free r
-      joined (inl e) (inl h) = inl (h ∙ e)
-      joined (inr e) (inl h) =
-          inr (subst (Served t chosen free) (sym h) (record { between = between-old chosen free role (next .roles) on (e .between); serving = e .serving; keyed = e .keyed }))
-      joined e (inr h) = inr (record { between = between-new chosen free role (r .roles) on (h .between); serving = h .serving; keyed = h .keyed })
-
       go : (s : ℕ) → Between chosen free s → serves t s ≡ true → (has s role ≡ true) ⊎ (has s role ≡ false) → rankAt r ≤ rankOf t s
-      go s b m (inl h) = g .least s (between-with chosen free role s on b h) m
-      go s b m (inr h) = le-trans (g .old) (f .least s (between-without chosen free role s on b h) m)
+      go s b m (inl h) = le-trans (g .old) (f .least s (between-with chosen free role s on b h) m)
+      go s b m (inr h) = g .least s (between-without chosen free role s on b h) m
 
   -- only without it: the exclusions have no room
   pub one-way : t .room (with chosen role) ≡ false → Found t chosen (without free role) a next → Found t chosen free a next
@@ -130,28 +124,23 @@ module _ (t : Task) (less : (x y : ℕ) → Sub x y → t .room y ≡ true → t
       go s b m (inl h) = absurd (no-room full s b m h)
       go s b m (inr h) = f .least s (between-without chosen free role s on b h) m
 
--- all subsets, with no role left
-module _ (t : Task) (chosen : ℕ) (a : Best) where
-  -- the best so far is no worse
-  pub leaf-worse : rankAt a ≤ rankOf t chosen → Found t chosen 0 a a
-  leaf-worse h =
-      record { old = le-refl (rankAt a); new = inl refl; least = λ s b _. subst (λ (x : ℕ). rankAt a ≤ rankOf t x) (sym (between-none chosen s b)) h }
+-- the best so far is no worse than any set between
+pub none-better : (t : Task) (chosen free : ℕ) (a : Best) → ((s : ℕ) → Between chosen free s → serves t s ≡ true → rankAt a ≤ rankOf t s)
+    → Found t chosen free a a
+none-better t chosen free a h = record { old = le-refl (rankAt a); new = inl refl; least = h }
 
-  pub leaf-best : rankOf t chosen ≤ rankAt a → within (t .lower) (carries t chosen) ≡ true → t .room chosen ≡ true → Found t chosen 0 a (bestAt t chosen)
-  leaf-best h l m =
-      record {
-        old = h;
-        new = inr (served t chosen 0 l m);
-        least = λ s b _. subst (λ (x : ℕ). rankOf t chosen ≤ rankOf t x) (sym (between-none chosen s b)) (le-refl (rankOf t chosen));
-      }
+-- all subsets, with no role left: the chosen roles judged
+pub leaf : (t : Task) (chosen : ℕ) (a r : Best) → t .room chosen ≡ true → rankAt r ≤ rankAt a
+    → (r ≡ a) ⊎ ((within (t .lower) (carries t chosen) ≡ true) × (r ≡ bestAt t chosen))
+    → (within (t .lower) (carries t chosen) ≡ true → rankAt r ≤ rankOf t chosen) → Found t chosen 0 a r
+unfolding serves
+leaf t chosen a r room old new least =
+    record { old = old; new = found new; least = λ s b m. only s (between-none chosen s b) (and-l (within (t .lower) (carries t s)) (t .room s) m) }
+  where
+    found : (r ≡ a) ⊎ ((within (t .lower) (carries t chosen) ≡ true) × (r ≡ bestAt t chosen)) → (r ≡ a) ⊎ Served t chosen 0 r
+    found (inl e) = inl e
+    found (inr e) = inr (subst (Served t chosen 0) (sym (e .1)) (served t chosen 0 (e .0) room))
 
-  -- the lower bound is not carried
-  pub leaf-short : within (t .lower) (carries t chosen) ≡ false → Found t chosen 0 a a
-  unfolding serves
-  leaf-short h =
-      record {
-        old = le-refl (rankAt a);
-        new = inl refl;
-        least = λ s b m. not-both (within (t .lower) (carries t chosen))
-            (subst (λ (x : ℕ). within (t .lower) (carries t x) ≡ true) (between-none chosen s b) (and-l (within (t .lower) (carries t s)) (t .room s) m)) h;
-      }
+    only : (s : ℕ) → s ≡ chosen → within (t .lower) (carries t s) ≡ true → rankAt r ≤ rankOf t s
+    only s e m =
+        subst (λ (x : ℕ). rankAt r ≤ rankOf t x) (sym e) (least (subst (λ (x : ℕ). within (t .lower) (carries t x) ≡ true) e m))

@@ -2,6 +2,7 @@
 -- Assumes nothing.
 use mathlib.Core.Path.{_≡_, sym, ap, subst, _∙_}
 use mathlib.Core.Bool.{Bool, true, false, _&&_}
+use mathlib.Core.List.{List}
 use Prim.Native.Nat.{ℕ, _+_, _-_, _^_, _≤_, _<_}
 use native.Mathlib.Nat.{le-of-lt}
 use native.Mathlib.Omega.{arith}
@@ -10,13 +11,15 @@ use borrow.Author.Tests.{leb-true, leb-false}
 use Rattle.model.specs.Sets.{has, union, inter, with, within, count}
 use Rattle.model.proofs.Bools.{and-l, and-r, or-l, both}
 use Rattle.model.proofs.SetLaws.{has-union, has-inter}
-use Rattle.sets.specs.Members.{without}
+use Rattle.sets.specs.Members.{without, Lowest}
 use Rattle.sets.proofs.Taken.{count-without}
 use Rattle.query.specs.declared.rank.Best.{Best}
-use Rattle.query.specs.Search.{Task, carries, keyBy, rank, rankOf, rankAt, Sub, Keeps, Missing, Ready, Modest, Found, Tried}
-use Rattle.query.proofs.Members.{sub-count, fewer-within}
-use Rattle.query.proofs.Carried.{carried-with, carried-none}
-use Rattle.query.proofs.Steps.{given-up, reached, taken-up, tried-none, tried-on, tried-off, both-ways, one-way, leaf-worse, leaf-best, leaf-short}
+use Rattle.query.specs.declared.rank.Job.{Job}
+use Rattle.query.specs.Search.{Task, rowsOf, taskOf, carries, serves, keyBy, rank, rankOf, rankAt, Sub, Keeps, Missing, Judged, Settled, Reaches, Ready, Modest, Found, Tried}
+use Rattle.query.proofs.Members.{sub-count, fewer-sub, fewer-within}
+use Rattle.query.proofs.Carried.{carried-sub, carried-with, carried-none}
+use Rattle.query.proofs.Bounds.{top-bound}
+use Rattle.query.proofs.Steps.{given-up, reached, taken-up, tried-none, tried-on, tried-off, both-ways, one-way, none-better, leaf}
 
 -- what the exclusions leave room for passes to smaller sets
 abbrev pub Falls : Task → Type 0
@@ -49,23 +52,9 @@ module _ (t : Task) (n chosen carried key : ℕ) (a : Best) (b : Bool) (ready : 
         subst (λ (k : ℕ). Found t chosen free a (record { key = k; roles = chosen })) (sym same-key)
         (reached t chosen free a (modest .permissions) (modest .roles) (better e) (in-bound w l m) (ready .room))
 
-  -- with no role free
-  module _ (free : ℕ) (none : free ≡ 0) where
-    pub ends-worse : b ≡ true → Found t chosen free a a
-    ends-worse e = subst (λ (f : ℕ). Found t chosen f a a) (sym none) (leaf-worse t chosen a (worse e))
-
-    pub ends-best : b ≡ false → (w : Bool) → w ≡ within (t .lower) carried → w ≡ true → Found t chosen free a (record { key = key; roles = chosen })
-    ends-best e w l m =
-        subst (λ (f : ℕ). Found t chosen f a (record { key = key; roles = chosen })) (sym none)
-        (subst (λ (k : ℕ). Found t chosen 0 a (record { key = k; roles = chosen })) (sym same-key)
-        (leaf-best t chosen a (better e) (in-bound w l m) (ready .room)))
-
 module _ (t : Task) (n chosen carried : ℕ) (a : Best) (ready : Ready t n chosen carried) (w : Bool) (judged : w ≡ within (t .lower) carried) where
   short : w ≡ false → within (t .lower) (carries t chosen) ≡ false
   short e = ap (within (t .lower)) (sym (ready .carry)) ∙ sym judged ∙ e
-
-  pub ends-short : (free : ℕ) → free ≡ 0 → w ≡ false → Found t chosen free a a
-  ends-short free e f = subst (λ (x : ℕ). Found t chosen x a a) (sym e) (leaf-short t chosen a (short f))
 
   -- the roles that carry a missing permission were tried
   pub goes-on : (free p tries : ℕ) (r : Best) → w ≡ false → (within (t .lower) carried ≡ false → Missing (t .lower) carried p)
@@ -104,8 +93,8 @@ module _ (t : Task) (falls : Falls t) (chosen free role less more : ℕ) (b : Bo
       → Tried t tries chosen free a r
   tries-off tries rest a r here er e g = tried-off t falls chosen free role a a r on tries here (full e) (rw (← er, ← el) g)
 
-  pub takes-both : (a next r : Best) → Found t chosen less a next → Found t more less next r → Found t chosen free a r
-  takes-both a next r f g = both-ways t falls chosen free role a next r on (rw (← el) f) (rw (← em, ← el) g)
+  pub takes-both : (a next r : Best) → Found t more less a next → Found t chosen less next r → Found t chosen free a r
+  takes-both a next r f g = both-ways t falls chosen free role a next r on (rw (← em, ← el) f) (rw (← el) g)
 
   pub takes-one : (a next : Best) → b ≡ false → Found t chosen less a next → Found t chosen free a next
   takes-one a next e f = one-way t falls chosen free role a next next on (full e) (rw (← el) f)
@@ -115,6 +104,32 @@ runs-out t tries chosen free a e = subst (λ (x : ℕ). Tried t x chosen free a 
 
 pub barred-sub : (tries free role rest less : ℕ) → Sub tries free → has tries role ≡ true → rest ≡ without tries role → less ≡ without free role → Sub rest less
 barred-sub tries free role rest less h m er el = rw (er, el) (fewer-within tries role m free (h role m) h)
+
+-- with no role free the chosen ones are judged
+pub judges : (rows : List (List ℕ)) (masks rooms : List ℕ) (job : Job) (chosen free carried : ℕ) (a r : Best)
+    → Ready (taskOf rows masks rooms job) (job .count) chosen carried → free ≡ 0 → Judged job chosen carried a r
+    → Found (taskOf rows masks rooms job) chosen free a r
+judges rows masks rooms job chosen free carried a r ready none judged =
+    let t = taskOf rows masks rooms job in
+    let j = subst (λ (c : ℕ). Judged job chosen c a r) (ready .carry) judged in
+    subst (λ (f : ℕ). Found t chosen f a r) (sym none) (leaf t chosen a r (ready .room) (j .old) (j .new) (j .least))
+
+-- no set between is better than the best so far, by what the free roles carry from the lowest on
+pub cuts-off : (rows reach : List (List ℕ)) (masks rooms : List ℕ) (job : Job) (chosen free carried role top : ℕ) (a : Best) (b : Bool)
+    → Ready (taskOf rows masks rooms job) (job .count) chosen carried → Reaches (rowsOf rows) (rowsOf reach) free → Lowest free role
+    → top ≡ union carried (rowsOf reach role) → (b ≡ true → Settled job chosen free carried top a) → b ≡ true
+    → Found (taskOf rows masks rooms job) chosen free a a
+unfolding serves carries
+cuts-off rows reach masks rooms job chosen free carried role top a b ready reaches low et settled e =
+    let t = taskOf rows masks rooms job in
+    none-better t chosen free a (λ s between m. settled e s (carries t s) between
+    (λ p k. carried-sub (rowsOf rows) 64 chosen s (between .least) p (ap (λ (x : ℕ). has x p) (sym (ready .carry)) ∙ k))
+    (λ p k. ap (λ (x : ℕ). has x p) et ∙ top-bound (rowsOf rows) (rowsOf reach) chosen free carried role reaches low (ready .carry) s between p k)
+    (and-l (within (t .lower) (carries t s)) (t .room s) m))
+
+pub reaches-less : (row reach : ℕ → ℕ) (free role less : ℕ) → has free role ≡ true → less ≡ without free role → Reaches row reach free → Reaches row reach less
+reaches-less row reach free role less on el h =
+    record { rows = λ r i g l m. h .rows r i g l (fewer-sub free role on i (ap (λ (x : ℕ). has x i) (sym el) ∙ m)) }
 
 -- ---- what falls: the permissions still wanted and the roles still free
 

@@ -1,23 +1,20 @@
--- A walk through a role set by its members: those that pass a test are kept, or the rows of all are joined.
+-- A walk through a role set by its members: those that pass a test are kept.
 -- Assumes nothing.
 use mathlib.Core.Path.{_≡_, refl, sym, ap, _∙_}
 use mathlib.Core.Bool.{Bool, true, false, _&&_, _||_, or-false}
 use Prim.Native.Nat.{ℕ, _^_, _<_}
 use native.Mathlib.Nat.{lt-of-le-of-lt}
 use native.Mathlib.Omega.{arith}
-use lib.Bits.{or-comm, or-zero-r}
 use lib.Dec.{eqb}
 use borrow.Author.Tests.{eqb-true, eqb-false, ne-eqb}
 use Rattle.model.specs.Tests.{pick}
-use Rattle.model.specs.Sets.{has, union, with, count, unionTo}
+use Rattle.model.specs.Sets.{has, with, count}
 use Rattle.model.proofs.Bools.{not-both}
-use Rattle.model.proofs.AnyWidth.{union-swap}
 use Rattle.model.proofs.SetLaws.{has-with}
 use Rattle.sets.specs.Members.{without, Lowest}
-use Rattle.sets.proofs.Taken.{without-gone, without-other, with-without, count-without}
+use Rattle.sets.proofs.Taken.{without-gone, without-other, count-without}
 use Rattle.query.specs.Search.{Sub, Keeps}
 use Rattle.query.proofs.Members.{has-none, with-new, fewer-sub, sub-le}
-use Rattle.query.proofs.Carried.{carried-with, carried-none}
 
 -- of the set s the members of left are still to come, and found has those before them that pass
 pub record Walk (test : ℕ → Bool) (s left found : ℕ) : Type 0 where
@@ -76,19 +73,3 @@ module _ (test : ℕ → Bool) (s : ℕ) where
 pub fewer-left : (s left less r : ℕ) → s < 2 ^ 64 → Sub left s → Lowest left r → less ≡ without left r → count 64 less < count 64 left
 fewer-left s left less r h sub low e =
     omega (arith, sub-le left s sub, ap (count 64) e, count-without 64 left r (lt-of-le-of-lt (sub-le left s sub) h) (low .small) (low .member))
-
--- ---- the rows of all, joined: those so far and those of the roles to come
-module _ (row : ℕ → ℕ) (s : ℕ) where
-  pub rows-start : (all : ℕ) → all ≡ 0 → union all (unionTo row s 64) ≡ unionTo row s 64
-  rows-start all e = rw e
-
-  pub rows-end : (all left : ℕ) → left ≡ 0 → union all (unionTo row left 64) ≡ unionTo row s 64 → all ≡ unionTo row s 64
-  rows-end all left e h = sym (or-zero-r all) ∙ ap (union all) (sym (carried-none row 64)) ∙ ap (λ (x : ℕ). union all (unionTo row x 64)) (sym e) ∙ h
-
-  pub rows-next : (all left r : ℕ) → left < 2 ^ 64 → r < 64 → has left r ≡ true → union all (unionTo row left 64) ≡ unionTo row s 64
-      → union (union all (row r)) (unionTo row (without left r) 64) ≡ unionTo row s 64
-  rows-next all left r l q m h =
-      or-comm (union all (row r)) (unionTo row (without left r) 64)
-      ∙ union-swap (unionTo row (without left r) 64) all (row r)
-      ∙ ap (union all) (sym (carried-with row 64 (without left r) r q) ∙ ap (λ (x : ℕ). unionTo row x 64) (with-without 64 left r l q m))
-      ∙ h

@@ -84,6 +84,34 @@ pub record Between (chosen free s : ℕ) : Type 0 where
   pub least : Sub chosen s
   pub most : (i : ℕ) → has s i ≡ true → (has chosen i ≡ true) ⊎ (has free i ≡ true)
 
+-- ---- the chosen roles judged, which carry the permissions `carried`
+
+-- r is a, or the chosen roles where they carry the lower bound: the better
+pub record Judged (job : Job) (chosen carried : ℕ) (a r : Best) : Type 0 where
+  pub old : rankAt r ≤ rankAt a
+  pub new : (r ≡ a) ⊎ ((within (value (job .lower)) carried ≡ true) × (r ≡ record { key = keyBy (job .first) (job .second) carried chosen; roles = chosen }))
+  pub least : within (value (job .lower)) carried ≡ true → rankAt r ≤ rank (keyBy (job .first) (job .second) carried chosen) chosen
+
+-- ---- what no set between can better
+
+-- r is at most 256, and an objective makes no less of the count, below d, of any set with the members of a and none outside b
+pub record LeastCost (d objective a b r : ℕ) : Type 0 where
+  pub small : r ≤ 256
+  pub least : (s : ℕ) → Sub a s → Sub s b → r ≤ cost objective (count d s)
+
+-- r is no more than the key of any set between that carries the permissions `carried` and none outside `top`
+abbrev pub LeastKey : Job → ℕ → ℕ → ℕ → ℕ → ℕ → Type 0
+LeastKey job chosen free carried top r = (s c : ℕ) → Between chosen free s → Sub carried c → Sub c top → r ≤ keyBy (job .first) (job .second) c s
+
+-- no set between that carries the lower bound, the permissions `carried` and none outside `top` ranks before a
+abbrev pub Settled : Job → ℕ → ℕ → ℕ → ℕ → Best → Type 0
+Settled job chosen free carried top a =
+    (s c : ℕ) → Between chosen free s → Sub carried c → Sub c top → within (value (job .lower)) c ≡ true → rankAt a ≤ rank (keyBy (job .first) (job .second) c s) s
+
+-- row r of a table has what each of the free roles from r on carries
+pub record Reaches (row reach : ℕ → ℕ) (free : ℕ) : Type 0 where
+  pub rows : (r i : ℕ) → r ≤ i → i < 64 → has free i ≡ true → Sub (row i) (reach r)
+
 -- ---- a step of a search: what it is given, and what it hands back
 
 -- the permissions that the chosen roles carry are these, and the exclusions, at most 32, have room for the roles

@@ -4,11 +4,11 @@ ghost use mathlib.Core.Path.{_≡_};
 ghost use mathlib.Core.Bool.{false};
 ghost use Prim.Native.Nat.{_<_};
 ghost use Rattle.model.specs.Tests.{pick};
-ghost use Rattle.model.specs.Sets.{has, with as withOf, within};
+ghost use Rattle.model.specs.Sets.{has, union, with as withOf, within};
 ghost use Rattle.model.specs.Policy.{Meaning};
 ghost use Rattle.model.specs.Choice.{carriedBy};
 ghost use Rattle.sets.specs.Words.{value};
-ghost use Rattle.query.specs.Search.{rowsOf, Keeps, Missing};
+ghost use Rattle.query.specs.Search.{rowsOf, Keeps, Missing, Reaches};
 ghost use Rattle.query.specs.Answer.{Carry};
 use model::Permission;
 use model::Role;
@@ -70,6 +70,33 @@ pub fn carried_by(rows: &[[u64; 4]; 64], set: u64) -> [u64; 4]
         left = sets::without(left, r);
     }
     all
+}
+
+// The set, with the row's permissions too where `on` says so.
+fn added(set: [u64; 4], row: [u64; 4], on: bool) -> [u64; 4]
+    ensures { λ s. ⌜ value s ≡ union (value set) (pick on (value row) 0) ⌝ }
+{
+    if on {
+        return sets::perm_union(set, row);
+    }
+    set
+}
+
+// For each role what the roles of a set carry from that role on.
+pub fn reach(rows: &[[u64; 4]; 64], set: u64) -> [[u64; 4]; 64]
+    ensures { λ t. ⌜ Reaches (rowsOf (now (rows .entry))) (rowsOf t) set ⌝ }
+{
+    let mut out = [[0u64; 4]; 64];
+    let mut all = [0u64; 4];
+    let mut left: usize = 64;
+    while 0 < left {
+        left -= 1;
+        let on = sets::has(set, Role(left as u8));
+        let next = added(all, rows[left], on);
+        all = next;
+        out[left] = next;
+    }
+    out
 }
 
 // A permission of a that b lacks, where there is one.

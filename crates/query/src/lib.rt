@@ -17,6 +17,7 @@ pub mod rank;
 pub mod rooms;
 pub mod search;
 
+use carry::reach;
 use carry::usable;
 use rank::Best;
 use rank::Job;
@@ -57,7 +58,8 @@ fn best_of(rows: &[[u64; 4]; 64], masks: &[u64; 32], rooms: &[u32; 32], job: Job
             return permission_step(rows, masks, rooms, job, free, 0, [0u64; 4], none);
         }
     }
-    subset_step(rows, masks, rooms, job, free, 0, [0u64; 4], none)
+    let from = reach(rows, free);
+    subset_step(rows, &from, masks, rooms, job, free, 0, [0u64; 4], none)
 }
 
 // The best admissible role set, of the roles that the user may activate: at least the lower bound, nothing outside the upper, and

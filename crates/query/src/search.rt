@@ -1,12 +1,14 @@
 // The two searches. Each step is given the roles chosen so far with what they carry, the roles still free, and the best set so far.
 ghost use Rattle.sets.specs.Words.{value};
-ghost use Rattle.query.specs.Search.{taskOf, Sub, Ready, Modest, Found, Tried};
+ghost use Rattle.query.specs.Search.{rowsOf, taskOf, Sub, Reaches, Ready, Modest, Found, Tried};
 use crate::carry::holders;
 use crate::carry::missing;
 use crate::rank::Best;
 use crate::rank::Job;
+use crate::rank::judged;
 use crate::rank::key_of;
 use crate::rank::no_worse;
+use crate::rank::settled;
 use crate::rooms::room_for;
 
 // 003's Procedure 3: a permission that is asked for and not carried is taken up, and the roles that carry it are tried. A set that is
@@ -71,9 +73,11 @@ pub fn role_step(
     role_step(rows, masks, rooms, job, rest, less, chosen, carried, next)
 }
 
-// Every set that has the chosen roles and some of the free ones: without the lowest, and then with it where the exclusions have room.
+// Every set that has the chosen roles and some of the free ones: with the lowest where the exclusions have room, and then without it. They
+// are given up where none of them can be better than the best so far, by `reach`: what the free roles carry from each role on.
 pub fn subset_step(
     rows: &[[u64; 4]; 64],
+    reach: &[[u64; 4]; 64],
     masks: &[u64; 32],
     rooms: &[u32; 32],
     job: Job,
@@ -82,32 +86,25 @@ pub fn subset_step(
     carried: [u64; 4],
     best: Best,
 ) -> Best
-    requires { ⌜ Ready (taskOf (now rows) (now masks) (now rooms) job) (job .count) chosen (value carried) ⌝ }
+    requires { ⌜ (Ready (taskOf (now rows) (now masks) (now rooms) job) (job .count) chosen (value carried)) × (Reaches (rowsOf (now rows)) (rowsOf (now reach)) free) ⌝ }
     ensures { λ r. ⌜ Found (taskOf (now (rows .entry)) (now (masks .entry)) (now (rooms .entry)) job) chosen free best r ⌝ }
 {
     if free == 0 {
-        let lower = job.lower;
-        if !sets::perm_within(lower, carried) {
-            return best;
-        }
-        let key = key_of(job, chosen, carried);
-        if no_worse(best, key, chosen) {
-            return best;
-        }
-        return Best {
-            key: key,
-            roles: chosen,
-        };
+        return judged(job, chosen, carried, best);
     }
     let role = sets::lowest(free);
+    let i = role.0 as usize;
+    let top = sets::perm_union(carried, reach[i]);
+    if settled(job, free, chosen, carried, top, best) {
+        return best;
+    }
     let less = sets::without(free, role);
-    let next = subset_step(rows, masks, rooms, job, less, chosen, carried, best);
     let wider = sets::with(chosen, role);
     let count = job.count;
     if !room_for(masks, rooms, count, wider) {
-        return next;
+        return subset_step(rows, reach, masks, rooms, job, less, chosen, carried, best);
     }
-    let i = role.0 as usize;
     let sum = sets::perm_union(carried, rows[i]);
-    subset_step(rows, masks, rooms, job, less, wider, sum, next)
+    let next = subset_step(rows, reach, masks, rooms, job, less, wider, sum, best);
+    subset_step(rows, reach, masks, rooms, job, less, chosen, carried, next)
 }

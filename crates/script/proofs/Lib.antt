@@ -10,3 +10,4 @@ pub mod FormLaws
 pub mod ReadLaws
 pub mod TextLaws
 pub mod ReplyLaws
+pub mod LengthLaws

@@ -2,8 +2,8 @@
 // call that a line is, `text` writes the line for an answer.
 mod lines;
 mod numerals;
-mod parse;
-mod text;
+pub mod parse;
+pub mod text;
 
 // A word read as a decimal: whether it is one, and its number.
 pub struct Number {

@@ -2,3 +2,4 @@
 pub mod Digits
 pub mod Machine
 pub mod Taken
+pub mod Unions

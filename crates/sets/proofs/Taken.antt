@@ -2,7 +2,7 @@
 -- Assumes nothing.
 use mathlib.Core.Path.{_≡_, refl, sym, ap, ap₂, subst, _∙_}
 use mathlib.Core.Bool.{Bool, true, false, _&&_, _||_, not, or-false, or-true}
-use Prim.Native.Nat.{ℕ, zero, suc, _/_, _%_, _^_, _<_}
+use Prim.Native.Nat.{ℕ, zero, suc, _/_, _%_, _^_, _≤_, _<_, zero-le, suc-le-suc}
 use native.Mathlib.Nat.{div-one, mod-lt, not-suc-le-zero, le-of-suc-le-suc}
 use native.Mathlib.Numerals.{add-one, one-add}
 use native.Mathlib.Omega.{arith}
@@ -18,7 +18,7 @@ use Rattle.sets.specs.Members.{without, lowestOf, Lowest}
 -- ---- a member taken out
 
 -- one of two tests holds, and not the other
-abbrev apart : Bool → Bool → Bool
+abbrev pub apart : Bool → Bool → Bool
 apart true b = not b
 apart false b = b
 
@@ -34,7 +34,8 @@ xor-table zero (suc (suc y)) hx hy = absurd (no-two hy)
 xor-table (suc zero) (suc (suc y)) hx hy = absurd (no-two hy)
 xor-table (suc (suc x)) y hx hy = absurd (no-two hx)
 
-has-xor : (a b k : ℕ) → has (bitXor a b) k ≡ apart (has a k) (has b k)
+-- the members of one of two sets and not of the other
+pub has-xor : (a b k : ℕ) → has (bitXor a b) k ≡ apart (has a k) (has b k)
 unfolding has
 has-xor a b k =
     ap (λ (x : ℕ). eqb (x % 2) 1) (xor-shr a b k) ∙ ap (λ (x : ℕ). eqb x 1) (xor-mod (a / 2 ^ k) (b / 2 ^ k) 1)
@@ -93,6 +94,10 @@ has-zero : (n : ℕ) → n % 2 ≡ 1 → has n 0 ≡ true
 unfolding has
 has-zero n e = eq-eqb (n / 2 ^ 0 % 2) 1 (ap (λ (x : ℕ). x % 2) (div-one n) ∙ e)
 
+odd-of : (n : ℕ) → has n 0 ≡ true → n % 2 ≡ 1
+unfolding has
+odd-of n m = ap (λ (x : ℕ). x % 2) (sym (div-one n)) ∙ eqb-true (n / 2 ^ 0 % 2) 1 m
+
 trailing-in : (k n : ℕ) → 0 < n → n < 2 ^ k → (trailingZeros k n < k) × (has n (trailingZeros k n) ≡ true)
 unfolding trailingZeros
 trailing-in zero n p h = absurd (omega arith)
@@ -110,3 +115,22 @@ trailing-in (suc k) n p h =
 pub lowest-of : (s : ℕ) → 0 < s → s < 2 ^ 64 → Lowest s (lowestOf s)
 unfolding lowestOf
 lowest-of s p h = let t = trailing-in 64 s p h in record { same = refl; small = t .0; member = t .1 }
+
+trailing-least : (k n j : ℕ) → has n j ≡ true → trailingZeros k n ≤ j
+unfolding trailingZeros
+trailing-least zero n j m = zero-le
+trailing-least (suc k) n zero m = go (n % 2) refl
+  where
+    go : (d : ℕ) → n % 2 ≡ d → under d (trailingZeros k (n / 2)) ≤ 0
+    go zero e = let o : n % 2 ≡ 1 = odd-of n m in absurd (omega arith)
+    go (suc d) e = zero-le
+trailing-least (suc k) n (suc j) m = go (n % 2) (trailing-least k (n / 2) j (has-half n j ∙ m))
+  where
+    go : (d : ℕ) → trailingZeros k (n / 2) ≤ j → under d (trailingZeros k (n / 2)) ≤ suc j
+    go zero h = suc-le-suc h
+    go (suc d) h = zero-le
+
+-- no member is below the lowest
+pub lowest-least : (s k j : ℕ) → Lowest s k → has s j ≡ true → k ≤ j
+unfolding lowestOf
+lowest-least s k j low m = subst (λ (x : ℕ). x ≤ j) (sym (low .same)) (trailing-least 64 s j m)

@@ -1,24 +1,31 @@
--- The turns of the loops that close and join the tables.
+-- The turns of the loops that close the juniors' table and make the rows that roles carry.
 -- Assumes nothing.
 use mathlib.Core.Path.{_≡_, refl, sym, ap, ap₂, _∙_}
-use mathlib.Core.Bool.{Bool, true, false}
-use mathlib.Core.List.{List, [], _∷_, _++_, map}
-use Prim.Native.Nat.{ℕ, zero, suc, _+_, _≤_, _<_}
+use mathlib.Core.Bool.{Bool, true, false, _||_, or-false, or-true, false≢true}
+use mathlib.Core.List.{List, [], _∷_, map}
+use Prim.Native.Nat.{ℕ, zero, suc, _+_, _^_, _≤_, _<_}
 use native.Mathlib.Omega.{arith}
 use native.Mathlib.Numerals.{add-one}
-use native.Mathlib.Nat.{le-of-suc-le-suc, not-suc-le-zero, le-refl}
-use lib.Bits.{or-zero-r}
-use lib.Dec.{ltb}
-use lib.ListN.{length, getD, set, take, length-map, length-append, List·getD-map, List·getD-append}
-use lib.Seq.{take-suc-set, take-all, getD-at, getD-set-other}
-use borrow.Author.Tests.{ltb-true, ltb-false}
+use native.Mathlib.Nat.{le-of-suc-le-suc, not-suc-le-zero}
+use lib.Bits.{or-self, or-zero-r}
+use lib.Dec.{eqb}
+use lib.ListN.{length, getD, set, replicate, length-map, length-set, List·getD-map}
+use lib.Seq.{ext-getD, getD-set-same, getD-set-other}
+use borrow.Author.Tests.{eqb-true, eqb-false}
 use Rattle.model.specs.Tests.{pick}
-use Rattle.model.specs.Sets.{has, union, with, within, unionTo, unionAt}
-use Rattle.model.specs.Policy.{Policy, taking, through, closed, tableOf, selfAndJuniors, reached, carriedTable}
-use Rattle.model.proofs.SetLaws.{within-has}
+use Rattle.model.specs.Sets.{has, union, with, count, unionAt}
+use Rattle.model.specs.Policy.{taking, through, closed, tableOf, selfAndJuniors}
+use Rattle.model.proofs.Bools.{and-l}
+use Rattle.model.proofs.SetLaws.{has-union, has-with}
+use Rattle.model.proofs.AnyWidth.{same-sets}
+use Rattle.model.proofs.UnionLaws.{has-none}
+use Rattle.model.proofs.Closure.{length-tableOf, getD-tableOf}
+use Rattle.sets.specs.Members.{without, Lowest}
 use Rattle.sets.specs.Words.{value, joined, values}
-use Rattle.tables.specs.Carried.{rowsOf, carriedRows}
-use Rattle.tables.proofs.Fills.{values-at, values-set}
+use Rattle.sets.proofs.Taken.{has-without, without-lt, without-other, count-without}
+use Rattle.sets.proofs.Unions.{unionAt-unions}
+use Rattle.tables.specs.Carried.{rowsOf, carriedOf}
+use Rattle.tables.proofs.Fills.{values-set}
 
 -- ---- a table mapped in place, row by row
 
@@ -73,156 +80,174 @@ pub closed-next : (k : ℕ) (rows₀ rows rows′ : List ℕ) → rows ≡ close
 unfolding closed
 closed-next k rows₀ rows rows′ e f = rw (f, e, add-one)
 
--- ---- the union of rows
+-- ---- an empty row is passed over
 
-pub added-on : (b : Bool) (s x y : ℕ) → b ≡ true → s ≡ union x y → s ≡ union x (pick b y 0)
-unfolding pick
-added-on b s x y h e = e ∙ ap (λ (z : Bool). union x (pick z y 0)) (sym h)
-
-pub added-off : (b : Bool) (x y : ℕ) → b ≡ false → x ≡ union x (pick b y 0)
-unfolding pick
-added-off b x y h = sym (or-zero-r x) ∙ ap (λ (z : Bool). union x (pick z y 0)) (sym h)
-
-pub none-yet : (row : ℕ → ℕ) (s : ℕ) → value (0 ∷ 0 ∷ 0 ∷ 0 ∷ []) ≡ unionTo row s 0
-unfolding value joined unionTo
-none-yet row s = refl
-
-module _ (rows : List (List ℕ)) (s : ℕ) where
-  pub one-more : (d x y : ℕ) (h : Bool) → x ≡ unionTo (λ r. getD (values rows) r 0) s d → h ≡ has s d
-      → y ≡ union x (pick h (value (getD rows d [])) 0) → y ≡ unionTo (λ r. getD (values rows) r 0) s (d + 1)
-  unfolding unionTo
-  one-more d x y h ex eh ey =
-      ey ∙ ap₂ (λ (z : ℕ) (b : Bool). union z (pick b (value (getD rows d [])) 0)) ex eh
-      ∙ ap (λ (z : ℕ). union (unionTo (λ r. getD (values rows) r 0) s d) (pick (has s d) z 0)) (sym (values-at rows d))
-      ∙ ap (unionTo (λ r. getD (values rows) r 0) s) (sym (add-one d))
-
-  pub all-joined : (d x : ℕ) → x ≡ unionTo (λ r. getD (values rows) r 0) s d → d ≤ 64 → 64 ≤ d → x ≡ unionAt (values rows) s
-  unfolding unionAt
-  all-joined d x e l g = let h : d ≡ 64 = omega arith in e ∙ ap (unionTo (λ r. getD (values rows) r 0) s) h
-
--- ---- a table made row by row
-
-pub length-tableOf : (n : ℕ) (f : ℕ → ℕ) → length (tableOf n f) ≡ n
-unfolding tableOf
-length-tableOf zero f = refl
-length-tableOf (suc n) f = length-append (tableOf n f) (f n ∷ []) ∙ omega (arith, length-tableOf n f)
-
-pub getD-tableOf : (n : ℕ) (f : ℕ → ℕ) (i : ℕ) → i < n → getD (tableOf n f) i 0 ≡ f i
-unfolding tableOf
-getD-tableOf zero f i l = absurd (not-suc-le-zero l)
-getD-tableOf (suc n) f i l = go (λ q. getD-tableOf n f i q) (ltb i n) refl
+-- an empty row adds nothing
+taking-empty : (k row : ℕ) → taking k 0 row ≡ row
+unfolding taking pick
+taking-empty k row = go (has row k)
   where
-    go : (i < n → getD (tableOf n f) i 0 ≡ f i) → (b : Bool) → ltb i n ≡ b → getD (tableOf n f ++ (f n ∷ [])) i 0 ≡ f i
-    go ih true p =
-        let q : i < n = ltb-true i n p in
-        List·getD-append (tableOf n f) (f n ∷ []) 0 i (omega (arith, length-tableOf n f)) ∙ ih q
-    go ih false p =
-        let e : i ≡ n = omega (arith, ltb-false i n p) in
-        rw e (getD-at (tableOf n f) (f n) [] 0 n (length-tableOf n f))
+    go : (b : Bool) → pick b (union row 0) row ≡ row
+    go true = or-zero-r row
+    go false = refl
 
-module _ (f : ℕ → ℕ) (l : List ℕ) (i : ℕ) (e : take i l ≡ tableOf i f) where
-  pub row-stored : (x : ℕ) → i < length l → x ≡ f i → take (i + 1) (set l i x) ≡ tableOf (i + 1) f
-  unfolding tableOf
-  row-stored x h ex =
-      rw (add-one) (take-suc-set l i x h ∙ ap₂ (λ (t : List ℕ) (y : ℕ). t ++ (y ∷ [])) e ex)
+-- where row k is empty, no row changes
+pub passed-over : (k : ℕ) (rows : List ℕ) → getD rows k 0 ≡ 0 → rows ≡ through k rows
+unfolding through
+passed-over k rows e = sym (ap (λ (x : ℕ). map (taking k x) rows) e ∙ same rows)
+  where
+    same : (l : List ℕ) → map (taking k 0) l ≡ l
+    same [] = refl
+    same (x ∷ l) = ap₂ (λ (y : ℕ) (t : List ℕ). y ∷ t) (taking-empty k x) (same l)
 
-  pub all-stored : (n : ℕ) → length l ≡ n → i ≤ n → n ≤ i → l ≡ tableOf n f
-  all-stored n h a b =
-      let k : i ≡ n = omega arith in
-      sym (take-all i l (omega arith)) ∙ e ∙ ap (λ (m : ℕ). tableOf m f) k
+-- ---- the roles themselves may be put into their rows after the closure
 
--- each role put into its own row, in place: the rows from i on are as they were
-pub selves-none : (rows : List ℕ) → take 0 rows ≡ tableOf 0 (λ a. with (getD rows a 0) a)
-unfolding tableOf
-selves-none rows = refl
-
-pub selves-next : (rows₀ rows : List ℕ) (i x : ℕ) → length rows ≡ 64 → i < 64 → take i rows ≡ tableOf i (λ a. with (getD rows₀ a 0) a)
-    → ((j : ℕ) → i ≤ j → getD rows j 0 ≡ getD rows₀ j 0) → x ≡ with (getD rows i 0) i
-    → take (i + 1) (set rows i x) ≡ tableOf (i + 1) (λ a. with (getD rows₀ a 0) a)
-selves-next rows₀ rows i x l lt e same ex =
-    row-stored (λ a. with (getD rows₀ a 0) a) rows i e x (omega arith) (ex ∙ ap (λ (y : ℕ). with y i) (same i (le-refl i)))
-
-pub selves-rest : (rows₀ rows : List ℕ) (i x : ℕ) → ((j : ℕ) → i ≤ j → getD rows j 0 ≡ getD rows₀ j 0)
-    → (j : ℕ) → i + 1 ≤ j → getD (set rows i x) j 0 ≡ getD rows₀ j 0
-selves-rest rows₀ rows i x same j l = getD-set-other rows i j x 0 (λ e. omega arith) ∙ same j (omega arith)
-
-pub selves-all : (rows₀ rows : List ℕ) (i : ℕ) → length rows ≡ 64 → i ≤ 64 → 64 ≤ i → take i rows ≡ tableOf i (λ a. with (getD rows₀ a 0) a)
-    → rows ≡ selfAndJuniors rows₀
-unfolding selfAndJuniors
-selves-all rows₀ rows i l a b e = all-stored (λ a. with (getD rows₀ a 0) a) rows i e 64 l a b
-
+-- a table of 64 rows
 pub length-selves : (rows : List ℕ) → length (selfAndJuniors rows) ≡ 64
 unfolding selfAndJuniors
 length-selves rows = length-tableOf 64 (λ a. with (getD rows a 0) a)
 
+-- row r with the role r
+pub selves-at : (rows : List ℕ) (r : ℕ) → r < 64 → getD (selfAndJuniors rows) r 0 ≡ with (getD rows r 0) r
+unfolding selfAndJuniors
+selves-at rows r l = getD-tableOf 64 (λ a. with (getD rows a 0) a) r l
+
+-- row i after it took in row k
+through-at : (k : ℕ) (rows : List ℕ) (i : ℕ) → getD (through k rows) i 0 ≡ taking k (getD rows k 0) (getD rows i 0)
+unfolding through taking pick
+through-at k rows i =
+    ap (getD (map (taking k (getD rows k 0)) rows) i) (sym (ap (λ (b : Bool). pick b (union 0 (getD rows k 0)) 0) (has-none k)))
+    ∙ List·getD-map (taking k (getD rows k 0)) rows i 0
+
+-- row i takes in row k, each with its own role
+module _ (i k row other : ℕ) (own : k ≡ i → other ≡ row) where
+  -- where d implies a, d may be left out
+  tests : (a b c d : Bool) → (d ≡ true → a ≡ true) → ((a || c) || (b || d)) ≡ ((a || b) || c)
+  tests true b c d h = refl
+  tests false true c d h = or-true c
+  tests false false c true h = absurd (false≢true (h refl))
+  tests false false c false h = or-false c
+
+  -- a row that has k takes in nothing new by k itself
+  both-with : has row k ≡ true → union (with row i) (with other k) ≡ with (union row other) i
+  both-with m =
+      same-sets (union (with row i) (with other k)) (with (union row other) i)
+      (λ j.
+      has-union (with row i) (with other k) j ∙ ap₂ _||_ (has-with row i j) (has-with other k j)
+      ∙ tests (has row j) (has other j) (eqb j i) (eqb j k) (λ e. ap (has row) (eqb-true j k e) ∙ m)
+      ∙ sym (has-with (union row other) i j ∙ ap (λ (b : Bool). b || eqb j i) (has-union row other j)))
+
+  -- the roles may be put in before or after
+  taking-with : taking k (with other k) (with row i) ≡ with (taking k other row) i
+  unfolding taking pick
+  taking-with = ap (λ (b : Bool). pick b (union (with row i) (with other k)) (with row i)) (has-with row i k) ∙ go (has row k) refl (eqb k i) refl
+    where
+      go : (a : Bool) → has row k ≡ a → (b : Bool) → eqb k i ≡ b
+          → pick (a || b) (union (with row i) (with other k)) (with row i) ≡ with (pick a (union row other) row) i
+      go true m b e = both-with m
+      go false m true e =
+          let q : k ≡ i = eqb-true k i e in
+          ap₂ (λ (x y : ℕ). union (with row i) (with x y)) (own q) q ∙ or-self (with row i)
+      go false m false e = refl
+
+-- for the whole table
+through-selves : (k : ℕ) (rows : List ℕ) → k < 64 → through k (selfAndJuniors rows) ≡ selfAndJuniors (through k rows)
+unfolding through
+through-selves k rows h =
+    ext-getD 0 (through k (selfAndJuniors rows)) (selfAndJuniors (through k rows)) (n ∙ sym (length-selves (through k rows)))
+    (λ i l. at i (omega (arith, n)))
+  where
+    n : length (map (taking k (getD (selfAndJuniors rows) k 0)) (selfAndJuniors rows)) ≡ 64
+    n = length-map (selfAndJuniors rows) (taking k (getD (selfAndJuniors rows) k 0)) ∙ length-selves rows
+
+    at : (i : ℕ) → i < 64 → getD (through k (selfAndJuniors rows)) i 0 ≡ getD (selfAndJuniors (through k rows)) i 0
+    at i l =
+        through-at k (selfAndJuniors rows) i
+        ∙ ap₂ (taking k) (selves-at rows k h) (selves-at rows i l)
+        ∙ taking-with i k (getD rows i 0) (getD rows k 0) (λ e. ap (λ (x : ℕ). getD rows x 0) e)
+        ∙ ap (λ (x : ℕ). with x i) (sym (through-at k rows i))
+        ∙ sym (selves-at (through k rows) i l)
+
+-- and for all passes of the closure
+pub closed-selves : (n : ℕ) (rows : List ℕ) → n ≤ 64 → closed n (selfAndJuniors rows) ≡ selfAndJuniors (closed n rows)
+unfolding closed
+closed-selves zero rows h = refl
+closed-selves (suc n) rows h = ap (through n) (closed-selves n rows (omega arith)) ∙ through-selves n (closed n rows) h
+
 -- ---- the rows of the roles that are asked for
-
-pub empty-row : value (0 ∷ 0 ∷ 0 ∷ 0 ∷ []) ≡ 0
-unfolding value joined
-empty-row = refl
-
-pub joined-on : (b : Bool) (s x : ℕ) → b ≡ true → s ≡ x → s ≡ pick b x 0
-unfolding pick
-joined-on b s x h e = e ∙ ap (λ (z : Bool). pick z x 0) (sym h)
-
-pub joined-off : (b : Bool) (x : ℕ) → b ≡ false → value (0 ∷ 0 ∷ 0 ∷ 0 ∷ []) ≡ pick b x 0
-unfolding pick value joined
-joined-off b x h = ap (λ (z : Bool). pick z x 0) (sym h)
 
 -- row r of a table for the roles of `wanted`
 abbrev pub wantedRow : List ℕ → List ℕ → ℕ → ℕ → ℕ
 wantedRow granted reached wanted r = pick (has wanted r) (unionAt granted (getD reached r 0)) 0
 
-module _ (granted reached : List ℕ) (wanted : ℕ) (out : List (List ℕ)) (i : ℕ)
-    (e : take i (values out) ≡ tableOf i (wantedRow granted reached wanted)) where
-  pub row-made : (on : Bool) (row : List ℕ) → length out ≡ 64 → i < 64 → on ≡ has wanted i → value row ≡ pick on (unionAt granted (getD reached i 0)) 0
-      → take (i + 1) (values (set out i row)) ≡ tableOf (i + 1) (wantedRow granted reached wanted)
-  unfolding values
-  row-made on row l lt eo er =
-      let h : i < length (values out) = rw length-map (omega arith) in
-      ap (take (i + 1)) (values-set out i row)
-      ∙ row-stored (wantedRow granted reached wanted) (values out) i e (value row) h
-      (er ∙ ap (λ (b : Bool). pick b (unionAt granted (getD reached i 0)) 0) eo)
+-- the rows of the roles of `left` are still to be made, the others are
+pub record Made (granted reached : List ℕ) (wanted left : ℕ) (out : List (List ℕ)) : Type 0 where
+  pub size : length out ≡ 64
+  pub small : left < 2 ^ 64
+  pub inside : (r : ℕ) → has left r ≡ true → has wanted r ≡ true
+  pub rows : (r : ℕ) → has left r ≡ false → getD (values out) r 0 ≡ wantedRow granted reached wanted r
 
-  pub rows-made : length out ≡ 64 → i ≤ 64 → 64 ≤ i → values out ≡ rowsOf granted reached wanted
+module _ (granted reached : List ℕ) (wanted : ℕ) where
+  -- a table of empty rows
+  empty-rows : (n r : ℕ) → getD (values (replicate n (0 ∷ 0 ∷ 0 ∷ 0 ∷ []))) r 0 ≡ 0
+  unfolding values value joined
+  empty-rows zero r = refl
+  empty-rows (suc n) zero = refl
+  empty-rows (suc n) (suc r) = empty-rows n r
+
+  -- at first none of the rows of `wanted` is made
+  pub made-start : wanted < 2 ^ 64 → Made granted reached wanted wanted (replicate 64 (0 ∷ 0 ∷ 0 ∷ 0 ∷ []))
+  unfolding pick
+  made-start h =
+      record {
+        size = refl;
+        small = h;
+        inside = λ r m. m;
+        rows = λ r m. empty-rows 64 r ∙ sym (ap (λ (b : Bool). pick b (unionAt granted (getD reached r 0)) 0) m);
+      }
+
+  -- at last all are
+  pub made-end : (left : ℕ) (out : List (List ℕ)) → left ≡ 0 → Made granted reached wanted left out → values out ≡ rowsOf granted reached wanted
   unfolding rowsOf values
-  rows-made l a b = all-stored (wantedRow granted reached wanted) (values out) i e 64 (rw length-map l) a b
+  made-end left out e m =
+      ext-getD 0 (values out) (tableOf 64 (wantedRow granted reached wanted))
+      (length-map out value ∙ m .size ∙ sym (length-tableOf 64 (wantedRow granted reached wanted)))
+      (λ r l.
+      m .rows r (ap (λ (x : ℕ). has x r) e ∙ has-none r)
+      ∙ sym (getD-tableOf 64 (wantedRow granted reached wanted) r (omega (arith, length-map out value ∙ m .size))))
 
--- ---- the law of those rows: over a set within `wanted` they join to what the carried table does
+  module _ (left r less : ℕ) (out : List (List ℕ)) (m : Made granted reached wanted left out) (low : Lowest left r) (el : less ≡ without left r) where
+    -- the row of the lowest role to come is stored
+    pub made-next : (row : List ℕ) → value row ≡ unionAt granted (getD reached r 0) → Made granted reached wanted less (set out r row)
+    unfolding values pick
+    made-next row er =
+        rw el
+        (record {
+          size = simp length-set (m .size);
+          small = without-lt 64 left r (m .small) (low .small);
+          inside = λ i h. m .inside i (and-l (has left i) _ (sym (has-without left r i (low .member)) ∙ h));
+          rows = λ i h. ap (λ (x : List ℕ). getD x i 0) (values-set out r row) ∙ go i h (eqb i r) refl;
+        })
+      where
+        go : (i : ℕ) → has (without left r) i ≡ false → (b : Bool) → eqb i r ≡ b
+            → getD (set (values out) r (value row)) i 0 ≡ wantedRow granted reached wanted i
+        go i h true e =
+            let q : i ≡ r = eqb-true i r e in
+            ap (λ (x : ℕ). getD (set (values out) r (value row)) x 0) q
+            ∙ getD-set-same (values out) r (value row) 0 (omega (arith, low .small, length-map out value ∙ m .size)) ∙ er
+            ∙ sym (ap (wantedRow granted reached wanted) q ∙ ap (λ (b : Bool). pick b (unionAt granted (getD reached r 0)) 0) (m .inside r (low .member)))
+        go i h false e =
+            let q = eqb-false i r e in
+            getD-set-other (values out) r i (value row) 0 q ∙ m .rows i (sym (without-other left r i (low .member) q) ∙ h)
 
--- the carried table, by the policy's tables
-pub carriedTable-is : (p : Policy) → carriedTable p ≡ map (unionAt (p .granted)) (closed (p .head .roles) (selfAndJuniors (p .juniors)))
-unfolding carriedTable reached
-carriedTable-is p = refl
+    -- one role fewer is to come
+    pub made-less : count 64 less < count 64 left
+    made-less = omega (arith, ap (count 64) el, count-without 64 left r (m .small) (low .small) (low .member))
 
-getD-else : (l : List ℕ) (i d e : ℕ) → i < length l → getD l i d ≡ getD l i e
-getD-else [] i d e h = absurd (not-suc-le-zero h)
-getD-else (x ∷ l) zero d e h = refl
-getD-else (x ∷ l) (suc i) d e h = getD-else l i d e (le-of-suc-le-suc h)
-
-unionTo-cong : (f g : ℕ → ℕ) (s d : ℕ) → ((r : ℕ) → r < d → has s r ≡ true → f r ≡ g r) → unionTo f s d ≡ unionTo g s d
-unfolding unionTo pick
-unionTo-cong f g s zero h = refl
-unionTo-cong f g s (suc d) h =
-    ap₂ union (unionTo-cong f g s d (λ r l m. h r (omega arith) m)) (go (has s d) refl)
-  where
-    go : (b : Bool) → has s d ≡ b → pick b (f d) 0 ≡ pick b (g d) 0
-    go true e = h d (omega arith) e
-    go false e = refl
-
-pub wanted-carried : (p : Policy) (wanted s : ℕ) → within s wanted ≡ true
-    → unionAt (carriedRows (p .head .roles) (p .granted) (p .juniors) wanted) s ≡ unionAt (carriedTable p) s
-unfolding unionAt carriedRows rowsOf carriedTable reached pick
-wanted-carried p wanted s w =
-    unionTo-cong _ _ s 64
-    (λ r l m.
-    getD-tableOf 64 (wantedRow (p .granted) (closed (p .head .roles) (selfAndJuniors (p .juniors))) wanted) r l
-    ∙ ap (λ (b : Bool). pick b (unionAt (p .granted) (getD (closed (p .head .roles) (selfAndJuniors (p .juniors))) r 0)) 0) (within-has s wanted w r m)
-    ∙ sym (mapped r l))
-  where
-    mapped : (r : ℕ) → r < 64 → getD (map (unionAt (p .granted)) (closed (p .head .roles) (selfAndJuniors (p .juniors)))) r 0
-        ≡ unionAt (p .granted) (getD (closed (p .head .roles) (selfAndJuniors (p .juniors))) r 0)
-    mapped r l =
-        getD-else (map (unionAt (p .granted)) (closed (p .head .roles) (selfAndJuniors (p .juniors)))) r 0 (unionAt (p .granted) 0)
-        (rw (length-map, length-closed, length-selves) l)
-        ∙ List·getD-map (unionAt (p .granted)) (closed (p .head .roles) (selfAndJuniors (p .juniors))) r 0
+-- ---- what the roles of a set carry: the permissions granted to the roles that they reach
+pub carried-reached : (n : ℕ) (granted juniors : List ℕ) (s : ℕ) → n ≤ 64
+    → unionAt granted (unionAt (selfAndJuniors (closed n juniors)) s) ≡ unionAt (carriedOf n granted juniors) s
+unfolding carriedOf
+carried-reached n granted juniors s h =
+    ap (λ (x : List ℕ). unionAt granted (unionAt x s)) (sym (closed-selves n juniors h))
+    ∙ sym (unionAt-unions granted (closed n (selfAndJuniors juniors)) s)

@@ -2,11 +2,10 @@
 ghost use mathlib.Core.Path.{_≡_};
 ghost use lib.ListN.{length, getD};
 ghost use Prim.Native.Nat.{_≤_, _<_};
-ghost use Rattle.model.specs.Tests.{pick};
-ghost use Rattle.model.specs.Sets.{has, union, unionAt};
+ghost use Rattle.model.specs.Sets.{has, unionAt};
 ghost use Rattle.model.specs.Policy.{taking, through as throughOf, closed, selfAndJuniors};
 ghost use Rattle.sets.specs.Words.{value, values};
-ghost use Rattle.tables.specs.Carried.{rowsOf, carriedRows};
+ghost use Rattle.tables.specs.Carried.{rowsOf, carriedRows, carriedOf};
 use model::Permission;
 use model::Role;
 
@@ -23,12 +22,15 @@ fn take_in(row: u64, other: u64, k: usize) -> u64
     row
 }
 
-// Each row that has k takes in row k.
+// Each row that has k takes in row k. An empty row k changes none.
 fn through(rows: &mut [u64; 64], k: usize)
     requires { ⌜ (k < 64) × (length (now rows) ≡ 64) ⌝ }
     ensures { λ r. ⌜ now (rows .exit) ≡ throughOf k (now (rows .entry)) ⌝ }
 {
     let other = rows[k];
+    if other == 0 {
+        return;
+    }
     for i in 0..64usize {
         let row = take_in(rows[i], other, k);
         rows[i] = row;
@@ -45,59 +47,59 @@ fn close(rows: &mut [u64; 64], n: usize)
     }
 }
 
-// Each role put into its own row.
-fn add_selves(rows: &mut [u64; 64])
-    requires { ⌜ length (now rows) ≡ 64 ⌝ }
-    ensures { λ r. ⌜ now (rows .exit) ≡ selfAndJuniors (now (rows .entry)) ⌝ }
+// The roles that role r reaches: itself and those of its row.
+fn reach(rows: &[u64; 64], r: Role) -> u64
+    requires { ⌜ r .0 < 64 ⌝ }
+    ensures { λ s. ⌜ s ≡ getD (selfAndJuniors (now (rows .entry))) (r .0) 0 ⌝ }
 {
-    for a in 0..64usize {
-        let row = sets::with(rows[a], Role(a as u8));
-        rows[a] = row;
+    let who = r.0 as usize;
+    sets::with(rows[who], r)
+}
+
+// The roles that the roles of a set reach.
+fn reached_by(rows: &[u64; 64], set: u64) -> u64
+    ensures { λ s. ⌜ s ≡ unionAt (selfAndJuniors (now (rows .entry))) set ⌝ }
+{
+    let mut left = set;
+    let mut all: u64 = 0;
+    while left != 0 {
+        let r = sets::lowest(left);
+        let next = sets::union(all, reach(rows, r));
+        all = next;
+        left = sets::without(left, r);
     }
+    all
 }
 
 // ---- what roles carry
 
-// The set, with the row's permissions too where `on` says so.
-fn added(set: [u64; 4], row: [u64; 4], on: bool) -> [u64; 4]
-    ensures { λ s. ⌜ value s ≡ union (value set) (pick on (value row) 0) ⌝ }
-{
-    if on { sets::perm_union(set, row) } else { set }
-}
-
 // The permissions of the rows at the roles.
-pub fn joined(rows: &[[u64; 4]; 64], roles: u64) -> [u64; 4]
+fn joined(rows: &[[u64; 4]; 64], roles: u64) -> [u64; 4]
     ensures { λ s. ⌜ value s ≡ unionAt (values (now (rows .entry))) roles ⌝ }
 {
-    let mut out = [0u64; 4];
-    for r in 0..64usize {
-        let on = sets::has(roles, Role(r as u8));
-        let next = added(out, rows[r], on);
-        out = next;
+    let mut left = roles;
+    let mut all = [0u64; 4];
+    while left != 0 {
+        let r = sets::lowest(left);
+        let i = r.0 as usize;
+        let next = sets::perm_union(all, rows[i]);
+        all = next;
+        left = sets::without(left, r);
     }
-    out
-}
-
-// The permissions of the rows at the roles where `on` says so, else none.
-fn joined_if(rows: &[[u64; 4]; 64], roles: u64, on: bool) -> [u64; 4]
-    ensures { λ s. ⌜ value s ≡ pick on (unionAt (values (now (rows .entry))) roles) 0 ⌝ }
-{
-    if on {
-        return joined(rows, roles);
-    }
-    [0u64; 4]
+    all
 }
 
 // For each role of `wanted` the permissions of the rows at the roles that it reaches.
-fn rows_of(rows: &[[u64; 4]; 64], reached: &[u64; 64], wanted: u64) -> [[u64; 4]; 64]
-    requires { ⌜ length (now reached) ≡ 64 ⌝ }
-    ensures { λ t. ⌜ values t ≡ rowsOf (values (now (rows .entry))) (now (reached .entry)) wanted ⌝ }
+fn rows_of(rows: &[[u64; 4]; 64], juniors: &[u64; 64], wanted: u64) -> [[u64; 4]; 64]
+    ensures { λ t. ⌜ values t ≡ rowsOf (values (now (rows .entry))) (selfAndJuniors (now (juniors .entry))) wanted ⌝ }
 {
+    let mut left = wanted;
     let mut out = [[0u64; 4]; 64];
-    for i in 0..64usize {
-        let on = sets::has(wanted, Role(i as u8));
-        let row = joined_if(rows, reached[i], on);
-        out[i] = row;
+    while left != 0 {
+        let r = sets::lowest(left);
+        let row = joined(rows, reach(juniors, r));
+        out[r.0 as usize] = row;
+        left = sets::without(left, r);
     }
     out
 }
@@ -112,9 +114,23 @@ pub fn carried(
     requires { ⌜ (roles ≤ 64) × (length (now juniors) ≡ 64) ⌝ }
     ensures { λ t. ⌜ values t ≡ carriedRows roles (values (now (granted .entry))) (now (juniors .entry)) wanted ⌝ }
 {
-    add_selves(juniors);
     close(juniors, roles);
     rows_of(granted, juniors, wanted)
+}
+
+// What the roles of a set carry, where there are so many roles. The juniors' table is closed in place.
+pub fn carried_by(
+    granted: &[[u64; 4]; 64],
+    juniors: &mut [u64; 64],
+    roles: usize,
+    set: u64,
+) -> [u64; 4]
+    requires { ⌜ (roles ≤ 64) × (length (now juniors) ≡ 64) ⌝ }
+    ensures { λ s. ⌜ value s ≡ unionAt (carriedOf roles (values (now (granted .entry))) (now (juniors .entry))) set ⌝ }
+{
+    close(juniors, roles);
+    let reached = reached_by(juniors, set);
+    joined(granted, reached)
 }
 
 // Role r carries permission p.

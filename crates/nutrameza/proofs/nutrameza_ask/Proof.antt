@@ -37,7 +37,7 @@ returns-2 c =
     let j = sym (k .0) ∙ g in
     let t = k .1 _ g in
     let e = answers-accepted 4 (a .image .now) (a .ledger .now) (askBy (a .user) (a .session) (a .lower .now) (a .upper .now) (a .permission-aim) (a .role-aim) (length (a .answer .now)))
-    _ _ _ _ _ j (c .before .before .before .before .ask-roles .ensures (policyOf (a .image .now)) (known-of (a .image .now) _ _ _ _ _ _ j t) (t .granted-is) (t .juniors-is)) in
+    _ _ _ (a .answer .now) _ j (c .before .before .before .before .ask-roles .ensures (policyOf (a .image .now)) (known-of (a .image .now) _ _ _ _ _ _ j t) (t .granted-is) (t .juniors-is)) in
     (e .number, e .bytes, e .buffer)
 
 pub nutrameza-ask-spec : {M : Type 1} → statement M

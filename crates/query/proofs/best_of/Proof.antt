@@ -21,9 +21,11 @@ permission-step-requires c κs =
 subset-step-requires : tie.Need-subset-step-requires
 unfolding value joined
 subset-step-requires c κs =
-    let s = c .before in
-    let g = s .args in
-    ready-none (taskOf (now (g .rows)) (now (g .masks)) (now (g .rooms)) (g .job)) (g .job .count) 0 (s .pre .0) refl (s .pre .1)
+    let s = c .before .before .before in
+    let g = s .args in (
+      ready-none (taskOf (now (g .rows)) (now (g .masks)) (now (g .rooms)) (g .job)) (g .job .count) 0 (s .pre .0) refl (s .pre .1),
+      c .before .reach .ensures,
+    )
 
 pub best-of-spec : {M : Type 1} → statement M
-best-of-spec = tie.close (tie.spec permission-step-requires (λ c. search needs) subset-step-requires (λ c. search needs))
+best-of-spec = tie.close (tie.spec permission-step-requires (λ c. search needs) (λ c κs. search needs) subset-step-requires (λ c. search needs))

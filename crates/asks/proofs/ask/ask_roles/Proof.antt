@@ -70,7 +70,7 @@ returns-2 c p h g j =
     let a = c .before .before .before .before .before .before .before .before .before .before .before .before .before .before .before .before .before .before .args in
     let r = ask-for 4 (a .head) (a .assigned .now) (exclusionsIn (a .xs .now) (a .count)) (a .ledger .now) (a .user) (a .session) (a .lower .now) (a .upper .now) (a .first) (a .second) _ _
     (c .before .before .before .before .before .before .before .before .before .before .before .before .ask-refusal .ensures) (c .before .before .before .before .before .before .before .before .before .before .before .if1 .left) p h in
-    answers-searched p (a .ledger .now) (a .user) (a .session) (a .lower .now) (a .upper .now) (a .first) (a .second) _ _ _ _ _ _ _ r
+    answers-searched p (a .ledger .now) (a .user) (a .session) (a .lower .now) (a .upper .now) (a .first) (a .second) _ _ _ _ _ (a .answer .now) _ r
     (c .before .before .before .before .before .before .before .before .before .bound .ensures) (c .before .before .before .before .before .before .before .before .bound2 .ensures)
     (c .before .before .before .before .put-best .ensures p
     (searched-of p (a .head) (a .assigned .now) (exclusionsIn (a .xs .now) (a .count)) (a .ledger .now) (values (a .granted .now)) (a .juniors .now) (a .user) _ h g j (c .before .before .before .before .before .before .before .before .before .before .roles-of .ensures) (r .first)))

@@ -35,8 +35,8 @@ returns-3 c p h =
     or-second _ _ _ _ (c .before .before .before .before .before .first-refusal .ensures p h) (c .before .before .before .before .if1 .left)
     (or-second _ _ _ _ (c .before .before .session-refusal .ensures ∙ ap (λ (x : Line). sessionRefusal 4 x (a .session)) (c .before .before .before .line-of .ensures))
     (c .before .if2 .left)
-    (c .query-refusal .ensures
-    ∙ ap (λ (x : Head). queryRefusal (x .permissions) (a .lower .now) (a .upper .now) (a .first) (a .second) (a .room)) (sym (h .head-is))))
+    (_∙_ {b = queryRefusal (a .head .permissions) (a .lower .now) (a .upper .now) (a .first) (a .second) (a .room)} (c .query-refusal .ensures)
+    (ap (λ (x : Head). queryRefusal (x .permissions) (a .lower .now) (a .upper .now) (a .first) (a .second) (a .room)) (sym (h .head-is)))))
 
 pub ask-refusal-spec : {M : Type 1} → statement M
 ask-refusal-spec =

@@ -5,18 +5,15 @@ use mir.Syntax.{w64}
 use mir.Val.{Fits}
 use lib.ListN.{getD}
 use borrow.Author.Needs.{needs}
-use Rattle.calls.proofs.Filled.{five, set-bytes}
+use Rattle.calls.proofs.Filled.{filled}
 use Rattle.calls.proofs.answer.fill.Statement.{statement}
 use Rattle.calls.proofs.answer.fill.Tie as tie
 
 returns : tie.Need-returns
 returns c =
     let s = c .before .before .before .before .before .before .before .before .before .before .before .before .before .before .before .before .before .before .before .before .before in
-    let a = s .args in
-    let fit : (i : ℕ) → Fits w64 (getD (a .t3) i 0) = search needs in
-    let e = set-bytes (a .t3) fit in
-    let h = five (a .answer .now) (a .roles) (getD (a .t3) 0 0) (getD (a .t3) 1 0) (getD (a .t3) 2 0) (getD (a .t3) 3 0) (s .pre) in
-    cc (e, h)
+    filled (s .args .answer .now) (s .args .t3) (s .args .roles) _ _ _ _ _ (s .pre) (search needs)
+    (c .before .before .before .before .before .before .before .before .before .before .before .before .before .before .before .before .before .before .put-u64 .ensures) (c .before .before .before .before .before .before .before .before .before .before .before .before .before .before .put-u642 .ensures) (c .before .before .before .before .before .before .before .before .before .before .put-u643 .ensures) (c .before .before .before .before .before .before .put-u644 .ensures) (c .before .before .put-u645 .ensures)
 
 pub fill-spec : {M : Type 1} → statement M
 fill-spec =

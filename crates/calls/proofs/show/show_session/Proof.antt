@@ -16,7 +16,7 @@ use Rattle.model.specs.Run.{showBy}
 use Rattle.rows.specs.Rows.{exclusionsIn}
 use Rattle.calls.specs.Calls.{lineOf}
 use Rattle.calls.proofs.FirstSteps.{shows-refusal, stopped, ready-for, room-for}
-use Rattle.calls.proofs.Shown.{show12, show13, show19, show0, rows-carry}
+use Rattle.calls.proofs.Shown.{show12, show13, show19, show0, set-carries}
 use Rattle.calls.proofs.show.show_session.Statement.{statement}
 use Rattle.calls.proofs.show.show_session.Tie as tie
 
@@ -64,16 +64,18 @@ returns-4 c p h eg ej =
 returns-5 : tie.Need-returns-5
 unfolding lineOf sessionAt emptySession
 returns-5 c p h eg ej =
-    let f = c .before .before .before .before .before .before .before .before .before .before .before .before .before .before .before .before in
+    let k = c .before .before .before .before in
+    let t = k .before .before .before .before in
+    let o = t .before .before in
+    let n = o .before in
+    let f = n .before .before .before in
     let a = f .before .before .before .args in
-    let l = c .before .before .before .before .before .before .before .before .before .before .before .before .before .line-of .ensures in
-    let r = ready-for 4 (a .head) (a .assigned .now) (exclusionsIn (a .xs .now) (a .count)) (a .ledger .now) (a .user) _ (f .first-refusal .ensures) (c .before .before .before .before .before .before .before .before .before .before .before .before .before .before .before .if1 .left) p h in
-    let g = show0 4 p (a .ledger .now) (a .user) (a .session) (a .answer .now) r (c .before .before .before .before .before .before .before .before .before .before .before .before .before .before .if2 .left)
-    (ap (λ (x : Line). isOpen x (a .session)) (sym l) ∙ sym (c .before .before .before .before .before .before .before .before .before .before .before .before .is-open .ensures) ∙ not-false _ (c .before .before .before .before .before .before .before .before .before .before .before .if3 .left))
-    (c .before .before .before .before .before .before .before .before .before .before .if4 .left) in
+    let l = n .line-of .ensures in
+    let r = ready-for 4 (a .head) (a .assigned .now) (exclusionsIn (a .xs .now) (a .count)) (a .ledger .now) (a .user) _ (f .first-refusal .ensures) (n .before .before .if1 .left) p h in
+    let g = show0 4 p (a .ledger .now) (a .user) (a .session) (a .answer .now) r (n .before .if2 .left)
+    (ap (λ (x : Line). isOpen x (a .session)) (sym l) ∙ sym (o .is-open .ensures) ∙ not-false _ (t .before .if3 .left)) (t .if4 .left) in
     let s = ap (λ (x : Line). sessionAt x (a .session) .active) l in
-    let e = c .before .before .before .before .joined .ensures
-    ∙ rows-carry p (a .user) _ _ _ _ _ (ap (λ (x : Head). x .roles) (h .head-is)) eg ej (c .before .before .before .before .before .before .carried .ensures) in
+    let e = k .carried-by .ensures ∙ set-carries p (a .user) _ _ _ _ (ap (λ (x : Head). x .roles) (h .head-is)) eg ej in
     record {
       number = g .number;
       buffer = c .before .before .fill .ensures ∙ ap₂ (λ (x y : ℕ). bytesOf 8 x ++ bytesOf 32 y) s (e ∙ ap (carriedBy (meaning p (a .user))) s) ∙ g .buffer;
@@ -82,4 +84,4 @@ returns-5 c p h eg ej =
 pub show-session-spec : {M : Type 1} → statement M
 show-session-spec =
     tie.close
-    (tie.spec (λ c κs. search needs) returns returns-2 line-of-requires (λ c κs. search needs) returns-3 returns-4 (λ c. search needs) (λ c. search needs) (λ c. search needs) (λ c κs. search needs) (λ c κs. search needs) (λ c κs. search needs) (λ c. search needs) returns-5)
+    (tie.spec (λ c κs. search needs) returns returns-2 line-of-requires (λ c κs. search needs) returns-3 returns-4 (λ c. search needs) (λ c. search needs) (λ c. search needs) (λ c κs. search needs) (λ c κs. search needs) (λ c. search needs) returns-5)

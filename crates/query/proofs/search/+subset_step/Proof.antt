@@ -12,93 +12,103 @@ use Rattle.model.specs.Sets.{count}
 use Rattle.sets.specs.Words.{value}
 use Rattle.query.specs.Search.{taskOf}
 use Rattle.query.proofs.RoomLaws.{roomy-less}
-use Rattle.query.proofs.Turns.{ends-short, ends-worse, ends-best, ready-more, takes-both, takes-one, roles-less}
+use Rattle.query.proofs.Turns.{judges, ready-more, takes-both, takes-one, cuts-off, reaches-less, roles-less}
 use Rattle.query.proofs.search.subset_step.Reads as subset-step
 use Rattle.query.proofs.search.subset_step.Kinds as subset-step-kinds
 use Rattle.query.proofs.search.+subset_step.Lts-subset_step as subset-step-lts
-use Rattle.query.proofs.rank.key_of.Reads as key-of-reads
-use Rattle.query.proofs.rank.no_worse.Reads as no-worse-reads
+use Rattle.query.proofs.rank.judged.Reads as judged-reads
+use Rattle.query.proofs.rank.settled.Reads as settled-reads
 use Rattle.query.proofs.rooms.room_for.Reads as room-for-reads
 use Rattle.sets.proofs.lowest.Reads as lowest-reads
 use Rattle.sets.proofs.perm_union.Reads as perm-union-reads
-use Rattle.sets.proofs.perm_within.Reads as perm-within-reads
 use Rattle.sets.proofs.with.Reads as with-reads
 use Rattle.sets.proofs.without.Reads as without-reads
 use Rattle.query.proofs.search.+subset_step.{statement}
 use Rattle.query.proofs.search.+subset_step.Tie.{close}
 
-abbrev μ-subset-step : Measures 3 subset-step-kinds.ps ℕ
-μ-subset-step κs a = count 64 (a .1 .1 .1 .1 .0)
+abbrev μ-subset-step : Measures 4 subset-step-kinds.ps ℕ
+μ-subset-step κs a = count 64 (a .1 .1 .1 .1 .1 .0)
 
-abbrev subset-step-at : ℕ → In 3 subset-step-kinds.ps
-subset-step-at t = and 3 subset-step-kinds.ps (is 3 subset-step-kinds.ps μ-subset-step t) subset-step.Pre
+abbrev subset-step-at : ℕ → In 4 subset-step-kinds.ps
+subset-step-at t = and 4 subset-step-kinds.ps (is 4 subset-step-kinds.ps μ-subset-step t) subset-step.Pre
 
-abbrev subset-step-below : ℕ → In 3 subset-step-kinds.ps
-subset-step-below t = and 3 subset-step-kinds.ps (falls 3 subset-step-kinds.ps _<_ μ-subset-step t) subset-step.Pre
+abbrev subset-step-below : ℕ → In 4 subset-step-kinds.ps
+subset-step-below t = and 4 subset-step-kinds.ps (falls 4 subset-step-kinds.ps _<_ μ-subset-step t) subset-step.Pre
 
 pub +subset-step-spec : {M : Type 1} → statement M
 +subset-step-spec =
     close μ-subset-step λ t. subset-step-lts.spec (
-      perm-within-reads.Asked,
-      perm-within-reads.Learnt,
-      key-of-reads.Asked,
-      key-of-reads.Learnt,
-      no-worse-reads.Asked,
-      no-worse-reads.Learnt,
+      judged-reads.Asked,
+      judged-reads.Learnt,
       lowest-reads.Asked,
       lowest-reads.Learnt,
+      perm-union-reads.Asked,
+      perm-union-reads.Learnt,
+      settled-reads.Asked,
+      settled-reads.Learnt,
       without-reads.Asked,
       without-reads.Learnt,
-      subset-step-below t,
-      subset-step.Post,
       with-reads.Asked,
       with-reads.Learnt,
       room-for-reads.Asked,
       room-for-reads.Learnt,
-      perm-union-reads.Asked,
-      perm-union-reads.Learnt,
+      subset-step-below t,
+      subset-step.Post,
     )
     (subset-step-at t)
     subset-step.Post
     (λ c κs. search needs)
-    (λ c. let s = c .before .before .before .before in
+    (λ c. let s = c .before .before in
     let g = s .args in
-    ends-short (taskOf (now (g .rows)) (now (g .masks)) (now (g .rooms)) (g .job)) (g .job .count) (g .chosen) (value (g .carried)) (g .best) (s .pre .1) _ (c .before .perm-within .ensures) (g .free) (c .before .before .before .if1 .taken) (not-true _ (c .if2 .taken)))
+    judges (now (g .rows)) (now (g .masks)) (now (g .rooms)) (g .job) (g .chosen) (g .free) (value (g .carried)) (g .best) _ (s .pre .1 .0) (c .before .if1 .taken) (c .judged .ensures))
+    (λ c κs. search needs)
+    (λ c. search needs)
+    (λ c. search needs)
+    (λ c. search needs)
     (λ c κs. search needs)
     (λ c κs. search needs)
-    (λ c. let s = c .before .before .before .before .before .before .before in
-    let g = s .args in
-    ends-worse (taskOf (now (g .rows)) (now (g .masks)) (now (g .rooms)) (g .job)) (g .job .count) (g .chosen) (value (g .carried)) _ (g .best) _ (s .pre .1) (c .before .before .key-of .ensures) (c .before .no-worse .ensures) (g .free) (c .before .before .before .before .before .before .if1 .taken) (c .if3 .taken))
-    (λ c. let s = c .before .before .before .before .before .before .before in
-    let g = s .args in
-    ends-best (taskOf (now (g .rows)) (now (g .masks)) (now (g .rooms)) (g .job)) (g .job .count) (g .chosen) (value (g .carried)) _ (g .best) _ (s .pre .1) (c .before .before .key-of .ensures) (c .before .no-worse .ensures) (g .free) (c .before .before .before .before .before .before .if1 .taken) (c .if3 .left) _ (c .before .before .before .before .perm-within .ensures) (not-false _ (c .before .before .before .if2 .left)))
-    (λ c κs. search needs)
-    (λ c κs. search needs)
-    (λ c κs. let l = c .before in
+    (λ c. let u = c .before .before in
+    let l = u .before .before .before in
     let s = l .before .before in
-    (omega (arith, s .pre .0, roles-less (s .args .free) (l .lowest .result .0) (c .without .result) (s .fits .free .fits) (l .lowest .ensures .small) (l .lowest .ensures .member) (c .without .ensures)), s .pre .1))
+    let g = s .args in
+    cuts-off (now (g .rows)) (now (g .reach)) (now (g .masks)) (now (g .rooms)) (g .job) (g .chosen) (g .free) (value (g .carried)) (l .lowest .result .0) _ (g .best) _ (s .pre .1 .0) (s .pre .1 .1) (l .lowest .ensures) (u .perm-union .ensures) (c .before .settled .ensures) (c .if2 .taken))
     (λ c κs. search needs)
-    (λ c κs. c .before .before .before .before .before .pre .1 .few)
-    (λ c. let w = c .before .before in
-    let n = w .before in
-    let l = n .before .before in
-    let g = l .before .before .args in
-    takes-one (taskOf (now (g .rows)) (now (g .masks)) (now (g .rooms)) (g .job)) (roomy-less (now (g .masks)) (now (g .rooms)) (g .job .count)) (g .chosen) (g .free) (l .lowest .result .0) _ _ _ (l .lowest .ensures .member) (n .before .without .ensures) (w .with .ensures) (c .before .room-for .ensures) (g .best) _ (not-true _ (c .if4 .taken)) (n .subset-step .ensures))
-    (λ c. search needs)
-    (λ c. search needs)
-    (λ c. search needs)
     (λ c κs. search needs)
+    (λ c κs. c .before .before .before .before .before .before .before .before .before .pre .1 .0 .few)
     (λ c κs. let f = c .before .before .before in
-    let w = f .before .before in
-    let l = w .before .before .before in
+    let l = f .before .before .before .before .before .before in
     let s = l .before .before in
     let g = s .args in (
-      omega (arith, s .pre .0, roles-less (g .free) (l .lowest .result .0) (w .before .before .without .result) (s .fits .free .fits) (l .lowest .ensures .small) (l .lowest .ensures .member) (w .before .before .without .ensures)),
-      ready-more (taskOf (now (g .rows)) (now (g .masks)) (now (g .rooms)) (g .job)) (g .job .count) (g .chosen) (value (g .carried)) (l .lowest .result .0) (s .pre .1) _ _ _ _ (l .lowest .ensures .small) (w .with .ensures) (c .perm-union .ensures) refl (f .before .room-for .ensures) (not-false _ (f .if4 .left)),
+      omega (arith, s .pre .0, roles-less (g .free) (l .lowest .result .0) (f .without .result) (s .fits .free .fits) (l .lowest .ensures .small) (l .lowest .ensures .member) (f .without .ensures)),
+      (s .pre .1 .0, reaches-less _ _ (g .free) (l .lowest .result .0) _ (l .lowest .ensures .member) (f .without .ensures) (s .pre .1 .1)),
     ))
-    (λ c. let f = c .before .before .before .before in
-    let w = f .before .before in
-    let n = w .before in
-    let l = n .before .before in
+    (λ c. let w = c .before .before .before in
+    let f = w .before in
+    let l = f .before .before .before .before .before .before in
     let g = l .before .before .args in
-    takes-both (taskOf (now (g .rows)) (now (g .masks)) (now (g .rooms)) (g .job)) (roomy-less (now (g .masks)) (now (g .rooms)) (g .job .count)) (g .chosen) (g .free) (l .lowest .result .0) _ _ _ (l .lowest .ensures .member) (n .before .without .ensures) (w .with .ensures) (f .before .room-for .ensures) (g .best) _ _ (n .subset-step .ensures) (c .subset-step2 .ensures))
+    takes-one (taskOf (now (g .rows)) (now (g .masks)) (now (g .rooms)) (g .job)) (roomy-less (now (g .masks)) (now (g .rooms)) (g .job .count)) (g .chosen) (g .free) (l .lowest .result .0) _ _ _ (l .lowest .ensures .member) (f .without .ensures) (w .with .ensures) (c .before .before .room-for .ensures) (g .best) _ (not-true _ (c .before .if3 .taken)) (c .subset-step .ensures))
+    (λ c. search needs)
+    (λ c. search needs)
+    (λ c κs. search needs)
+    (λ c κs. let i = c .before .before in
+    let w = i .before .before in
+    let f = w .before in
+    let l = f .before .before .before .before .before .before in
+    let s = l .before .before in
+    let g = s .args in (
+      omega (arith, s .pre .0, roles-less (g .free) (l .lowest .result .0) (f .without .result) (s .fits .free .fits) (l .lowest .ensures .small) (l .lowest .ensures .member) (f .without .ensures)),
+      (ready-more (taskOf (now (g .rows)) (now (g .masks)) (now (g .rooms)) (g .job)) (g .job .count) (g .chosen) (value (g .carried)) (l .lowest .result .0) (s .pre .1 .0) _ _ _ _ (l .lowest .ensures .small) (w .with .ensures) (c .perm-union2 .ensures) refl (i .before .room-for .ensures) (not-false _ (i .if3 .left)), reaches-less _ _ (g .free) (l .lowest .result .0) _ (l .lowest .ensures .member) (f .without .ensures) (s .pre .1 .1)),
+    ))
+    (λ c κs. let f = c .before .before .before .before .before .before in
+    let l = f .before .before .before .before .before .before in
+    let s = l .before .before in
+    let g = s .args in (
+      omega (arith, s .pre .0, roles-less (g .free) (l .lowest .result .0) (f .without .result) (s .fits .free .fits) (l .lowest .ensures .small) (l .lowest .ensures .member) (f .without .ensures)),
+      (s .pre .1 .0, reaches-less _ _ (g .free) (l .lowest .result .0) _ (l .lowest .ensures .member) (f .without .ensures) (s .pre .1 .1)),
+    ))
+    (λ c. let i = c .before .before .before .before in
+    let w = i .before .before in
+    let f = w .before in
+    let l = f .before .before .before .before .before .before in
+    let g = l .before .before .args in
+    takes-both (taskOf (now (g .rows)) (now (g .masks)) (now (g .rooms)) (g .job)) (roomy-less (now (g .masks)) (now (g .rooms)) (g .job .count)) (g .chosen) (g .free) (l .lowest .result .0) _ _ _ (l .lowest .ensures .member) (f .without .ensures) (w .with .ensures) (i .before .room-for .ensures) (g .best) _ _ (c .before .subset-step2 .ensures) (c .subset-step3 .ensures))

@@ -1,30 +1,38 @@
--- `tables::carried::joined` meets its contract.
+-- `tables::carried::joined` meets its contract. The loop's invariant: the rows so far are joined, those of the roles to come are not.
 -- Assumes nothing.
-use mathlib.Core.Path.{_≡_}
-use Prim.Native.Nat.{_≤_, _-_}
-use native.Mathlib.Omega.{arith}
+use mathlib.Core.Path.{refl, ap, sym, _∙_}
 use lib.ListN.{getD}
-use Rattle.sets.specs.Words.{value, values}
-use Rattle.model.specs.Sets.{unionTo}
-use Rattle.tables.proofs.Closing.{none-yet, one-more, all-joined}
 use borrow.Author.Needs.{needs}
+use Rattle.model.specs.Sets.{union, count, unionAt}
+use Rattle.sets.specs.Words.{value, joined, values}
+use Rattle.sets.proofs.Unions.{Joins, joins-start, joins-next, joins-less, joins-end}
+use Rattle.tables.proofs.Fills.{values-at}
 use Rattle.tables.proofs.carried.joined.Statement.{statement}
 use Rattle.tables.proofs.carried.joined.Tie as tie
 
 abbrev Inv-loop : tie.InvT-loop
-Inv-loop rows roles out₀ r₀ out r = (r ≤ 64) × (value out ≡ unionTo (λ k. getD (values rows) k 0) roles r)
+Inv-loop rows roles left₀ all₀ left all = Joins (λ r. getD (values rows) r 0) roles left (value all)
 
 abbrev μ-loop : tie.MeasureT-loop
-μ-loop rows roles out₀ r₀ out r = 64 - r
+μ-loop rows roles left₀ all₀ left all = count 64 left
 
 loop-holds : tie.Need-loop-holds Inv-loop μ-loop
-loop-holds c = search (needs, none-yet)
+unfolding value joined
+loop-holds c = joins-start _ _ _ refl (c .fits .roles .fits)
+
+loop-less : tie.Need-loop-less Inv-loop μ-loop
+loop-less c = search (needs, joins-less)
 
 loop-again : tie.Need-loop-again Inv-loop μ-loop
-loop-again c = (omega arith, one-more (c .before .before .before .before .before .args .rows .now) (c .before .before .before .before .before .args .roles) (c .before .before .before .before .loop .r) _ _ _ (c .before .before .before .before .loop .inv .1) (c .before .before .has .ensures) (c .added .ensures))
+loop-again c =
+    let w = c .before .before .before .before in
+    let l = w .before .before in
+    joins-next _ _ _ _ _ _ (l .loop .inv) (w .lowest .ensures) (c .without .ensures) _
+    (c .before .perm-union .ensures ∙ ap (union (value (l .loop .all))) (sym (values-at (l .before .args .rows .now) (w .lowest .result .0))))
 
 returns : tie.Need-returns Inv-loop μ-loop
-returns c = search (needs, all-joined)
+unfolding unionAt
+returns c = search (needs, joins-end)
 
 pub joined-spec : {M : Type 1} → statement M
-joined-spec = tie.close (tie.spec Inv-loop μ-loop loop-holds (λ c. search needs) (λ c κs. search needs) (λ c. search needs) (λ c. search needs) (λ c κs. search needs) (λ c. search needs) (λ c. search needs) loop-again returns)
+joined-spec = tie.close (tie.spec Inv-loop μ-loop loop-holds (λ c κs. search needs) (λ c. search needs) (λ c. search needs) (λ c. search needs) (λ c κs. search needs) (λ c κs. search needs) loop-less loop-again returns)

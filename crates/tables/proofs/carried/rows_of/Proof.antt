@@ -1,44 +1,36 @@
--- `tables::carried::rows_of` meets its contract. The loop's invariant: the rows so far are made.
+-- `tables::carried::rows_of` meets its contract. The loop's invariant: the rows of the roles before those to come are made.
 -- Assumes nothing.
-use mathlib.Core.Path.{_≡_, refl}
-use Prim.Native.Nat.{_≤_, _-_}
-use native.Mathlib.Omega.{arith}
-use lib.ListN.{length, take, length-set}
+use mathlib.Core.Path.{ap, _∙_}
 use borrow.Author.Needs.{needs}
+use Rattle.model.specs.Sets.{count, unionAt}
+use Rattle.model.specs.Policy.{selfAndJuniors}
 use Rattle.sets.specs.Words.{values}
-use Rattle.model.specs.Policy.{tableOf}
-use Rattle.tables.proofs.Closing.{wantedRow, row-made, rows-made}
+use Rattle.tables.proofs.Closing.{Made, made-start, made-next, made-less, made-end}
 use Rattle.tables.proofs.carried.rows_of.Statement.{statement}
 use Rattle.tables.proofs.carried.rows_of.Tie as tie
 
 abbrev Inv-loop : tie.InvT-loop
-Inv-loop rows reached wanted out₀ i₀ out i = (i ≤ 64) × (length out ≡ 64) × (take i (values out) ≡ tableOf i (wantedRow (values rows) reached wanted))
+Inv-loop rows juniors wanted left₀ out₀ left out = Made (values rows) (selfAndJuniors juniors) wanted left out
 
 abbrev μ-loop : tie.MeasureT-loop
-μ-loop rows reached wanted out₀ i₀ out i = 64 - i
+μ-loop rows juniors wanted left₀ out₀ left out = count 64 left
 
 loop-holds : tie.Need-loop-holds Inv-loop μ-loop
-unfolding tableOf
-loop-holds c = (omega arith, refl, refl)
+loop-holds c = made-start _ _ _ (c .fits .wanted .fits)
+
+loop-less : tie.Need-loop-less Inv-loop μ-loop
+loop-less c = search (needs, made-less)
 
 loop-again : tie.Need-loop-again Inv-loop μ-loop
 loop-again c =
-    let h = c .before .before in
-    let l = h .before .before in
-    let a = l .before .args in (
-      omega arith,
-      simp length-set (l .loop .inv .1),
-      row-made (values (a .rows .now)) (a .reached .now) (a .wanted) (l .loop .out) (l .loop .i) (l .loop .inv .2) (h .has .result) (c .joined-if .result)
-          (l .loop .inv .1) (h .before .loop-test .taken) (h .has .ensures) (c .joined-if .ensures),
-    )
+    let j = c .before .before in
+    let w = j .before .before in
+    let l = w .before .before in
+    made-next _ _ _ _ _ _ _ (l .loop .inv) (w .lowest .ensures) (c .without .ensures) _
+    (j .joined .ensures ∙ ap (unionAt (values (l .before .args .rows .now))) (j .before .reach .ensures))
 
 returns : tie.Need-returns Inv-loop μ-loop
-returns c =
-    let l = c .before in
-    let a = l .before .args in
-    rows-made (values (a .rows .now)) (a .reached .now) (a .wanted) (l .loop .out) (l .loop .i) (l .loop .inv .2) (l .loop .inv .1) (l .loop .inv .0) (c .loop-test .left)
+returns c = search (needs, made-end)
 
 pub rows-of-spec : {M : Type 1} → statement M
-rows-of-spec =
-    tie.close
-    (tie.spec Inv-loop μ-loop loop-holds (λ c. search needs) (λ c κs. search needs) (λ c. search needs) (λ c. search needs) (λ c κs. search needs) (λ c. search needs) (λ c. search needs) (λ c. search needs) (λ c. search needs) loop-again returns)
+rows-of-spec = tie.close (tie.spec Inv-loop μ-loop loop-holds (λ c κs. search needs) (λ c κs. search needs) (λ c κs. search needs) (λ c. search needs) (λ c. search needs) (λ c. search needs) (λ c κs. search needs) loop-less loop-again returns)

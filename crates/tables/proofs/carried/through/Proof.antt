@@ -4,7 +4,7 @@ use mathlib.Core.Path.{_≡_, refl}
 use Prim.Native.Nat.{_≤_, _-_}
 use native.Mathlib.Omega.{arith}
 use Rattle.model.specs.Policy.{taking}
-use Rattle.tables.proofs.Closing.{mapTo, mapTo-none, row-taken, all-taken}
+use Rattle.tables.proofs.Closing.{mapTo, mapTo-none, row-taken, all-taken, passed-over}
 use borrow.Author.Needs.{needs}
 use Rattle.tables.proofs.carried.through.Statement.{statement}
 use Rattle.tables.proofs.carried.through.Tie as tie
@@ -15,14 +15,21 @@ Inv-loop rows₀ k other i₀ rows i = (i ≤ 64) × (rows ≡ mapTo (taking k o
 abbrev μ-loop : tie.MeasureT-loop
 μ-loop rows₀ k other i₀ rows i = 64 - i
 
+returns : tie.Need-returns Inv-loop μ-loop
+returns c = search (needs, passed-over)
+
 loop-holds : tie.Need-loop-holds Inv-loop μ-loop
 loop-holds c = (omega arith, mapTo-none _ _)
 
 loop-again : tie.Need-loop-again Inv-loop μ-loop
-loop-again c = (omega arith, row-taken _ _ _ _ _ (c .before .before .before .loop .inv .1) _ (rw (c .before .before .before .before .before .pre .1) (c .before .before .loop-test .taken)) (c .take-in .ensures))
+loop-again c =
+    let l = c .before .before .before in
+    (omega arith, row-taken _ _ _ _ _ (l .loop .inv .1) _ (rw (l .before .before .before .pre .1) (c .before .before .loop-test .taken)) (c .take-in .ensures))
 
-returns : tie.Need-returns Inv-loop μ-loop
-returns c = all-taken _ _ _ _ _ (c .before .loop .inv .1) (c .before .before .before .pre .1) (c .before .loop .inv .0) (c .loop-test .left) refl
+returns-2 : tie.Need-returns-2 Inv-loop μ-loop
+returns-2 c =
+    let l = c .before in
+    all-taken _ _ _ _ _ (l .loop .inv .1) (l .before .before .before .pre .1) (l .loop .inv .0) (c .loop-test .left) refl
 
 pub through-spec : {M : Type 1} → statement M
-through-spec = tie.close (tie.spec Inv-loop μ-loop (λ c. search needs) (λ c. search needs) loop-holds (λ c. search needs) (λ c. search needs) (λ c κs. search needs) (λ c. search needs) (λ c. search needs) (λ c. search needs) (λ c. search needs) loop-again returns)
+through-spec = tie.close (tie.spec Inv-loop μ-loop (λ c. search needs) (λ c. search needs) returns loop-holds (λ c. search needs) (λ c. search needs) (λ c κs. search needs) (λ c. search needs) (λ c. search needs) (λ c. search needs) (λ c. search needs) loop-again returns-2)

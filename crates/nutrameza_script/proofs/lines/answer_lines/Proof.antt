@@ -1,0 +1,132 @@
+-- Line after line is answered, and what is left to do stays the same.
+-- Assumes nothing.
+use borrow.Author.Needs.{needs}
+use mathlib.Core.Path.{_≡_, refl, _∙_}
+use Prim.Native.Nat.{_+_, _-_, _≤_, _<_}
+use native.Mathlib.Omega.{arith}
+use lib.ListN.{length, take, drop}
+use Rattle.nutrameza_script.specs.Progress.{after}
+use Rattle.nutrameza_script.specs.Buffers.{during, running}
+use Rattle.nutrameza_script.proofs.Steps.{counts, is-answered}
+use Rattle.nutrameza_script.proofs.lines.answer_lines.Statement.{statement}
+use Rattle.nutrameza_script.proofs.lines.answer_lines.Tie as tie
+
+abbrev Inv-loop : tie.InvT-loop
+Inv-loop image ledger₀ line₀ chunk out₀ next₀ kept₀ calls₀ filled₀ ledger line out next kept calls filled =
+    (next₀ ≤ next) × (next ≤ length chunk) × (filled₀ < filled → next₀ < next) × (kept ≤ 174) × (filled ≤ length out)
+    × (calls + next₀ ≤ calls₀ + next) × (length line ≡ 174) × (length line ≡ length line₀) × (length out ≡ length out₀)
+    × (length ledger ≡ length ledger₀)
+    × (after image (during line₀ kept₀ ledger₀ calls₀ (take filled₀ out₀)) (drop next₀ chunk)
+    ≡ after image (during line kept ledger calls (take filled out)) (drop next chunk))
+
+abbrev μ-loop : tie.MeasureT-loop
+μ-loop image ledger₀ line₀ chunk out₀ next₀ kept₀ calls₀ filled₀ ledger line out next kept calls filled = length chunk - next
+
+loop-holds : tie.Need-loop-holds Inv-loop μ-loop
+loop-holds c =
+    (search needs, search needs, λ h. search needs, search needs, search needs, search needs, search needs, search needs, search needs, search needs, refl)
+
+gather-requires : tie.Need-gather-requires Inv-loop μ-loop
+gather-requires c κs = search needs
+
+returns : tie.Need-returns Inv-loop μ-loop
+unfolding running
+returns c =
+    let g = c .before .before .before in
+    let l = g .before .before .before in
+    let e = g .gather .ensures in
+    let a = l .before .before .before .before .before .before .args in
+    record {
+      few = e .few;
+      onward = omega (arith, c .if1 .taken);
+      inside = e .inside;
+      counted = omega (arith, e .onward, l .loop .inv);
+      room = search needs;
+      same = l .loop .inv .10 ∙ e .same (a .image .now) (l .loop .ledger) (l .loop .calls) (take (l .loop .filled) (l .loop .out));
+    }
+
+add-calls : tie.Need-add-calls Inv-loop μ-loop
+add-calls c = let g = c .before .before .before in omega (arith, c .if1 .left, g .gather .ensures .onward, g .before .before .before .loop .inv)
+
+slice-reshare-prefix-respond : tie.Need-slice-reshare-prefix-respond Inv-loop μ-loop
+slice-reshare-prefix-respond c = let g = c .before .before .before .before in omega (arith, g .gather .ensures .few, g .gather .kept, g .before .before .before .loop .inv)
+
+slice-aggregate-respond : tie.Need-slice-aggregate-respond Inv-loop μ-loop
+slice-aggregate-respond c =
+    let g = c .before .before .before .before .before in
+    counts (g .gather .result .kept) (g .gather .last .0) (omega (arith, g .gather .ensures .few, g .gather .kept, g .before .before .before .loop .inv))
+
+respond-requires : tie.Need-respond-requires Inv-loop μ-loop
+respond-requires c κs = search needs
+
+add-next : tie.Need-add-next Inv-loop μ-loop
+add-next c = search needs
+
+loop-less : tie.Need-loop-less Inv-loop μ-loop
+loop-less c = let g = c .before .before .before .before .before .before .before .before .before .before .before in omega (arith, c .before .before .before .before .before .before .before .before .if1 .left, g .gather .ensures .onward)
+
+loop-again : tie.Need-loop-again Inv-loop μ-loop
+loop-again c =
+    let r = c .before .before .before .before in
+    let t = r .before .before .before .before in
+    let g = t .before .before .before in
+    let l = g .before .before .before in
+    let a = l .before .before .before .before .before .before .args in
+    let e = g .gather .ensures in
+    let f = r .respond .ensures in
+    let inv = l .loop .inv in
+    let h : g .gather .result .next < length (a .chunk .now) = omega (arith, t .if1 .left) in
+    let n : r .respond .result ≤ length (l .loop .out) = omega (arith, f .1, g .before .before .loop-test .taken) in (
+      omega (arith, e .onward, inv),
+      omega (arith, h),
+      λ m. omega (arith, e .onward, inv),
+      search needs,
+      omega (arith, n, r .respond .kept),
+      omega (arith, e .onward, inv),
+      omega (arith, g .gather .kept, inv),
+      omega (arith, g .gather .kept, inv),
+      omega (arith, r .respond .kept, inv),
+      omega (arith, r .respond .kept, inv),
+      inv .10 ∙ e .same (a .image .now) (l .loop .ledger) (l .loop .calls) (take (l .loop .filled) (l .loop .out))
+          ∙ is-answered (a .image .now) (a .chunk .now) (g .gather .result .next) (g .gather .last .0) (g .gather .result .kept) (l .loop .ledger) (l .loop .out) (l .loop .calls) (l .loop .filled) _ _ _ h (e .newline h) (inv .4) n (f .0) (f .2),
+    )
+
+returns-2 : tie.Need-returns-2 Inv-loop μ-loop
+unfolding running
+returns-2 c =
+    let l = c .before in
+    let inv = l .loop .inv in
+    let m : l .before .before .before .before .before .before .args .p .filled < l .loop .filled = omega (arith, c .loop-test .left, inv, l .before .before .before .before .before .before .pre) in
+    record {
+      few = inv .3;
+      onward = inv .2 m;
+      inside = inv .1;
+      counted = inv .5;
+      room = inv .4;
+      same = inv .10;
+    }
+
+pub answer-lines-spec : {M : Type 1} → statement M
+answer-lines-spec =
+    tie.close
+    (tie.spec
+    Inv-loop
+    μ-loop
+    loop-holds
+    (λ c. search needs)
+    gather-requires
+    (λ c. search needs)
+    (λ c. search needs)
+    (λ c. search needs)
+    returns
+    add-calls
+    slice-reshare-prefix-respond
+    slice-aggregate-respond
+    respond-requires
+    add-next
+    loop-less
+    loop-again
+    (λ c. search needs)
+    (λ c. search needs)
+    (λ c. search needs)
+    returns-2)

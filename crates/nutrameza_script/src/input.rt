@@ -1,0 +1,162 @@
+// The image and the script as they are read, and the answers as they are written.
+ghost use mathlib.Core.Path.{_≡_};
+ghost use Prim.Native.Nat.{_+_, _*_, _≤_, _<_};
+ghost use lib.ListN.{length, take};
+ghost use Rattle.io.specs.Counts.{Counts};
+use crate::lines::Place;
+use crate::lines::answer_last;
+use crate::lines::answer_lines;
+use libc::STDIN_FILENO;
+use libc::STDOUT_FILENO;
+
+// The run between two reads: how many bytes of the line are kept, how many calls are answered, and whether it goes on.
+struct Run {
+    kept: usize,
+    calls: u64,
+    going: bool,
+}
+
+// What a read into a buffer from a place on finds: how many bytes, none at the end of the file, and whether it failed.
+struct Got {
+    count: usize,
+    failed: bool,
+}
+
+// Reads once into a buffer from `have` on.
+fn read_more(fd: i32, file: &mut [u8], have: usize) -> Got
+    requires { ⌜ have ≤ length (now file) ⌝ }
+    ensures { λ r. ⌜ have + r .count ≤ length (now (file .exit)) ⌝ }
+{
+    let rest = &mut file[have..];
+    let got = libc::read(fd, rest);
+    Got {
+        count: io::count(got, rest),
+        failed: got < 0,
+    }
+}
+
+// Reads a file until it ends or the buffer is full, and returns how many bytes; none where a read fails.
+fn read_file(fd: i32, file: &mut [u8]) -> usize
+    ensures { λ r. ⌜ Counts r (now (file .exit)) ⌝ }
+{
+    let mut have: usize = 0;
+    while have < file.len() {
+        let got = read_more(fd, file, have);
+        if got.failed {
+            return 0;
+        }
+        if got.count == 0 {
+            return have;
+        }
+        have += got.count;
+    }
+    have
+}
+
+// Reads the image, and returns its length; a file that can't be read counts as empty, and of a larger one than any image just as much
+// is read as has it refused.
+pub fn read_image(file: &mut [u8]) -> usize
+    ensures { λ r. ⌜ Counts r (now (file .exit)) ⌝ }
+{
+    let fd = os::open_read(b"policy.img");
+    if fd < 0 {
+        return 0;
+    }
+    let size = read_file(fd, file);
+    libc::close(fd);
+    size
+}
+
+// Answers lines of a chunk from a place on and writes the answers; the run stops where they can't be written.
+fn answer_chunk(
+    image: &[u8],
+    ledger: &mut [u8],
+    line: &mut [u8],
+    chunk: &[u8],
+    out: &mut [u8],
+    run: Run,
+) -> Run
+    requires { ⌜ (length (now line) ≡ 174) × (run .kept ≤ 174) × (160 ≤ length (now out)) × (run .calls + length (now chunk) ≤ 18446744073709551615) ⌝ }
+    ensures { λ r. ⌜ (r .kept ≤ 174) × (r .calls ≤ run .calls + length (now (chunk .entry))) ⌝ }
+{
+    let mut p = Place {
+        next: 0,
+        kept: run.kept,
+        calls: run.calls,
+        filled: 0,
+    };
+    while p.next < chunk.len() {
+        let answered = answer_lines(image, ledger, line, chunk, out, p);
+        let filled = answered.filled;
+        let is_written = io::write_all(STDOUT_FILENO, &out[0..filled]);
+        if !is_written {
+            return Run {
+                kept: 0,
+                calls: run.calls,
+                going: false,
+            };
+        }
+        p = Place {
+            next: answered.next,
+            kept: answered.kept,
+            calls: answered.calls,
+            filled: 0,
+        };
+    }
+    Run {
+        kept: p.kept,
+        calls: p.calls,
+        going: true,
+    }
+}
+
+// Reads once and answers what came; at the end of the input, the line that is begun.
+fn answer_some(
+    image: &[u8],
+    ledger: &mut [u8],
+    line: &mut [u8],
+    chunk: &mut [u8],
+    out: &mut [u8],
+    run: Run,
+) -> Run
+    requires { ⌜ (length (now line) ≡ 174) × (run .kept ≤ 174) × (160 ≤ length (now out)) × (run .calls + length (now chunk) < 18446744073709551615) ⌝ }
+    ensures { λ r. ⌜ (r .kept ≤ 174) × (r .calls ≤ run .calls + length (now (chunk .entry))) ⌝ }
+{
+    let got = libc::read(STDIN_FILENO, chunk);
+    let count = io::count(got, chunk);
+    if count == 0 {
+        let filled = answer_last(image, ledger, line, run.kept, run.calls, out);
+        io::write_all(STDOUT_FILENO, &out[0..filled]);
+        return Run {
+            kept: 0,
+            calls: run.calls,
+            going: false,
+        };
+    }
+    answer_chunk(image, ledger, line, &chunk[..count], out, run)
+}
+
+// Reads and answers until the input ends. A proved loop has to end, so it counts its turns down, from a number of reads that no run uses
+// up; it keeps the number of calls within 64 bits.
+fn answer_each(image: &[u8], ledger: &mut [u8], line: &mut [u8], chunk: &mut [u8], out: &mut [u8])
+    requires { ⌜ (length (now line) ≡ 174) × (length (now chunk) ≡ 65536) × (160 ≤ length (now out)) ⌝ }
+{
+    let mut run = Run {
+        kept: 0,
+        calls: 0,
+        going: true,
+    };
+    let mut turns: u64 = 281474976710655;
+    while turns > 0 && run.going {
+        run = answer_some(image, ledger, line, chunk, out, run);
+        turns -= 1;
+    }
+}
+
+// Answers all of the input, by a buffer for a line and one each for what is read and what is written.
+pub fn answer_all(image: &[u8], ledger: &mut [u8]) {
+    let mut line = [0u8; 174];
+    let mut chunk = io::large_buffer();
+    let mut out = io::large_buffer();
+    answer_each(image, ledger, &mut line, &mut chunk, &mut out);
+}

@@ -1,0 +1,13 @@
+// The program: a policy image from the file `policy.img`, a script from standard input, and for each line of it one line out. Modules:
+// `lines` answers the lines in a chunk of the script, `input` reads and writes.
+mod input;
+mod lines;
+
+fn main() {
+    let mut file = [0u8; 16385];
+    let size = input::read_image(&mut file);
+    let image = &file[..size];
+    let mut ledger = [0u8; 5120];
+    let used = lines::ledger_length(image);
+    input::answer_all(image, &mut ledger[0..used]);
+}

@@ -1,0 +1,3 @@
+-- The laws that the proofs of the replies' code use.
+pub mod CallLaws
+pub mod LineLaws
