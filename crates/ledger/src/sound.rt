@@ -1,6 +1,5 @@
 // Whether a line is sound: its open bits, histories and sessions have their form, and every exclusion is met.
 ghost use mathlib.Core.Path.{_≡_};
-ghost use mathlib.Core.Bool.{Bool};
 ghost use Prim.Native.Nat.{_≤_, _<_, _^_};
 ghost use lib.Dec.{ltb};
 ghost use lib.ListN.{length};

@@ -4,7 +4,7 @@ ghost use mathlib.Core.List.{List};
 ghost use Prim.Native.Nat.{ℕ, _+_, _-_, _*_, _≤_, _<_};
 ghost use lib.ListN.{length};
 ghost use Rattle.model.specs.declared.Head.{Head as HeadOf};
-ghost use Rattle.model.specs.Image.{sparing, entryFault, assigning, scan, start, judge};
+ghost use Rattle.model.specs.Image.{sparing, entryFault, scan, start, judge};
 ghost use Rattle.model.specs.Policy.{granting, ordering, policyOf};
 ghost use Rattle.sets.specs.Words.{values};
 ghost use Rattle.image.specs.Bounds.{Small};
