@@ -1,9 +1,9 @@
 -- The cases of an open on a sound line: all sessions open, and a session opened.
 -- Assumes nothing.
-use mathlib.Core.Path.{_≡_, refl, sym, ap, _∙_}
-use mathlib.Core.Bool.{Bool, true, false, not, _&&_}
+use mathlib.Core.Path.{_≡_, sym, ap, _∙_}
+use mathlib.Core.Bool.{true, not}
 use mathlib.Core.List.{List}
-use Prim.Native.Nat.{ℕ, _+_, _*_, _^_, _≤_, _<_}
+use Prim.Native.Nat.{ℕ, _*_, _^_, _≤_, _<_}
 use native.Mathlib.Nat.{zero-add, lt-of-lt-of-le}
 use lib.Dec.{eqb, ltb}
 use lib.Pow.{pow-mono}
@@ -11,8 +11,8 @@ use borrow.Author.Tests.{eq-eqb, ne-eqb, ltb-true}
 use Rattle.model.specs.Sets.{count}
 use Rattle.model.specs.Policy.{Policy, Meaning, meaning}
 use Rattle.model.specs.declared.Line.{Line}
-use Rattle.model.specs.Line.{lineSize, writeLine, isOpen, sound, lowestClosed, opening}
-use Rattle.model.specs.Session.{done, bad-line, is-full, refusalNumber, canGive, applies, perform, sessionOf, queryOf}
+use Rattle.model.specs.Line.{lineSize, writeLine, sound, lowestClosed, opening}
+use Rattle.model.specs.Session.{done, is-full, refusalNumber, canGive, applies, perform, sessionOf, queryOf}
 use Rattle.model.specs.Run.{Event, withLine, stepOn, openBy, returned}
 use Rattle.model.proofs.Bools.{and-l}
 use Rattle.model.proofs.SetLaws.{ones-count}

@@ -1,6 +1,6 @@
 // A line's bytes: 8 of open sessions, 8 of the user's history, then for each session 8 of active roles and 8 of its history.
 ghost use mathlib.Core.Path.{_≡_};
-ghost use Prim.Native.Nat.{_+_, _*_, _≤_, _<_};
+ghost use Prim.Native.Nat.{_+_, _*_, _≤_};
 ghost use lib.ListN.{length, drop};
 ghost use Rattle.model.specs.Line.{lineSize, readSessions, readLine, writeSessions, writeLine};
 ghost use Rattle.model.specs.Run.{lineAt, withLine};

@@ -1,7 +1,7 @@
 // The changes that calls make to a line: a session opened, closed, or given other active roles.
 ghost use mathlib.Core.Path.{_≡_};
-ghost use mathlib.Core.Bool.{Bool, true};
-ghost use Prim.Native.Nat.{_+_, _≤_, _<_, _^_};
+ghost use mathlib.Core.Bool.{true};
+ghost use Prim.Native.Nat.{_+_, _<_, _^_};
 ghost use Rattle.model.specs.Line.{isOpen, lowestClosed, opening, closing, putIn};
 use model::Line;
 use model::SESSIONS;

@@ -4,7 +4,7 @@
 use mathlib.Core.Path.{_≡_, refl, sym, ap, ap₂, _∙_, subst}
 use mathlib.Core.Bool.{Bool, true, false, _&&_, _||_, or-false, or-true, false≢true}
 use Prim.Native.Nat.{ℕ, zero, suc, _+_, _-_, _*_, _/_, _%_, _^_, _≤_, _<_, zero-le, suc-le-suc}
-use native.Mathlib.Nat.{zero-add, add-suc, add-le-add, div-self, mul-mod-left, mod-one, lt-of-le-of-lt, mod-lt, zero-lt-suc, not-suc-le-zero, le-of-suc-le-suc, div-add-mod', div-one, mod-eq-of-lt, div-eq-of-lt, mod-self, zero-mod, one-mul, lt-of-lt-of-le, pow-suc, le-refl, le-suc}
+use native.Mathlib.Nat.{zero-add, add-suc, add-le-add, div-self, mul-mod-left, mod-one, lt-of-le-of-lt, mod-lt, zero-lt-suc, not-suc-le-zero, le-of-suc-le-suc, div-add-mod', div-one, mod-eq-of-lt, div-eq-of-lt, one-mul, lt-of-lt-of-le, le-refl, le-suc}
 use native.Mathlib.Numerals.{one-add, add-one}
 use native.Mathlib.Omega.{arith}
 use lib.Dec.{eqb, ltb}

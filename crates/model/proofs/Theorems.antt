@@ -15,9 +15,9 @@ use Rattle.model.specs.declared.Entry.the-variants.{Exclude}
 use Rattle.model.specs.declared.Line.{Line}
 use Rattle.model.specs.declared.Checked.the-variants.{Accepted}
 use Rattle.model.specs.Tests.{all}
-use Rattle.model.specs.Sets.{has, count, unionAt}
+use Rattle.model.specs.Sets.{has, count}
 use Rattle.model.specs.Image.{judge}
-use Rattle.model.specs.Policy.{Policy, policyOf, entriesOf, withMembers, reached, carriedTable, authorized, meaning}
+use Rattle.model.specs.Policy.{policyOf, entriesOf, withMembers, reached, carriedTable, authorized, meaning}
 use Rattle.model.specs.Choice.{carriedBy, admissible}
 use Rattle.model.specs.Ward.{holds, starred, settled}
 use Rattle.model.specs.Refusals.{isJudged, judgedImages}

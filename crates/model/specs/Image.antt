@@ -12,7 +12,6 @@ use Rattle.model.specs.declared.Permission.{Permission}
 use Rattle.model.specs.declared.Head.{Head}
 use Rattle.model.specs.declared.Kind.{Kind}
 use Rattle.model.specs.declared.Kind.the-variants.{SsDmer, MsDmer, SsHmer, MsHmer}
-use Rattle.model.specs.declared.Exclusion.{Exclusion}
 use Rattle.model.specs.declared.Entry.{Entry}
 use Rattle.model.specs.declared.Entry.the-variants.{Assignment, Grant, Senior, Exclude, Member, End, Unknown}
 use Rattle.model.specs.declared.Word.{Word}

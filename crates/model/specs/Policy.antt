@@ -1,21 +1,17 @@
 -- What the words of an accepted image mean: the policy, four tables read off its entries, and what it means for one user.
 -- Assumes nothing.
 use mathlib.Core.Path.{_≡_}
-use mathlib.Core.Bool.{Bool, true, false, _&&_}
+use mathlib.Core.Bool.{Bool, _&&_}
 use mathlib.Core.List.{List, [], _∷_, _++_, map}
-use Prim.Native.Nat.{ℕ, zero, suc, _+_, _^_}
+use Prim.Native.Nat.{ℕ, zero, suc, _+_}
 use lib.Dec.{eqb, ltb}
 use lib.ListN.{getD, set, take}
-use Rattle.model.specs.declared.User.{User}
-use Rattle.model.specs.declared.Role.{Role}
-use Rattle.model.specs.declared.Permission.{Permission}
 use Rattle.model.specs.declared.Head.{Head}
 use Rattle.model.specs.declared.Kind.{Kind}
 use Rattle.model.specs.declared.Kind.the-variants.{SsDmer, MsDmer, SsHmer, MsHmer}
 use Rattle.model.specs.declared.Exclusion.{Exclusion}
 use Rattle.model.specs.declared.Entry.{Entry}
 use Rattle.model.specs.declared.Entry.the-variants.{Assignment, Grant, Senior, Exclude, Member, End, Unknown}
-use Rattle.model.specs.declared.Word.{Word}
 use Rattle.model.specs.Tests.{pick, any, all}
 use Rattle.model.specs.Sets.{has, union, inter, with, count, unionAt}
 use Rattle.model.specs.Image.{wordAt, behindHead, decode, assigning, headOf, emptyRows}

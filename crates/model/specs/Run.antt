@@ -1,19 +1,18 @@
 -- Calls on a whole ledger, and runs of them: the image is judged, the ledger's length and the user's number are tested, and the session
 -- rules are fed the user's line.
 -- Assumes nothing.
-use mathlib.Core.Bool.{Bool, true, false, not}
+use mathlib.Core.Bool.{not}
 use mathlib.Core.List.{List, [], _∷_, _++_}
 use Prim.Native.Nat.{ℕ, _+_, _*_}
 use lib.Dec.{eqb, ltb}
 use lib.ListN.{length, take, drop}
-use Rattle.model.specs.declared.Head.{Head}
 use Rattle.model.specs.declared.Checked.{Checked}
 use Rattle.model.specs.declared.Checked.the-variants.{Accepted, Refused}
 use Rattle.model.specs.Tests.{pick}
 use Rattle.model.specs.Image.{judge}
 use Rattle.model.specs.Policy.{Policy, policyOf, meaning}
 use Rattle.model.specs.Line.{lineSize}
-use Rattle.model.specs.Session.{Operation, open-session, close-session, ask, short-ask, show, Reply, refuse, Result, rule}
+use Rattle.model.specs.Session.{Operation, open-session, close-session, ask, short-ask, show, Reply, refuse, rule}
 
 -- a call is made by the user that it names
 pub record Call : Type 0 where

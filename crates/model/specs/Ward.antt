@@ -8,7 +8,6 @@ use lib.Dec.{eqb}
 use lib.ListN.{replicate, take, drop}
 use Rattle.model.specs.Tests.{all}
 use Rattle.model.specs.Bytes.{number, bytesOf}
-use Rattle.model.specs.Session.{Reply}
 use Rattle.model.specs.Run.{Call, Event, run, openBy, closeBy, askBy, shortAskBy, showBy}
 
 -- ---- images as words

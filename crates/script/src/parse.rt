@@ -1,6 +1,5 @@
 // The call that a line is.
 ghost use mathlib.Core.Path.{_≡_};
-ghost use Prim.Native.Nat.{_≤_, _<_};
 ghost use Rattle.script.specs.Script.{words, callOf, parse as parseOf};
 ghost use Rattle.script.specs.Reading.{CutInto, callIn};
 use crate::Bound;

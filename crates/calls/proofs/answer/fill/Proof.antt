@@ -1,9 +1,5 @@
 -- `calls::answer::fill` meets its contract.
 -- Assumes nothing.
-use Prim.Native.Nat.{ℕ}
-use mir.Syntax.{w64}
-use mir.Val.{Fits}
-use lib.ListN.{getD}
 use borrow.Author.Needs.{needs}
 use Rattle.calls.proofs.Filled.{filled}
 use Rattle.calls.proofs.answer.fill.Statement.{statement}

@@ -1,6 +1,5 @@
 -- `ledger::bytes::line_of` meets its contract.
 -- Assumes nothing.
-use mathlib.Core.Path.{_≡_, sym, _∙_}
 use native.Mathlib.Omega.{arith}
 use Rattle.model.specs.Line.{lineSize}
 use Rattle.ledger.proofs.Places.{line-read}

@@ -1,7 +1,5 @@
 -- `ledger::change::opened` meets its contract. A session's bit and the open bits make no number beyond 64 bits.
 -- Assumes nothing.
-use mathlib.Core.Path.{sym, ap}
-use Prim.Native.Nat.{_^_, _<_}
 use native.Mathlib.Omega.{arith}
 use lib.Pow.{pow-lt}
 use borrow.Author.Needs.{needs}

@@ -1,9 +1,9 @@
 -- `ledger::sound::active_in` meets its contract. The loop's invariant: `roles` are those active in the sessions from k on.
 -- Assumes nothing.
-use mathlib.Core.Path.{_≡_, sym, ap, _∙_}
-use Prim.Native.Nat.{ℕ, _+_, _-_, _≤_}
+use mathlib.Core.Path.{_≡_, ap, _∙_}
+use Prim.Native.Nat.{ℕ, _-_, _≤_}
 use native.Mathlib.Omega.{arith}
-use lib.ListN.{length, drop}
+use lib.ListN.{drop}
 use borrow.Author.Needs.{needs}
 use Rattle.model.specs.Line.{activeIn, emptySession}
 use Rattle.ledger.proofs.Soundness.{active-next, active-none}

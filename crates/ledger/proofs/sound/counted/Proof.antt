@@ -1,6 +1,5 @@
 -- `ledger::sound::counted` meets its contract.
 -- Assumes nothing.
-use mathlib.Core.Path.{_≡_}
 use borrow.Author.Needs.{needs}
 use Rattle.model.specs.Line.{counted}
 use Rattle.ledger.proofs.sound.counted.Statement.{statement}

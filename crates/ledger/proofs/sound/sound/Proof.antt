@@ -1,6 +1,5 @@
 -- `ledger::sound::sound` meets its contract.
 -- Assumes nothing.
-use mathlib.Core.Path.{_≡_}
 use borrow.Author.Needs.{needs}
 use Rattle.model.specs.Line.{sound}
 use Rattle.ledger.proofs.sound.sound.Statement.{statement}
