@@ -23,7 +23,7 @@ use Rattle.model.proofs.Choices.{choice}
 use Rattle.model.proofs.SoundLaws.{sound-parts}
 use Rattle.sets.specs.Words.{values}
 use Rattle.tables.specs.Carried.{rowsOf as joinedRows, carriedRows}
-use Rattle.tables.proofs.Fills.{values-at}
+use Rattle.sets.proofs.Unions.{values-at}
 use Rattle.tables.proofs.Closing.{length-closed, length-selves, wantedRow}
 use Rattle.query.specs.Search.{rowsOf}
 use Rattle.query.specs.Rooms.{roomy}

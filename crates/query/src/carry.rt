@@ -60,16 +60,7 @@ pub fn holders(rows: &[[u64; 4]; 64], p: Permission, set: u64) -> u64
 pub fn carried_by(rows: &[[u64; 4]; 64], set: u64) -> [u64; 4]
     ensures { λ c. ⌜ ((m : Meaning) → Carry m set (rowsOf (now (rows .entry))) → value c ≡ carriedBy m set) ⌝ }
 {
-    let mut left = set;
-    let mut all = [0u64; 4];
-    while left != 0 {
-        let r = sets::lowest(left);
-        let i = r.0 as usize;
-        let next = sets::perm_union(all, rows[i]);
-        all = next;
-        left = sets::without(left, r);
-    }
-    all
+    sets::perm_union_at(rows, set)
 }
 
 // The set, with the row's permissions too where `on` says so.

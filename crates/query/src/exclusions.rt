@@ -7,6 +7,7 @@ ghost use Rattle.model.specs.Conditions.{others};
 ghost use Rattle.rows.specs.Rows.{exclusionsIn};
 ghost use Rattle.query.specs.Rooms.{stay, maskOf, roomOf};
 ghost use Rattle.query.specs.Reduction.{Reduces};
+use ledger::sound::active_in;
 use model::Kind;
 use model::Line;
 use model::SESSIONS;
@@ -19,19 +20,6 @@ pub struct Reduced {
     pub masks: [u64; 32],
     pub rooms: [u32; 32],
     pub count: usize,
-}
-
-// The roles active in any of the sessions.
-fn active_in(sessions: [Session; SESSIONS]) -> u64
-    ensures { λ r. ⌜ r ≡ activeIn sessions ⌝ }
-{
-    let mut left: usize = SESSIONS;
-    let mut roles: u64 = 0;
-    while 0 < left {
-        left -= 1;
-        roles = sessions[left].active | roles;
-    }
-    roles
 }
 
 // The roles active in the sessions other than session k.

@@ -3,7 +3,7 @@
 -- Assumes nothing.
 use mathlib.Core.Path.{_≡_, refl, sym, ap, ap₂, _∙_}
 use mathlib.Core.Bool.{Bool, true, false, _||_}
-use mathlib.Core.List.{List, map}
+use mathlib.Core.List.{List, [], map}
 use Prim.Native.Nat.{ℕ, zero, suc, _^_, _<_}
 use native.Mathlib.Omega.{arith}
 use lib.Bits.{or-comm, or-self, or-zero-r}
@@ -16,6 +16,7 @@ use Rattle.model.proofs.SetLaws.{has-union, has-power}
 use Rattle.model.proofs.AnyWidth.{same-sets, union-swap}
 use Rattle.model.proofs.UnionLaws.{has-unionTo, unionTo-none, unionAt-none}
 use Rattle.sets.specs.Members.{without, Lowest}
+use Rattle.sets.specs.Words.{value, values}
 use Rattle.sets.proofs.Taken.{without-lt, with-without, count-without}
 
 -- ---- rows that are the same at the set's members
@@ -87,6 +88,16 @@ unionAt-unions rows sets s =
     unionTo-same (λ r. getD (map (unionAt rows) sets) r 0) (λ r. unionAt rows (getD sets r 0)) s 64
     (λ r l m. ap (getD (map (unionAt rows) sets) r) (sym (unionAt-none rows)) ∙ List·getD-map (unionAt rows) sets r 0)
     ∙ unionTo-unions (λ r. getD rows r 0) (λ r. getD sets r 0) s 64 64
+
+-- ---- rows of four words
+
+pub values-at : (rows : List (List ℕ)) (r : ℕ) → getD (values rows) r 0 ≡ value (getD rows r [])
+unfolding values value
+values-at rows r = List·getD-map value rows r []
+
+pub unionAt-values : (rows : List (List ℕ)) (s : ℕ) → unionAt (values rows) s ≡ unionTo (λ r. value (getD rows r [])) s 64
+unfolding unionAt
+unionAt-values rows s = unionTo-same (λ r. getD (values rows) r 0) (λ r. value (getD rows r [])) s 64 (λ r l m. values-at rows r)
 
 -- ---- a walk through a role set by its members
 

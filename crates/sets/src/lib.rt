@@ -3,9 +3,9 @@
 ghost use mathlib.Core.Path.{_≡_};
 ghost use Prim.Native.Nat.{_<_};
 ghost use lib.Dec.{ltb};
-ghost use Rattle.model.specs.Sets.{has as hasOf, union as unionOf, inter as interOf, with as withOf, within as withinOf, count};
+ghost use Rattle.model.specs.Sets.{has as hasOf, union as unionOf, inter as interOf, with as withOf, within as withinOf, count, unionAt};
 ghost use Rattle.sets.specs.Members.{without as withoutOf, Lowest};
-ghost use Rattle.sets.specs.Words.{value, onlyAt, Splits};
+ghost use Rattle.sets.specs.Words.{value, values, onlyAt, Splits};
 use model::Permission;
 use model::Role;
 
@@ -130,6 +130,22 @@ pub fn perm_union(a: [u64; 4], b: [u64; 4]) -> [u64; 4]
     ensures { λ s. ⌜ value s ≡ unionOf (value a) (value b) ⌝ }
 {
     [a[0] | b[0], a[1] | b[1], a[2] | b[2], a[3] | b[3]]
+}
+
+// The permissions of the rows at the roles of a set, which is walked by its lowest member.
+pub fn perm_union_at(rows: &[[u64; 4]; 64], roles: u64) -> [u64; 4]
+    ensures { λ s. ⌜ value s ≡ unionAt (values (now (rows .entry))) roles ⌝ }
+{
+    let mut left = roles;
+    let mut all = [0u64; 4];
+    while left != 0 {
+        let r = lowest(left);
+        let i = r.0 as usize;
+        let next = perm_union(all, rows[i]);
+        all = next;
+        left = without(left, r);
+    }
+    all
 }
 
 // Every permission of a is one of b.

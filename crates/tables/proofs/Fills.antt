@@ -4,8 +4,9 @@ use mathlib.Core.Path.{_≡_, refl, sym, ap, _∙_}
 use mathlib.Core.List.{List, [], _∷_, map}
 use Prim.Native.Nat.{ℕ, zero, suc, _+_, _-_, _/_, _≤_, _<_}
 use native.Mathlib.Omega.{arith}
-use lib.ListN.{length, getD, set, List·getD-map}
+use lib.ListN.{length, getD, set}
 use Rattle.sets.specs.Words.{value, values}
+use Rattle.sets.proofs.Unions.{values-at}
 use Rattle.model.specs.declared.Entry.{Entry}
 use Rattle.model.specs.declared.Word.{Word}
 use Rattle.model.specs.Sets.{with}
@@ -26,10 +27,6 @@ module _ {A : Type 0} (step : A → Entry → A) (s : List ℕ) (n p : ℕ) (a :
   fold-end l = let k : n - p ≡ 0 = omega arith in rw k
 
 -- ---- rows of four words
-
-pub values-at : (rows : List (List ℕ)) (r : ℕ) → getD (values rows) r 0 ≡ value (getD rows r [])
-unfolding values value
-values-at rows r = List·getD-map value rows r []
 
 pub map-set : {A B : Type 0} (f : A → B) (l : List A) (i : ℕ) (y : A) → map f (set l i y) ≡ set (map f l) i (f y)
 map-set f [] i y = refl

@@ -73,22 +73,6 @@ fn reached_by(rows: &[u64; 64], set: u64) -> u64
 
 // ---- what roles carry
 
-// The permissions of the rows at the roles.
-fn joined(rows: &[[u64; 4]; 64], roles: u64) -> [u64; 4]
-    ensures { λ s. ⌜ value s ≡ unionAt (values (now (rows .entry))) roles ⌝ }
-{
-    let mut left = roles;
-    let mut all = [0u64; 4];
-    while left != 0 {
-        let r = sets::lowest(left);
-        let i = r.0 as usize;
-        let next = sets::perm_union(all, rows[i]);
-        all = next;
-        left = sets::without(left, r);
-    }
-    all
-}
-
 // For each role of `wanted` the permissions of the rows at the roles that it reaches.
 fn rows_of(rows: &[[u64; 4]; 64], juniors: &[u64; 64], wanted: u64) -> [[u64; 4]; 64]
     ensures { λ t. ⌜ values t ≡ rowsOf (values (now (rows .entry))) (selfAndJuniors (now (juniors .entry))) wanted ⌝ }
@@ -97,7 +81,7 @@ fn rows_of(rows: &[[u64; 4]; 64], juniors: &[u64; 64], wanted: u64) -> [[u64; 4]
     let mut out = [[0u64; 4]; 64];
     while left != 0 {
         let r = sets::lowest(left);
-        let row = joined(rows, reach(juniors, r));
+        let row = sets::perm_union_at(rows, reach(juniors, r));
         out[r.0 as usize] = row;
         left = sets::without(left, r);
     }
@@ -130,7 +114,7 @@ pub fn carried_by(
 {
     close(juniors, roles);
     let reached = reached_by(juniors, set);
-    joined(granted, reached)
+    sets::perm_union_at(granted, reached)
 }
 
 // Role r carries permission p.

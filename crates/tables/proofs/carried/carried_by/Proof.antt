@@ -16,7 +16,7 @@ returns c =
     let b = c .before in
     let k = b .before .before in
     let a = k .before .before .args in
-    c .joined .ensures
+    c .perm-union-at .ensures
     ∙ ap (unionAt (values (a .granted .now))) (b .reached-by .ensures ∙ ap (λ (x : List ℕ). unionAt (selfAndJuniors x) (a .set)) (k .close .ensures))
     ∙ carried-reached _ _ _ _ (k .before .before .pre .0)
 

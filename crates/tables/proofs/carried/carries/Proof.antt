@@ -4,7 +4,7 @@ use mathlib.Core.Path.{sym, ap, _∙_}
 use Prim.Native.Nat.{ℕ}
 use borrow.Author.Needs.{needs}
 use Rattle.model.specs.Sets.{has}
-use Rattle.tables.proofs.Fills.{values-at}
+use Rattle.sets.proofs.Unions.{values-at}
 use Rattle.tables.proofs.carried.carries.Statement.{statement}
 use Rattle.tables.proofs.carried.carries.Tie as tie
 

@@ -27,7 +27,7 @@ loop-again c =
     let w = j .before .before in
     let l = w .before .before in
     made-next _ _ _ _ _ _ _ (l .loop .inv) (w .lowest .ensures) (c .without .ensures) _
-    (j .joined .ensures ∙ ap (unionAt (values (l .before .args .rows .now))) (j .before .reach .ensures))
+    (j .perm-union-at .ensures ∙ ap (unionAt (values (l .before .args .rows .now))) (j .before .reach .ensures))
 
 returns : tie.Need-returns Inv-loop μ-loop
 returns c = search (needs, made-end)

@@ -1,14 +1,13 @@
--- `tables::carried::joined` meets its contract. The loop's invariant: the rows so far are joined, those of the roles to come are not.
+-- `sets::perm_union_at` meets its contract. The loop's invariant: the rows so far are joined, those of the roles to come are not.
 -- Assumes nothing.
 use mathlib.Core.Path.{refl, ap, sym, _∙_}
 use lib.ListN.{getD}
 use borrow.Author.Needs.{needs}
 use Rattle.model.specs.Sets.{union, count, unionAt}
 use Rattle.sets.specs.Words.{value, joined, values}
-use Rattle.sets.proofs.Unions.{Joins, joins-start, joins-next, joins-less, joins-end}
-use Rattle.tables.proofs.Fills.{values-at}
-use Rattle.tables.proofs.carried.joined.Statement.{statement}
-use Rattle.tables.proofs.carried.joined.Tie as tie
+use Rattle.sets.proofs.Unions.{values-at, Joins, joins-start, joins-next, joins-less, joins-end}
+use Rattle.sets.proofs.perm_union_at.Statement.{statement}
+use Rattle.sets.proofs.perm_union_at.Tie as tie
 
 abbrev Inv-loop : tie.InvT-loop
 Inv-loop rows roles left₀ all₀ left all = Joins (λ r. getD (values rows) r 0) roles left (value all)
@@ -34,5 +33,5 @@ returns : tie.Need-returns Inv-loop μ-loop
 unfolding unionAt
 returns c = search (needs, joins-end)
 
-pub joined-spec : {M : Type 1} → statement M
-joined-spec = tie.close (tie.spec Inv-loop μ-loop loop-holds (λ c κs. search needs) (λ c. search needs) (λ c. search needs) (λ c. search needs) (λ c κs. search needs) (λ c κs. search needs) loop-less loop-again returns)
+pub perm-union-at-spec : {M : Type 1} → statement M
+perm-union-at-spec = tie.close (tie.spec Inv-loop μ-loop loop-holds (λ c κs. search needs) (λ c. search needs) (λ c. search needs) (λ c. search needs) (λ c κs. search needs) (λ c κs. search needs) loop-less loop-again returns)
