@@ -25,12 +25,12 @@ use Rattle.sets.specs.Words.{values}
 use Rattle.tables.specs.Carried.{rowsOf as joinedRows, carriedRows}
 use Rattle.sets.proofs.Unions.{values-at}
 use Rattle.tables.proofs.Closing.{length-closed, length-selves, wantedRow}
-use Rattle.query.specs.Search.{rowsOf}
+use Rattle.query.specs.Carry.{rowsOf, Carry}
 use Rattle.query.specs.Rooms.{roomy}
 use Rattle.query.specs.Reduction.{Reduces}
-use Rattle.query.specs.Answer.{answered, Carry, Given}
-use Rattle.query.specs.declared.Choice.{Choice}
-use Rattle.query.specs.declared.Choice.the-variants.{Nothing, Roles}
+use Rattle.search.specs.Answer.{answered, Given}
+use Rattle.search.specs.declared.Choice.{Choice}
+use Rattle.search.specs.declared.Choice.the-variants.{Nothing, Roles}
 use Rattle.calls.specs.Calls.{Known, lineOf}
 use Rattle.asks.specs.Asks.{Asked, Searched}
 use Rattle.calls.proofs.FirstSteps.{Ready}

@@ -16,7 +16,7 @@ use Rattle.model.specs.Policy.{Policy, authorized, meaning}
 use Rattle.model.specs.Line.{lineSize, isOpen, exclusionsMet}
 use Rattle.model.specs.Session.{asked}
 use Rattle.model.specs.Run.{Event, lineAt, withLine, returned, answered}
-use Rattle.query.specs.Answer.{Carry}
+use Rattle.query.specs.Carry.{Carry}
 use Rattle.calls.specs.Calls.{lineOf, firstRefusal}
 
 -- the first number, where it is a refusal's, else the second

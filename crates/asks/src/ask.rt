@@ -7,8 +7,8 @@ ghost use Rattle.model.specs.Line.{lineSize};
 ghost use Rattle.model.specs.Choice.{choose};
 ghost use Rattle.model.specs.Run.{stepOn, askBy};
 ghost use Rattle.sets.specs.Words.{value, values};
-ghost use Rattle.query.specs.Search.{rowsOf};
-ghost use Rattle.query.specs.Answer.{answered};
+ghost use Rattle.query.specs.Carry.{rowsOf};
+ghost use Rattle.search.specs.Answer.{answered};
 ghost use Rattle.calls.specs.Calls.{Known, lineOf};
 ghost use Rattle.rows.specs.Rows.{exclusionsIn};
 ghost use Rattle.asks.specs.Asks.{Asked, Searched, askedOn, Answers};
@@ -20,8 +20,8 @@ use ledger::bytes::put_line;
 use ledger::change::put_in;
 use model::Head;
 use model::Line;
-use query::Choice;
 use query::rank::Job;
+use search::Choice;
 
 // The best admissible role set for session k of a line that meets every exclusion.
 fn best(
@@ -49,7 +49,7 @@ fn best(
         first,
         second,
     };
-    query::solve(rows, upper, authorized, &masks, &rooms, job)
+    search::solve(rows, upper, authorized, &masks, &rooms, job)
 }
 
 // The best admissible role set takes the place of the active roles of session k of a line that meets every exclusion, and fills the

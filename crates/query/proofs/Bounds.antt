@@ -12,18 +12,16 @@ use lib.ListN.{length, set}
 use lib.Seq.{getD-set-same, getD-set-other}
 use borrow.Author.Tests.{eqb-true, eqb-false, leb-true}
 use Rattle.model.specs.Tests.{pick}
-use Rattle.model.specs.Sets.{has, union, within, count, unionTo}
+use Rattle.model.specs.Sets.{has, union, within, count}
 use Rattle.model.specs.Choice.{cost}
 use Rattle.model.proofs.Bools.{or-l, or-r, not-both}
 use Rattle.model.proofs.SetLaws.{has-union}
-use Rattle.sets.specs.Members.{Lowest}
 use Rattle.sets.specs.Words.{value}
-use Rattle.sets.proofs.Taken.{lowest-least}
 use Rattle.query.specs.declared.rank.Best.{Best}
 use Rattle.query.specs.declared.rank.Job.{Job}
-use Rattle.query.specs.Search.{rowsOf, keyBy, rank, rankAt, Sub, Between, LeastCost, LeastKey, Settled, Reaches}
+use Rattle.query.specs.Carry.{rowsOf, Sub, Reaches}
+use Rattle.query.specs.Ranks.{keyBy, rank, rankAt, Between, LeastCost, LeastKey, Settled}
 use Rattle.query.proofs.Members.{sub-within, within-sub, sub-le, sub-count}
-use Rattle.query.proofs.Carried.{carried-least, row-sub}
 use Rattle.query.proofs.Ranks.{count-le}
 
 -- ---- two sets joined
@@ -75,15 +73,6 @@ module _ (job : Job) (chosen free carried top : ℕ) where
       omega (arith, leb-true (rankAt a) (rank key chosen) (sym e ∙ f), least s c b lo hi, sub-le chosen s (b .least))
 
 -- ---- what the roles of a set carry from a role on
-module _ (row reach : ℕ → ℕ) (chosen free carried role : ℕ) where
-  -- no set between carries more than the chosen roles and those from the lowest free one on
-  pub top-bound : Reaches row reach free → Lowest free role → carried ≡ unionTo row chosen 64 → (s : ℕ) → Between chosen free s
-      → Sub (unionTo row s 64) (union carried (reach role))
-  top-bound h low e s b = carried-least row 64 s (union carried (reach role)) (λ r l m. go r l (b .most r m))
-    where
-      go : (r : ℕ) → r < 64 → (has chosen r ≡ true) ⊎ (has free r ≡ true) → Sub (row r) (union carried (reach role))
-      go r l (inl m) p k = left-sub carried (reach role) p (ap (λ (x : ℕ). has x p) e ∙ row-sub row 64 chosen r l m p k)
-      go r l (inr m) p k = right-sub carried (reach role) p (h .rows role r (lowest-least free role r low m) l m p k)
 
 -- the rows of the table from `from` on are made, and all has what each role of the set from there on carries
 pub record Reached (row : ℕ → ℕ) (s : ℕ) (out : List (List ℕ)) (all from : ℕ) : Type 0 where

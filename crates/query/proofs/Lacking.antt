@@ -19,7 +19,7 @@ use Rattle.sets.specs.Members.{Lowest}
 use Rattle.sets.specs.Words.{value, Splits}
 use Rattle.sets.proofs.Machine.{value-has, value-lt}
 use Rattle.sets.proofs.Taken.{apart, has-xor}
-use Rattle.query.specs.Search.{Missing}
+use Rattle.query.specs.Carry.{Missing}
 use Rattle.query.proofs.Members.{sub-within, no-member}
 
 -- what a has and b lacks

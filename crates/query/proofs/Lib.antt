@@ -1,12 +1,9 @@
--- The laws behind the searches' contracts.
+-- The laws behind the contracts of a search's parts.
 pub mod Members
-pub mod Carried
 pub mod Ranks
 pub mod Bounds
-pub mod Steps
 pub mod RoomLaws
 pub mod Walks
 pub mod Lacking
-pub mod Turns
-pub mod Solved
+pub mod Meanings
 pub mod Reductions

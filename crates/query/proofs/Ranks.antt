@@ -1,4 +1,4 @@
--- Ranks: one set is better than another exactly if its rank is lower, and with objectives below 2 more roles rank no better.
+-- Ranks: what an objective makes of a count, the key, two ranks compared, and the chosen roles judged.
 -- Assumes nothing.
 use mathlib.Core.Path.{_≡_, refl, sym, subst, _∙_}
 use mathlib.Core.Bool.{Bool, true, false, _&&_, _||_}
@@ -15,33 +15,7 @@ use Rattle.model.proofs.Bools.{not-both}
 use Rattle.sets.specs.Words.{value}
 use Rattle.query.specs.declared.rank.Best.{Best}
 use Rattle.query.specs.declared.rank.Job.{Job}
-use Rattle.query.specs.Search.{Task, carries, Costs, keyBy, rank, rankOf, rankAt, Sub, Judged}
-use Rattle.query.proofs.Members.{sub-le, sub-count}
-use Rattle.query.proofs.Carried.{carried-sub}
-
--- a fewer count costs no more, unless the objective is the most
-cost-le : (a m n : ℕ) → a < 2 → m ≤ n → cost a m ≤ cost a n
-unfolding cost
-cost-le zero m n h l = zero-le
-cost-le (suc zero) m n h l = l
-cost-le (suc (suc a)) m n h l = absurd (omega arith)
-
-pub cost-top : (a n : ℕ) → n ≤ 256 → cost a n ≤ 256
-unfolding cost
-cost-top zero n h = zero-le
-cost-top (suc zero) n h = h
-cost-top (suc (suc a)) n h = omega arith
-
--- where neither objective is the most, a larger set ranks no better
-pub rank-grows : (t : Task) (c s : ℕ) → t .first < 2 → t .second < 2 → Sub c s → rankOf t c ≤ rankOf t s
-unfolding keyBy carries
-rank-grows t c s h g sub =
-    omega (
-      arith,
-      cost-le (t .first) (count 256 (carries t c)) (count 256 (carries t s)) h (sub-count 256 (carries t c) (carries t s) (carried-sub (t .row) 64 c s sub)),
-      cost-le (t .second) (count 64 c) (count 64 s) g (sub-count 64 c s sub),
-      sub-le c s sub,
-    )
+use Rattle.query.specs.Ranks.{Costs, keyBy, rank, rankAt, Judged}
 
 -- ---- what an objective makes of a count
 module _ (a n : ℕ) where

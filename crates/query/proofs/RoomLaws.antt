@@ -15,7 +15,7 @@ use Rattle.model.specs.Sets.{has, inter, count}
 use Rattle.model.proofs.Bools.{and-l, and-r, both, not-both}
 use Rattle.model.proofs.SetLaws.{has-inter}
 use Rattle.query.specs.Rooms.{fits, allBelow, roomy}
-use Rattle.query.specs.Search.{Sub}
+use Rattle.query.specs.Carry.{Sub}
 use Rattle.query.proofs.Members.{either, sub-count}
 
 module _ (f : ℕ → Bool) where

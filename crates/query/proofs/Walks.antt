@@ -13,7 +13,7 @@ use Rattle.model.proofs.Bools.{not-both}
 use Rattle.model.proofs.SetLaws.{has-with}
 use Rattle.sets.specs.Members.{without, Lowest}
 use Rattle.sets.proofs.Taken.{without-gone, without-other, count-without}
-use Rattle.query.specs.Search.{Sub, Keeps}
+use Rattle.query.specs.Carry.{Sub, Keeps}
 use Rattle.query.proofs.Members.{has-none, with-new, fewer-sub, sub-le}
 
 -- of the set s the members of left are still to come, and found has those before them that pass

@@ -1,5 +1,5 @@
--- What the contracts of the searches say, over the model's definitions.
+-- What the contracts of a search's parts say, over the model's definitions.
 pub mod Rooms
-pub mod Search
-pub mod Answer
+pub mod Carry
+pub mod Ranks
 pub mod Reduction

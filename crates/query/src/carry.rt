@@ -8,8 +8,7 @@ ghost use Rattle.model.specs.Sets.{has, union, with as withOf, within};
 ghost use Rattle.model.specs.Policy.{Meaning};
 ghost use Rattle.model.specs.Choice.{carriedBy};
 ghost use Rattle.sets.specs.Words.{value};
-ghost use Rattle.query.specs.Search.{rowsOf, Keeps, Missing, Reaches};
-ghost use Rattle.query.specs.Answer.{Carry};
+ghost use Rattle.query.specs.Carry.{rowsOf, Carry, Keeps, Missing, Reaches};
 use model::Permission;
 use model::Role;
 

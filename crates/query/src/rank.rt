@@ -5,7 +5,7 @@ ghost use Prim.Native.Nat.{_≤_};
 ghost use lib.Dec.{leb};
 ghost use Rattle.model.specs.Sets.{union as unionOf};
 ghost use Rattle.sets.specs.Words.{value};
-ghost use Rattle.query.specs.Search.{Costs, keyBy, rank, rankAt, Judged, LeastCost, LeastKey, Settled};
+ghost use Rattle.query.specs.Ranks.{Costs, keyBy, rank, rankAt, Judged, LeastCost, LeastKey, Settled};
 
 // The best set so far, with its key.
 pub struct Best {

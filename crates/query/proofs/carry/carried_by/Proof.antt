@@ -3,7 +3,7 @@
 use mathlib.Core.Path.{_∙_}
 use borrow.Author.Needs.{needs}
 use Rattle.sets.proofs.Unions.{unionAt-values}
-use Rattle.query.proofs.Solved.{carried-meaning}
+use Rattle.query.proofs.Meanings.{carried-meaning}
 use Rattle.query.proofs.carry.carried_by.Statement.{statement}
 use Rattle.query.proofs.carry.carried_by.Tie as tie
 

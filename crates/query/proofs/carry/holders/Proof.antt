@@ -2,7 +2,7 @@
 -- Assumes nothing.
 use borrow.Author.Needs.{needs}
 use Rattle.model.specs.Sets.{has, count}
-use Rattle.query.specs.Search.{rowsOf}
+use Rattle.query.specs.Carry.{rowsOf}
 use Rattle.query.proofs.Walks.{Walk, walk-starts, walk-next, walk-ends, fewer-left}
 use Rattle.query.proofs.carry.holders.Statement.{statement}
 use Rattle.query.proofs.carry.holders.Tie as tie

@@ -6,7 +6,7 @@ use native.Mathlib.Omega.{arith}
 use lib.ListN.{length, length-set}
 use borrow.Author.Needs.{needs}
 use Rattle.sets.specs.Words.{value}
-use Rattle.query.specs.Search.{rowsOf}
+use Rattle.query.specs.Carry.{rowsOf}
 use Rattle.query.proofs.Bounds.{Reached, reached-none, reached-next, reached-all}
 use Rattle.query.proofs.carry.reach.Statement.{statement}
 use Rattle.query.proofs.carry.reach.Tie as tie

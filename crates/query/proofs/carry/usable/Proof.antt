@@ -3,7 +3,7 @@
 use borrow.Author.Needs.{needs}
 use Rattle.model.specs.Sets.{within, count}
 use Rattle.sets.specs.Words.{value}
-use Rattle.query.specs.Search.{rowsOf}
+use Rattle.query.specs.Carry.{rowsOf}
 use Rattle.query.proofs.Walks.{Walk, walk-starts, walk-next, walk-ends, fewer-left}
 use Rattle.query.proofs.carry.usable.Statement.{statement}
 use Rattle.query.proofs.carry.usable.Tie as tie

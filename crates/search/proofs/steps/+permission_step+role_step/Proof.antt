@@ -1,4 +1,4 @@
--- `query::search::permission_step` and `role_step` meet their contracts. What falls counts the permissions still wanted and, twice, the
+-- `search::steps::permission_step` and `role_step` meet their contracts. What falls counts the permissions still wanted and, twice, the
 -- roles still free; a permission step stands one above the role step that it makes.
 -- Assumes nothing.
 use Prim.Native.Nat.{ℕ, _+_, _*_, _<_}
@@ -11,27 +11,27 @@ use borrow.Fn.PlainCycle.{Measures, is, falls, and}
 use denote.Ref.{now}
 use Rattle.model.specs.Sets.{count}
 use Rattle.sets.specs.Words.{value}
-use Rattle.query.specs.Search.{taskOf}
+use Rattle.search.specs.Search.{taskOf}
 use Rattle.query.proofs.RoomLaws.{roomy-less}
-use Rattle.query.proofs.Turns.{gives-up, reaches, goes-on, keeps-sub, runs-out, barred-sub, ready-more, tries-on, tries-off, wanted, wanted-less, roles-less}
-use Rattle.query.proofs.search.permission_step.Reads as permission-step
-use Rattle.query.proofs.search.permission_step.Kinds as permission-step-kinds
-use Rattle.query.proofs.search.+permission_step+role_step.Lts-permission_step as permission-step-lts
-use Rattle.query.proofs.search.role_step.Reads as role-step
-use Rattle.query.proofs.search.role_step.Kinds as role-step-kinds
-use Rattle.query.proofs.search.+permission_step+role_step.Lts-role_step as role-step-lts
+use Rattle.search.proofs.Turns.{gives-up, reaches, goes-on, keeps-sub, runs-out, barred-sub, ready-more, tries-on, tries-off, wanted, wanted-less, roles-less}
+use Rattle.search.proofs.steps.permission_step.Reads as permission-step
+use Rattle.search.proofs.steps.permission_step.Kinds as permission-step-kinds
+use Rattle.search.proofs.steps.+permission_step+role_step.Lts-permission_step as permission-step-lts
+use Rattle.search.proofs.steps.role_step.Reads as role-step
+use Rattle.search.proofs.steps.role_step.Kinds as role-step-kinds
+use Rattle.search.proofs.steps.+permission_step+role_step.Lts-role_step as role-step-lts
 use Rattle.query.proofs.carry.holders.Reads as holders-reads
 use Rattle.query.proofs.carry.missing.Reads as missing-reads
 use Rattle.query.proofs.rank.key_of.Reads as key-of-reads
 use Rattle.query.proofs.rank.no_worse.Reads as no-worse-reads
 use Rattle.query.proofs.rooms.room_for.Reads as room-for-reads
 use Rattle.sets.proofs.lowest.Reads as lowest-reads
 use Rattle.sets.proofs.perm_union.Reads as perm-union-reads
 use Rattle.sets.proofs.perm_within.Reads as perm-within-reads
 use Rattle.sets.proofs.with.Reads as with-reads
 use Rattle.sets.proofs.without.Reads as without-reads
-use Rattle.query.proofs.search.+permission_step+role_step.{statement}
-use Rattle.query.proofs.search.+permission_step+role_step.Tie.{close}
+use Rattle.search.proofs.steps.+permission_step+role_step.{statement}
+use Rattle.search.proofs.steps.+permission_step+role_step.Tie.{close}
 
 abbrev μ-permission-step : Measures 3 permission-step-kinds.ps ℕ
 μ-permission-step κs a = wanted (value (a .1 .1 .1 .0 .lower)) (value (a .1 .1 .1 .1 .1 .1 .0)) + 2 * count 64 (a .1 .1 .1 .1 .0) + 1

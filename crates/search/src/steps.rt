@@ -1,15 +1,16 @@
 // The two searches. Each step is given the roles chosen so far with what they carry, the roles still free, and the best set so far.
 ghost use Rattle.sets.specs.Words.{value};
-ghost use Rattle.query.specs.Search.{rowsOf, taskOf, Sub, Reaches, Ready, Modest, Found, Tried};
-use crate::carry::holders;
-use crate::carry::missing;
-use crate::rank::Best;
-use crate::rank::Job;
-use crate::rank::judged;
-use crate::rank::key_of;
-use crate::rank::no_worse;
-use crate::rank::settled;
-use crate::rooms::room_for;
+ghost use Rattle.query.specs.Carry.{rowsOf, Sub, Reaches};
+ghost use Rattle.search.specs.Search.{taskOf, Ready, Modest, Found, Tried};
+use query::carry::holders;
+use query::carry::missing;
+use query::rank::Best;
+use query::rank::Job;
+use query::rank::judged;
+use query::rank::key_of;
+use query::rank::no_worse;
+use query::rank::settled;
+use query::rooms::room_for;
 
 // 003's Procedure 3: a permission that is asked for and not carried is taken up, and the roles that carry it are tried. A set that is
 // no better than the best so far is given up, since a larger one is no better than it.

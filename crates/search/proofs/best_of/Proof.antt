@@ -1,13 +1,13 @@
--- `query::best_of` meets its contract: each search starts from the empty set.
+-- `search::best_of` meets its contract: each search starts from the empty set.
 -- Assumes nothing.
 use mathlib.Core.Path.{refl}
 use borrow.Author.Needs.{needs}
 use denote.Ref.{now}
 use Rattle.sets.specs.Words.{joined, value}
-use Rattle.query.specs.Search.{taskOf}
-use Rattle.query.proofs.Turns.{ready-none}
-use Rattle.query.proofs.best_of.Statement.{statement}
-use Rattle.query.proofs.best_of.Tie as tie
+use Rattle.search.specs.Search.{taskOf}
+use Rattle.search.proofs.Turns.{ready-none}
+use Rattle.search.proofs.best_of.Statement.{statement}
+use Rattle.search.proofs.best_of.Tie as tie
 
 permission-step-requires : tie.Need-permission-step-requires
 unfolding value joined

@@ -1,10 +1,10 @@
--- `query::answer` meets its contract.
+-- `search::answer` meets its contract.
 -- Assumes nothing.
 use borrow.Author.Tests.{ne-eqb}
 use Rattle.model.specs.Tests.{pick}
-use Rattle.query.specs.Answer.{answerOf}
-use Rattle.query.proofs.answer.Statement.{statement}
-use Rattle.query.proofs.answer.Tie as tie
+use Rattle.search.specs.Answer.{answerOf}
+use Rattle.search.proofs.answer.Statement.{statement}
+use Rattle.search.proofs.answer.Tie as tie
 
 returns : tie.Need-returns
 unfolding answerOf pick

@@ -1,4 +1,4 @@
--- `query::search::subset_step` meets its contract. The roles still free fall.
+-- `search::steps::subset_step` meets its contract. The roles still free fall.
 -- Assumes nothing.
 use Prim.Native.Nat.{ℕ, _<_}
 use native.Mathlib.Omega.{arith}
@@ -10,21 +10,21 @@ use borrow.Fn.PlainCycle.{Measures, is, falls, and}
 use denote.Ref.{now}
 use Rattle.model.specs.Sets.{count}
 use Rattle.sets.specs.Words.{value}
-use Rattle.query.specs.Search.{taskOf}
+use Rattle.search.specs.Search.{taskOf}
 use Rattle.query.proofs.RoomLaws.{roomy-less}
-use Rattle.query.proofs.Turns.{judges, ready-more, takes-both, takes-one, cuts-off, reaches-less, roles-less}
-use Rattle.query.proofs.search.subset_step.Reads as subset-step
-use Rattle.query.proofs.search.subset_step.Kinds as subset-step-kinds
-use Rattle.query.proofs.search.+subset_step.Lts-subset_step as subset-step-lts
+use Rattle.search.proofs.Turns.{judges, ready-more, takes-both, takes-one, cuts-off, reaches-less, roles-less}
+use Rattle.search.proofs.steps.subset_step.Reads as subset-step
+use Rattle.search.proofs.steps.subset_step.Kinds as subset-step-kinds
+use Rattle.search.proofs.steps.+subset_step.Lts-subset_step as subset-step-lts
 use Rattle.query.proofs.rank.judged.Reads as judged-reads
 use Rattle.query.proofs.rank.settled.Reads as settled-reads
 use Rattle.query.proofs.rooms.room_for.Reads as room-for-reads
 use Rattle.sets.proofs.lowest.Reads as lowest-reads
 use Rattle.sets.proofs.perm_union.Reads as perm-union-reads
 use Rattle.sets.proofs.with.Reads as with-reads
 use Rattle.sets.proofs.without.Reads as without-reads
-use Rattle.query.proofs.search.+subset_step.{statement}
-use Rattle.query.proofs.search.+subset_step.Tie.{close}
+use Rattle.search.proofs.steps.+subset_step.{statement}
+use Rattle.search.proofs.steps.+subset_step.Tie.{close}
 
 abbrev μ-subset-step : Measures 4 subset-step-kinds.ps ℕ
 μ-subset-step κs a = count 64 (a .1 .1 .1 .1 .1 .0)

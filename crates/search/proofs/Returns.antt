@@ -8,11 +8,14 @@ use native.Mathlib.Nat.{le-refl, le-trans}
 use Rattle.model.specs.Sets.{has, with, within}
 use Rattle.model.proofs.Bools.{and-l, and-r, both, not-both}
 use Rattle.sets.specs.Members.{without}
 use Rattle.query.specs.declared.rank.Best.{Best}
-use Rattle.query.specs.Search.{Task, carries, serves, keyOf, rankOf, rankAt, Sub, Between, Served, Found, Tried}
-use Rattle.query.proofs.Members.{within-sub, no-member, either, with-sub, fewer-stays, between-with, between-without, between-old, between-new, between-chosen, between-none}
-use Rattle.query.proofs.Carried.{carried-by, carried-in}
-use Rattle.query.proofs.Ranks.{rank-grows}
+use Rattle.query.specs.Carry.{Sub}
+use Rattle.query.specs.Ranks.{rankAt, Between}
+use Rattle.query.proofs.Members.{within-sub, no-member, either}
+use Rattle.search.specs.Search.{Task, carries, serves, keyOf, rankOf, Served, Found, Tried}
+use Rattle.search.proofs.Between.{with-sub, fewer-stays, between-with, between-without, between-old, between-new, between-chosen, between-none}
+use Rattle.search.proofs.Carried.{carried-by, carried-in}
+use Rattle.search.proofs.Costs.{rank-grows}
 
 -- the chosen roles as the best set
 abbrev pub bestAt : Task → ℕ → Best

@@ -13,13 +13,15 @@ use Rattle.model.proofs.Bools.{and-l, and-r, or-l, both}
 use Rattle.model.proofs.SetLaws.{has-union, has-inter}
 use Rattle.sets.specs.Members.{without, Lowest}
 use Rattle.sets.proofs.Taken.{count-without}
 use Rattle.query.specs.declared.rank.Best.{Best}
 use Rattle.query.specs.declared.rank.Job.{Job}
-use Rattle.query.specs.Search.{Task, rowsOf, taskOf, carries, serves, keyBy, rank, rankOf, rankAt, Sub, Keeps, Missing, Judged, Settled, Reaches, Ready, Modest, Found, Tried}
-use Rattle.query.proofs.Members.{sub-count, fewer-sub, fewer-within}
-use Rattle.query.proofs.Carried.{carried-sub, carried-with, carried-none}
-use Rattle.query.proofs.Bounds.{top-bound}
-use Rattle.query.proofs.Steps.{given-up, reached, taken-up, tried-none, tried-on, tried-off, both-ways, one-way, none-better, leaf}
+use Rattle.query.specs.Carry.{rowsOf, Sub, Keeps, Missing, Reaches}
+use Rattle.query.specs.Ranks.{keyBy, rank, rankAt, Judged, Settled}
+use Rattle.query.proofs.Members.{sub-count, fewer-sub}
+use Rattle.search.specs.Search.{Task, taskOf, carries, serves, rankOf, Ready, Modest, Found, Tried}
+use Rattle.search.proofs.Between.{fewer-within}
+use Rattle.search.proofs.Carried.{carried-sub, carried-with, carried-none, top-bound}
+use Rattle.search.proofs.Returns.{given-up, reached, taken-up, tried-none, tried-on, tried-off, both-ways, one-way, none-better, leaf}
 
 -- what the exclusions leave room for passes to smaller sets
 abbrev pub Falls : Task → Type 0

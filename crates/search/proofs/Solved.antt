@@ -8,11 +8,10 @@ use Prim.Native.Nat.{ℕ, _+_, _*_, _^_, _≤_, _<_}
 use native.Mathlib.Nat.{lt-of-le-of-lt}
 use native.Mathlib.Omega.{arith}
 use lib.Dec.{eqb, ltb}
-use lib.ListN.{getD}
 use borrow.Author.Tests.{ltb-true, ltb-false, ne-eqb}
 use Rattle.model.specs.declared.Line.{Line}
 use Rattle.model.specs.Tests.{pick}
-use Rattle.model.specs.Sets.{has, within, count, unionTo, unionAt}
+use Rattle.model.specs.Sets.{has, within, count}
 use Rattle.model.specs.Policy.{Meaning}
 use Rattle.model.specs.Line.{exclusionsMet, putIn}
 use Rattle.model.specs.Choice.{carriedBy, admissible, cost, permissionCost, roleCost, better, choose}
@@ -20,20 +19,19 @@ use Rattle.model.proofs.Bools.{and-l, and-r, both, not-both}
 use Rattle.model.proofs.SetLaws.{has-beyond}
 use Rattle.model.proofs.Ranks.{Earlier, earlier-true}
 use Rattle.model.proofs.Choices.{choice}
 use Rattle.query.specs.declared.rank.Best.{Best}
-use Rattle.query.specs.declared.Choice.{Choice}
-use Rattle.query.specs.declared.Choice.the-variants.{Nothing}
-use Rattle.query.specs.Search.{Task, carries, serves, keyBy, rank, rankOf, rankAt, Sub, Keeps, Between, Served, Found}
-use Rattle.query.specs.Answer.{answered, noBest, answerOf, Carry, Given}
+use Rattle.query.specs.Carry.{Sub, Keeps}
+use Rattle.query.specs.Ranks.{keyBy, rank, rankAt, Between}
 use Rattle.query.proofs.Members.{sub-within, within-sub, sub-le, none-sub, no-member}
-use Rattle.query.proofs.Carried.{carried-same, carried-least, row-sub}
-use Rattle.query.proofs.Ranks.{cost-top, count-le}
-use Rattle.query.proofs.Turns.{Falls}
-
--- what roles carry, by their rows
-pub carried-meaning : (m : Meaning) (s : ℕ) (row : ℕ → ℕ) → Carry m s row → unionTo row s 64 ≡ carriedBy m s
-unfolding carriedBy unionAt
-carried-meaning m s row h = carried-same row (λ r. getD (m .carried) r 0) s 64 (λ r _ n. sym (h r n))
+use Rattle.query.proofs.Meanings.{carried-meaning}
+use Rattle.query.proofs.Ranks.{count-le}
+use Rattle.search.specs.declared.Choice.{Choice}
+use Rattle.search.specs.declared.Choice.the-variants.{Nothing}
+use Rattle.search.specs.Search.{Task, carries, serves, rankOf, Served, Found}
+use Rattle.search.specs.Answer.{answered, noBest, answerOf, Given}
+use Rattle.search.proofs.Carried.{carried-least, row-sub}
+use Rattle.search.proofs.Costs.{cost-top}
+use Rattle.search.proofs.Turns.{Falls}
 
 -- a key is below that of none
 key-small : (a b c s : ℕ) → keyBy a b c s < 1048576

@@ -1,4 +1,4 @@
--- What the roles of a set carry: the permissions of its roles and no others.
+-- What the roles of a set carry: the permissions of its roles and no others, and for a set between no more than the free roles leave.
 -- Assumes nothing.
 use mathlib.Core.Path.{_≡_, refl, sym, ap, _∙_}
 use mathlib.Core.Bool.{Bool, true, false, _||_}
@@ -8,14 +8,18 @@ use native.Mathlib.Omega.{arith}
 use lib.Dec.{ltb}
 use borrow.Author.Tests.{ltb-true, ltb-false}
 use Rattle.model.specs.Tests.{pick}
-use Rattle.model.specs.Sets.{has, unionTo}
+use Rattle.model.specs.Sets.{has, union, unionTo}
 use Rattle.model.proofs.Bools.{or-l, or-r, or-cases}
 use Rattle.model.proofs.SetLaws.{has-union}
-use Rattle.query.specs.Search.{Sub}
+use Rattle.sets.specs.Members.{Lowest}
+use Rattle.sets.proofs.Taken.{lowest-least}
+use Rattle.query.specs.Carry.{Sub, Reaches}
+use Rattle.query.specs.Ranks.{Between}
 use Rattle.query.proofs.Members.{no-member, either}
--- one role more, no roles, and rows that are the same at the set's roles
+use Rattle.query.proofs.Bounds.{left-sub, right-sub}
+-- no roles, and one role more
 pub use Rattle.model.proofs.UnionLaws.{unionTo-none as carried-none}
-pub use Rattle.sets.proofs.Unions.{unionTo-with as carried-with, unionTo-same as carried-same}
+pub use Rattle.sets.proofs.Unions.{unionTo-with as carried-with}
 
 module _ (row : ℕ → ℕ) (s p : ℕ) where
   -- what a role of the set carries
@@ -63,3 +67,13 @@ module _ (row : ℕ → ℕ) (d : ℕ) where
 
   pub row-sub : (s r : ℕ) → r < d → has s r ≡ true → Sub (row r) (unionTo row s d)
   row-sub s r l m p h = carried-in row s p d r l m h
+
+module _ (row reach : ℕ → ℕ) (chosen free carried role : ℕ) where
+  -- no set between carries more than the chosen roles and those from the lowest free one on
+  pub top-bound : Reaches row reach free → Lowest free role → carried ≡ unionTo row chosen 64 → (s : ℕ) → Between chosen free s
+      → Sub (unionTo row s 64) (union carried (reach role))
+  top-bound h low e s b = carried-least row 64 s (union carried (reach role)) (λ r l m. go r l (b .most r m))
+    where
+      go : (r : ℕ) → r < 64 → (has chosen r ≡ true) ⊎ (has free r ≡ true) → Sub (row r) (union carried (reach role))
+      go r l (inl m) p k = left-sub carried (reach role) p (ap (λ (x : ℕ). has x p) e ∙ row-sub row 64 chosen r l m p k)
+      go r l (inr m) p k = right-sub carried (reach role) p (h .rows role r (lowest-least free role r low m) l m p k)

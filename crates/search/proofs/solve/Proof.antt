@@ -1,15 +1,15 @@
--- `query::solve` meets its contract: what a search finds is the model's choice.
+-- `search::solve` meets its contract: what a search finds is the model's choice.
 -- Assumes nothing.
 use mathlib.Core.Path.{sym, _∙_}
 use borrow.Author.Needs.{needs}
 use borrow.Author.Tests.{not-true, not-false}
 use denote.Ref.{now}
 use Rattle.sets.specs.Words.{value}
-use Rattle.query.specs.Search.{taskOf}
+use Rattle.search.specs.Search.{taskOf}
 use Rattle.query.proofs.RoomLaws.{roomy-less}
-use Rattle.query.proofs.Solved.{is-chosen, none-chosen}
-use Rattle.query.proofs.solve.Statement.{statement}
-use Rattle.query.proofs.solve.Tie as tie
+use Rattle.search.proofs.Solved.{is-chosen, none-chosen}
+use Rattle.search.proofs.solve.Statement.{statement}
+use Rattle.search.proofs.solve.Tie as tie
 
 returns : tie.Need-returns
 returns c m l k given =

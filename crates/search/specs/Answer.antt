@@ -5,15 +5,15 @@ use mathlib.Core.Bool.{Bool, true}
 use mathlib.Core.Option.{Option, none, some}
 use Prim.Native.Nat.{ℕ}
 use lib.Dec.{eqb}
-use lib.ListN.{getD}
 use Rattle.model.specs.declared.Line.{Line}
 use Rattle.model.specs.Tests.{pick}
-use Rattle.model.specs.Sets.{has, within}
+use Rattle.model.specs.Sets.{within}
 use Rattle.model.specs.Policy.{Meaning}
 use Rattle.model.specs.Line.{exclusionsMet, putIn}
 use Rattle.query.specs.declared.rank.Best.{Best}
-use Rattle.query.specs.declared.Choice.{Choice}
-use Rattle.query.specs.declared.Choice.the-variants.{Nothing, Roles}
+use Rattle.query.specs.Carry.{Carry}
+use Rattle.search.specs.declared.Choice.{Choice}
+use Rattle.search.specs.declared.Choice.the-variants.{Nothing, Roles}
 
 -- the answer as a choice of the model
 unfoldable pub answered : Choice → Option ℕ
@@ -30,10 +30,6 @@ noBest = record { key = noKey; roles = 0 }
 
 unfoldable pub answerOf : Best → Choice
 answerOf a = pick (eqb (a .key) noKey) Nothing (Roles (a .roles))
-
--- each of the roles carries what its row says
-abbrev pub Carry : Meaning → ℕ → (ℕ → ℕ) → Type 0
-Carry m s row = (r : ℕ) → has s r ≡ true → getD (m .carried) r 0 ≡ row r
 
 -- the roles that the user may activate, what each of them carries, and the sets of them that leave every exclusion met once put in for
 -- session k

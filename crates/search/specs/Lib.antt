@@ -1,0 +1,3 @@
+-- What the contracts of the searches say, over the model's definitions.
+pub mod Search
+pub mod Answer

@@ -1,0 +1,80 @@
+// The choice of a role set (the User Authorization Query): `solve`, and the two searches behind it.
+ghost use mathlib.Core.Path.{_≡_};
+ghost use mathlib.Core.Bool.{true};
+ghost use Prim.Native.Nat.{ℕ, _≤_};
+ghost use Rattle.model.specs.declared.Line.{Line};
+ghost use Rattle.model.specs.Policy.{Meaning};
+ghost use Rattle.model.specs.Choice.{choose};
+ghost use Rattle.sets.specs.Words.{value};
+ghost use Rattle.query.specs.Rooms.{roomy};
+ghost use Rattle.query.specs.Carry.{rowsOf};
+ghost use Rattle.search.specs.Search.{taskOf, Found};
+ghost use Rattle.search.specs.Answer.{answered, answerOf, noBest, Given};
+
+pub mod steps; // steps.rt: the steps of the two searches
+
+use query::carry::reach;
+use query::carry::usable;
+use query::rank::Best;
+use query::rank::Job;
+use query::rank::NONE;
+use query::rooms::room_for;
+use steps::permission_step;
+use steps::subset_step;
+
+// The answer of a query: no set is admissible, or the best one.
+pub enum Choice {
+    Nothing,
+    Roles(u64),
+}
+
+fn answer(best: Best) -> Choice
+    ensures { λ r. ⌜ r ≡ answerOf best ⌝ }
+{
+    let key = best.key;
+    if key == NONE {
+        return Choice::Nothing;
+    }
+    Choice::Roles(best.roles)
+}
+
+// The best set of free roles, from the empty set, which the exclusions have room for: Procedure 3 unless an objective is the most.
+fn best_of(rows: &[[u64; 4]; 64], masks: &[u64; 32], rooms: &[u32; 32], job: Job, free: u64) -> Best
+    requires { ⌜ (job .count ≤ 32) × (roomy (now masks) (now rooms) (job .count) 0 ≡ true) ⌝ }
+    ensures { λ r. ⌜ Found (taskOf (now (rows .entry)) (now (masks .entry)) (now (rooms .entry)) job) 0 free noBest r ⌝ }
+{
+    let none = Best {
+        key: NONE,
+        roles: 0,
+    };
+    let first = job.first;
+    let second = job.second;
+    if first < 2 {
+        if second < 2 {
+            return permission_step(rows, masks, rooms, job, free, 0, [0u64; 4], none);
+        }
+    }
+    let from = reach(rows, free);
+    subset_step(rows, &from, masks, rooms, job, free, 0, [0u64; 4], none)
+}
+
+// The best admissible role set, of the roles that the user may activate: at least the lower bound, nothing outside the upper, and
+// room under each exclusion.
+pub fn solve(
+    rows: &[[u64; 4]; 64],
+    upper: [u64; 4],
+    authorized: u64,
+    masks: &[u64; 32],
+    rooms: &[u32; 32],
+    job: Job,
+) -> Choice
+    requires { ⌜ job .count ≤ 32 ⌝ }
+    ensures { λ r. ⌜ ((m : Meaning) (l : Line) (k : ℕ) → Given m l k authorized (rowsOf (now (rows .entry))) (roomy (now (masks .entry)) (now (rooms .entry)) (job .count)) → answered r ≡ choose m l k (value (job .lower)) (value upper) (job .first) (job .second)) ⌝ }
+{
+    let count = job.count;
+    if !room_for(masks, rooms, count, 0) {
+        return Choice::Nothing;
+    }
+    let free = usable(rows, upper, authorized);
+    answer(best_of(rows, masks, rooms, job, free))
+}
