@@ -15,7 +15,7 @@ use Rattle.model.specs.Image.{judge}
 use Rattle.model.specs.Line.{lineSize}
 use Rattle.nutrameza.proofs.Images.{accepted-users}
 use Rattle.script.specs.Script.{answerTo, printed, firstLedger}
-use Rattle.script.specs.Writing.{Puts}
+use Rattle.text.specs.Writing.{Puts}
 use Rattle.nutrameza_script.specs.Progress.{Progress, keeping, extended, answered, afterByte, after, endedBy, ended}
 use Rattle.nutrameza_script.specs.Buffers.{during}
 

@@ -11,9 +11,9 @@ use Rattle.model.specs.Run.{Call, Event, step, returned, filledWith, answered}
 use Rattle.script.specs.declared.Parsed.{Parsed}
 use Rattle.script.specs.Script.{parse, lineOf, printed, answerBy, answerTo}
 use Rattle.script.specs.Reading.{callIn}
-use Rattle.script.specs.Writing.{Puts}
 use Rattle.script.proofs.ReplyLaws.{step-small, number-returned, extra-returned}
-use Rattle.script.proofs.TextLaws.{puts-as}
+use Rattle.text.specs.Writing.{Puts}
+use Rattle.text.proofs.TextLaws.{puts-as}
 use Rattle.asks.specs.Asks.{Answers}
 
 -- ---- what fills the answer buffer

@@ -5,7 +5,7 @@ ghost use lib.ListN.{length};
 ghost use Rattle.asks.specs.Asks.{Answers};
 ghost use Rattle.script.specs.Script.{answerBy, answerTo, printed};
 ghost use Rattle.script.specs.Reading.{callIn};
-ghost use Rattle.script.specs.Writing.{Puts};
+ghost use Rattle.text.specs.Writing.{Puts};
 use nutrameza::nutrameza_ask;
 use nutrameza::nutrameza_close;
 use nutrameza::nutrameza_open;
@@ -63,5 +63,5 @@ pub fn respond(
     let p = script::parse::parse(line);
     let mut answer = [0u8; 40];
     let code = call(image, ledger, p, &mut answer);
-    script::text::put_line(out, at, n, code % 256, code / 256, &answer)
+    text::put_line(out, at, n, code % 256, code / 256, &answer)
 }

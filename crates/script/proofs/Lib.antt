@@ -8,6 +8,5 @@ pub mod CutLaws
 pub mod SameLaws
 pub mod FormLaws
 pub mod ReadLaws
-pub mod TextLaws
 pub mod ReplyLaws
 pub mod LengthLaws

@@ -1,5 +1,4 @@
--- The definitions of the script, and what its functions find and do on the way.
+-- The definitions of the script, and what the functions that read a line find on the way.
 pub mod Script
 pub mod Examples
 pub mod Reading
-pub mod Writing

@@ -1,9 +1,8 @@
-// The script of the program: a line in, a line out. Modules: `numerals` reads numbers, `lines` cuts a line into words, `parse` finds the
-// call that a line is, `text` writes the line for an answer.
+// A line of the script read as the call that it is. Modules: `numerals` reads numbers, `lines` cuts a line into words, `parse` finds the
+// call. The definitions of the whole script, what is printed for it among them, are in specs/.
 mod lines;
 mod numerals;
 pub mod parse;
-pub mod text;
 
 // A word read as a decimal: whether it is one, and its number.
 pub struct Number {

@@ -3,9 +3,9 @@
 use borrow.Author.Needs.{needs}
 use mathlib.Core.Path.{sym, ap, _∙_}
 use mathlib.Core.List.{[], _∷_}
-use Rattle.script.proofs.TextLaws.{puts-as, numeral-one, two≤16, byte-pair}
-use Rattle.script.proofs.text.put_byte.Statement.{statement}
-use Rattle.script.proofs.text.put_byte.Tie as tie
+use Rattle.text.proofs.TextLaws.{puts-as, numeral-one, two≤16, byte-pair}
+use Rattle.text.proofs.put_byte.Statement.{statement}
+use Rattle.text.proofs.put_byte.Tie as tie
 
 returns : tie.Need-returns
 returns c =

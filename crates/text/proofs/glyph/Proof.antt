@@ -1,9 +1,9 @@
 -- A figure or a small letter.
 -- Assumes nothing.
 use borrow.Author.Needs.{needs}
-use Rattle.script.proofs.TextLaws.{glyph-figure, glyph-letter}
-use Rattle.script.proofs.text.glyph.Statement.{statement}
-use Rattle.script.proofs.text.glyph.Tie as tie
+use Rattle.text.proofs.TextLaws.{glyph-figure, glyph-letter}
+use Rattle.text.proofs.glyph.Statement.{statement}
+use Rattle.text.proofs.glyph.Tie as tie
 
 pub glyph-spec : {M : Type 1} → statement M
 glyph-spec =

@@ -2,9 +2,9 @@
 -- Assumes nothing.
 use borrow.Author.Needs.{needs}
 use native.Mathlib.Omega.{arith}
-use Rattle.script.proofs.TextLaws.{puts-joined, puts-as, decimal-length, line-of}
-use Rattle.script.proofs.text.put_line.Statement.{statement}
-use Rattle.script.proofs.text.put_line.Tie as tie
+use Rattle.text.proofs.TextLaws.{puts-joined, puts-as, decimal-length, line-of}
+use Rattle.text.proofs.put_line.Statement.{statement}
+use Rattle.text.proofs.put_line.Tie as tie
 
 put-decimal-requires : tie.Need-put-decimal-requires
 put-decimal-requires c κs =

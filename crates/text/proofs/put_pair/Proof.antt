@@ -3,10 +3,10 @@
 use borrow.Author.Needs.{needs}
 use mathlib.Core.Path.{_≡_}
 use mathlib.Core.List.{[], _∷_}
-use Rattle.script.specs.Writing.{pairOf}
-use Rattle.script.proofs.TextLaws.{puts-joined, puts-as}
-use Rattle.script.proofs.text.put_pair.Statement.{statement}
-use Rattle.script.proofs.text.put_pair.Tie as tie
+use Rattle.text.specs.Writing.{pairOf}
+use Rattle.text.proofs.TextLaws.{puts-joined, puts-as}
+use Rattle.text.proofs.put_pair.Statement.{statement}
+use Rattle.text.proofs.put_pair.Tie as tie
 
 returns : tie.Need-returns
 unfolding pairOf

@@ -6,9 +6,9 @@ use Prim.Native.Nat.{_≤_}
 use native.Mathlib.Omega.{arith}
 use lib.ListN.{length, drop}
 use Rattle.model.specs.Bytes.{number}
-use Rattle.script.proofs.TextLaws.{highest-begins, highest-goes-on}
-use Rattle.script.proofs.text.highest.Statement.{statement}
-use Rattle.script.proofs.text.highest.Tie as tie
+use Rattle.text.proofs.TextLaws.{highest-begins, highest-goes-on}
+use Rattle.text.proofs.highest.Statement.{statement}
+use Rattle.text.proofs.highest.Tie as tie
 
 abbrev Inv-loop : tie.InvT-loop
 Inv-loop bytes k₀ k = (k ≤ length bytes) × (number (drop k bytes) ≡ 0)

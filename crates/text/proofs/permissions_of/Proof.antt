@@ -1,9 +1,9 @@
 -- The last 32 of 40 bytes.
 -- Assumes nothing.
 use borrow.Author.Needs.{needs}
-use Rattle.script.proofs.TextLaws.{permissions-part, permissions-length}
-use Rattle.script.proofs.text.permissions_of.Statement.{statement}
-use Rattle.script.proofs.text.permissions_of.Tie as tie
+use Rattle.text.proofs.TextLaws.{permissions-part, permissions-length}
+use Rattle.text.proofs.permissions_of.Statement.{statement}
+use Rattle.text.proofs.permissions_of.Tie as tie
 
 returns : tie.Need-returns
 returns c =

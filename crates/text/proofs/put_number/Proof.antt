@@ -2,9 +2,9 @@
 -- Assumes nothing.
 use borrow.Author.Needs.{needs}
 use native.Mathlib.Omega.{arith}
-use Rattle.script.proofs.TextLaws.{puts-joined, decimal-length}
-use Rattle.script.proofs.text.put_number.Statement.{statement}
-use Rattle.script.proofs.text.put_number.Tie as tie
+use Rattle.text.proofs.TextLaws.{puts-joined, decimal-length}
+use Rattle.text.proofs.put_number.Statement.{statement}
+use Rattle.text.proofs.put_number.Tie as tie
 
 put-decimal-requires : tie.Need-put-decimal-requires
 put-decimal-requires c κs =

@@ -4,9 +4,9 @@ use borrow.Author.Needs.{needs}
 use Prim.Native.Nat.{_-_, _<_}
 use native.Mathlib.Omega.{arith}
 use lib.ListN.{getD}
-use Rattle.script.proofs.TextLaws.{puts-joined, puts-as, byte-length, numeral-none, numeral-some, length-pairs}
-use Rattle.script.proofs.text.put_hexadecimal.Statement.{statement}
-use Rattle.script.proofs.text.put_hexadecimal.Tie as tie
+use Rattle.text.proofs.TextLaws.{puts-joined, puts-as, byte-length, numeral-none, numeral-some, length-pairs}
+use Rattle.text.proofs.put_hexadecimal.Statement.{statement}
+use Rattle.text.proofs.put_hexadecimal.Tie as tie
 
 returns : tie.Need-returns
 returns c =

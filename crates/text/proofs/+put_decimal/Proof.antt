@@ -5,19 +5,19 @@ use mathlib.Core.Path.{sym, ap, _∙_}
 use mathlib.Core.List.{[], _∷_, _++_}
 use native.Mathlib.Omega.{arith}
 use lib.ListN.{length}
 use Rattle.script.specs.Script.{glyph, numeral}
-use Rattle.script.proofs.TextLaws.{puts-joined, puts-as, numeral-one, numeral-more, numeral-longer, two≤10}
+use Rattle.text.proofs.TextLaws.{puts-joined, puts-as, numeral-one, numeral-more, numeral-longer, two≤10}
 use Prim.Native.Nat.{ℕ, _/_, _<_}
 use borrow.Fn.Kinds.{In}
 use borrow.Fn.PlainCycle.{Measures, is, falls, and}
-use Rattle.script.proofs.text.put_decimal.Reads as put-decimal
-use Rattle.script.proofs.text.put_decimal.Kinds as put-decimal-kinds
-use Rattle.script.proofs.text.+put_decimal.Lts-put_decimal as put-decimal-lts
-use Rattle.script.proofs.text.glyph.Reads as glyph-reads
-use Rattle.script.proofs.text.narrow.Reads as narrow-reads
-use Rattle.script.proofs.text.put.Reads as put-reads
-use Rattle.script.proofs.text.+put_decimal.{statement}
-use Rattle.script.proofs.text.+put_decimal.Tie.{close}
+use Rattle.text.proofs.put_decimal.Reads as put-decimal
+use Rattle.text.proofs.put_decimal.Kinds as put-decimal-kinds
+use Rattle.text.proofs.+put_decimal.Lts-put_decimal as put-decimal-lts
+use Rattle.text.proofs.glyph.Reads as glyph-reads
+use Rattle.text.proofs.narrow.Reads as narrow-reads
+use Rattle.text.proofs.put.Reads as put-reads
+use Rattle.text.proofs.+put_decimal.{statement}
+use Rattle.text.proofs.+put_decimal.Tie.{close}
 
 abbrev μ-put-decimal : Measures 1 put-decimal-kinds.ps ℕ
 μ-put-decimal κs a = a .1 .1 .0

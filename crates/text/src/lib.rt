@@ -4,8 +4,8 @@ ghost use mathlib.Core.List.{[], _∷_};
 ghost use Prim.Native.Nat.{_+_, _*_, _/_, _%_, _≤_, _<_};
 ghost use lib.ListN.{length, take, drop};
 ghost use Rattle.model.specs.Bytes.{number as numberOf};
 ghost use Rattle.script.specs.Script.{glyph as glyphOf, numeral, lineOf};
-ghost use Rattle.script.specs.Writing.{Puts, pairOf, pairsOf, Highest};
+ghost use Rattle.text.specs.Writing.{Puts, pairOf, pairsOf, Highest};
 
 // The ASCII code of a digit below 16, in small letters.
 fn glyph(d: u8) -> u8

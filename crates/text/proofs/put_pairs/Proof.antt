@@ -6,10 +6,10 @@ use mathlib.Core.List.{List, [], _++_, append-assoc, append-nil}
 use Prim.Native.Nat.{ℕ, _+_, _-_, _*_, _≤_}
 use native.Mathlib.Omega.{arith}
 use lib.ListN.{length, getD}
-use Rattle.script.specs.Writing.{Puts, pairOf, pairsOf}
-use Rattle.script.proofs.TextLaws.{put-nothing, puts-joined, puts-as, pairs-next}
-use Rattle.script.proofs.text.put_pairs.Statement.{statement}
-use Rattle.script.proofs.text.put_pairs.Tie as tie
+use Rattle.text.specs.Writing.{Puts, pairOf, pairsOf}
+use Rattle.text.proofs.TextLaws.{put-nothing, puts-joined, puts-as, pairs-next}
+use Rattle.text.proofs.put_pairs.Statement.{statement}
+use Rattle.text.proofs.put_pairs.Tie as tie
 
 abbrev Inv-loop : tie.InvT-loop
 Inv-loop out₀ at bytes k next₀ i₀ out next i =

@@ -2,9 +2,9 @@
 -- Assumes nothing.
 use borrow.Author.Needs.{needs}
 use native.Mathlib.Omega.{arith}
-use Rattle.script.proofs.TextLaws.{puts-joined}
-use Rattle.script.proofs.text.put_set.Statement.{statement}
-use Rattle.script.proofs.text.put_set.Tie as tie
+use Rattle.text.proofs.TextLaws.{puts-joined}
+use Rattle.text.proofs.put_set.Statement.{statement}
+use Rattle.text.proofs.put_set.Tie as tie
 
 returns : tie.Need-returns
 returns c =

@@ -12,8 +12,8 @@ use lib.Seq.{sets, drop-cons, drop-length, take-all}
 use borrow.Author.Tests.{lt-ltb, le-ltb, ltb-true, ltb-false}
 use Rattle.model.specs.Tests.{pick}
 use Rattle.model.specs.Bytes.{number}
 use Rattle.script.specs.Script.{glyph, digitsOf, numeral, lineOf}
-use Rattle.script.specs.Writing.{Puts, pairOf, pairsOf, Highest}
+use Rattle.text.specs.Writing.{Puts, pairOf, pairsOf, Highest}
 
 -- ---- texts one behind the other
 
