@@ -13,7 +13,7 @@ use Rattle.model.specs.Tests.{pick}
 use Rattle.model.specs.Sets.{within}
 use Rattle.model.specs.Bytes.{number}
 use Rattle.model.specs.Policy.{Policy, authorized, meaning}
-use Rattle.model.specs.Line.{lineSize, isOpen, exclusionsMet}
+use Rattle.model.specs.Line.{SESSIONS, lineSize, isOpen, exclusionsMet}
 use Rattle.model.specs.Session.{asked}
 use Rattle.model.specs.Run.{Event, lineAt, withLine, returned, answered}
 use Rattle.query.specs.Carry.{Carry}
@@ -60,13 +60,13 @@ pub record Searched (p : Policy) (u : ℕ) (ledger : List ℕ) (roles : ℕ) (gr
   pub juniors-are : juniors ≡ p .juniors
   pub own-is : authorized p u ≡ own
   pub exclusions-are : p .exclusions ≡ take (xs .count) (xs .list)
-  pub met : exclusionsMet (meaning p u) (lineOf 4 ledger u) ≡ true
+  pub met : exclusionsMet (meaning p u) (lineOf SESSIONS ledger u) ≡ true
 
 -- a search's choice for session k, put into the user's line and answered
 unfoldable pub askedOn : Policy → List ℕ → ℕ → ℕ → Option ℕ → Event
 askedOn p ledger u k c =
-    let x = asked (meaning p u) (lineOf 4 ledger u) (lineAt (lineSize 4) u ledger) k c in
-    record { reply = x .reply; ledger = withLine (lineSize 4) u (x .line) ledger }
+    let x = asked (meaning p u) (lineOf SESSIONS ledger u) (lineAt (lineSize SESSIONS) u ledger) k c in
+    record { reply = x .reply; ledger = withLine (lineSize SESSIONS) u (x .line) ledger }
 
 -- the number returned, the ledger and the answer buffer after the call are the event's; the room is the buffer before
 pub record Answers (e : Event) (n : ℕ) (ledger room answer : List ℕ) : Type 0 where

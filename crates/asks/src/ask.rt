@@ -3,7 +3,7 @@ ghost use mathlib.Core.Path.{_≡_};
 ghost use Prim.Native.Nat.{ℕ, _+_, _*_, _≤_, _<_};
 ghost use lib.ListN.{length, getD};
 ghost use Rattle.model.specs.Policy.{Policy, meaning};
-ghost use Rattle.model.specs.Line.{lineSize};
+ghost use Rattle.model.specs.Line.{SESSIONS, lineSize};
 ghost use Rattle.model.specs.Choice.{choose};
 ghost use Rattle.model.specs.Run.{stepOn, askBy};
 ghost use Rattle.sets.specs.Words.{value, values};
@@ -36,7 +36,7 @@ fn best(
     first: u8,
     second: u8,
 ) -> Choice
-    requires { ⌜ (count ≤ 32) × (k < 4) × (length (now xs) ≡ 32) ⌝ }
+    requires { ⌜ (count ≤ 32) × (k < SESSIONS) × (length (now xs) ≡ 32) ⌝ }
     ensures { λ r. ⌜ ((p : Policy) (u : ℕ) → Asked p u l authorized (exclusionsIn (now (xs .entry)) count) (rowsOf (now (rows .entry)))
         → answered r ≡ choose (meaning p u) l k (value lower) (value upper) first second) ⌝ }
 {
@@ -70,11 +70,11 @@ fn put_best(
     second: u8,
     answer: &mut [u8],
 ) -> u64
-    requires { ⌜ (roles ≤ 64) × (length (now juniors) ≡ 64) × (count ≤ 32) × (lineSize 4 * u + lineSize 4 ≤ length (now ledger)) × (k < 4)
+    requires { ⌜ (roles ≤ 64) × (length (now juniors) ≡ 64) × (count ≤ 32) × (lineSize SESSIONS * u + lineSize SESSIONS ≤ length (now ledger)) × (k < SESSIONS)
         × (length (now answer) ≡ 40) × (length (now xs) ≡ 32) ⌝ }
     ensures { λ r. ⌜ ((p : Policy) → Searched p u (now (ledger .entry)) roles (values (now (granted .entry))) (now (juniors .entry)) authorized (exclusionsIn (now (xs .entry)) count)
         → Answers (askedOn p (now (ledger .entry)) u k
-        (choose (meaning p u) (lineOf 4 (now (ledger .entry)) u) k (value lower) (value upper) first second))
+        (choose (meaning p u) (lineOf SESSIONS (now (ledger .entry)) u) k (value lower) (value upper) first second))
         r (now (ledger .exit)) (now (answer .entry)) (now (answer .exit))) ⌝ }
 {
     let rows = tables::carried::carried(granted, juniors, roles as usize, authorized);
@@ -128,7 +128,7 @@ pub fn ask_roles(
     requires { ⌜ (head .users ≤ 64) × (head .roles ≤ 64) × (count ≤ 32) × (length (now juniors) ≡ 64) × (length (now xs) ≡ 32) ⌝ }
     ensures { λ r. ⌜ ((p : Policy) → Known head (now (assigned .entry)) (exclusionsIn (now (xs .entry)) count) p → values (now (granted .entry)) ≡ p .granted
         → now (juniors .entry) ≡ p .juniors
-        → Answers (stepOn 4 p (now (ledger .entry)) (askBy user session (now (lower .entry)) (now (upper .entry)) first second (length (now (answer .entry)))))
+        → Answers (stepOn SESSIONS p (now (ledger .entry)) (askBy user session (now (lower .entry)) (now (upper .entry)) first second (length (now (answer .entry)))))
         r (now (ledger .exit)) (now (answer .entry)) (now (answer .exit))) ⌝ }
 {
     let n = ask_refusal(

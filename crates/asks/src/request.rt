@@ -2,6 +2,7 @@
 ghost use mathlib.Core.Path.{_≡_};
 ghost use Prim.Native.Nat.{_≤_};
 ghost use lib.ListN.{length};
+ghost use Rattle.model.specs.Line.{SESSIONS};
 ghost use Rattle.model.specs.Policy.{Policy};
 ghost use Rattle.calls.specs.Calls.{Known};
 ghost use Rattle.sets.specs.Words.{value};
@@ -18,7 +19,7 @@ use model::SESSIONS;
 
 // 12 for no such session, 13 for a closed one, else 0.
 pub fn session_refusal(l: Line, session: u64) -> u64
-    ensures { λ r. ⌜ r ≡ sessionRefusal 4 l session ⌝ }
+    ensures { λ r. ⌜ r ≡ sessionRefusal SESSIONS l session ⌝ }
 {
     if SESSIONS as u64 <= session {
         return 12;
@@ -99,7 +100,7 @@ pub fn ask_refusal(
 ) -> u64
     requires { ⌜ (head .users ≤ 64) × (count ≤ 32) × (length (now xs) ≡ 32) ⌝ }
     ensures { λ r. ⌜ ((p : Policy) → Known head (now (assigned .entry)) (exclusionsIn (now (xs .entry)) count) p
-        → r ≡ askRefusal 4 p (now (ledger .entry)) user session (now (lower .entry)) (now (upper .entry)) first second room) ⌝ }
+        → r ≡ askRefusal SESSIONS p (now (ledger .entry)) user session (now (lower .entry)) (now (upper .entry)) first second room) ⌝ }
 {
     let n = first_refusal(ledger, head, assigned, xs, count, user);
     if n != 0 {

@@ -2,6 +2,7 @@
 ghost use mathlib.Core.Path.{_≡_};
 ghost use Prim.Native.Nat.{_≤_};
 ghost use lib.ListN.{length};
+ghost use Rattle.model.specs.Line.{SESSIONS};
 ghost use Rattle.model.specs.Policy.{Policy};
 ghost use Rattle.model.specs.Run.{stepOn, closeBy};
 ghost use Rattle.rows.specs.Rows.{exclusionsIn};
@@ -26,7 +27,7 @@ pub fn close_session(
 ) -> u64
     requires { ⌜ (head .users ≤ 64) × (count ≤ 32) × (length (now xs) ≡ 32) ⌝ }
     ensures { λ r. ⌜ ((p : Policy) → Known head (now (assigned .entry)) (exclusionsIn (now (xs .entry)) count) p
-        → Gives (stepOn 4 p (now (ledger .entry)) (closeBy user session)) r (now (ledger .exit))) ⌝ }
+        → Gives (stepOn SESSIONS p (now (ledger .entry)) (closeBy user session)) r (now (ledger .exit))) ⌝ }
 {
     let n = first_refusal(ledger, head, assigned, xs, count, user);
     if n != 0 {

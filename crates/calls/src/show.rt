@@ -2,6 +2,7 @@
 ghost use mathlib.Core.Path.{_≡_};
 ghost use Prim.Native.Nat.{_≤_};
 ghost use lib.ListN.{length};
+ghost use Rattle.model.specs.Line.{SESSIONS};
 ghost use Rattle.model.specs.Policy.{Policy};
 ghost use Rattle.model.specs.Run.{stepOn, showBy};
 ghost use Rattle.sets.specs.Words.{values};
@@ -32,7 +33,7 @@ pub fn show_session(
     requires { ⌜ (head .users ≤ 64) × (head .roles ≤ 64) × (count ≤ 32) × (length (now juniors) ≡ 64) × (length (now xs) ≡ 32) ⌝ }
     ensures { λ r. ⌜ ((p : Policy) → Known head (now (assigned .entry)) (exclusionsIn (now (xs .entry)) count) p → values (now (granted .entry)) ≡ p .granted
         → now (juniors .entry) ≡ p .juniors
-        → Shows (stepOn 4 p (now (ledger .entry)) (showBy user session (length (now (answer .entry))))) r (now (answer .entry))
+        → Shows (stepOn SESSIONS p (now (ledger .entry)) (showBy user session (length (now (answer .entry))))) r (now (answer .entry))
         (now (answer .exit))) ⌝ }
 {
     let n = first_refusal(ledger, head, assigned, xs, count, user);

@@ -2,7 +2,7 @@
 ghost use mathlib.Core.Path.{_≡_};
 ghost use Prim.Native.Nat.{_+_, _*_, _≤_};
 ghost use lib.ListN.{length, drop};
-ghost use Rattle.model.specs.Line.{lineSize, readSessions, readLine, writeSessions, writeLine};
+ghost use Rattle.model.specs.Line.{SESSIONS, lineSize, readSessions, readLine, writeSessions, writeLine};
 ghost use Rattle.model.specs.Run.{lineAt, withLine};
 ghost use Rattle.octets.specs.Splice.{splice};
 ghost use Rattle.ledger.specs.Places.{sessionIn, sessionBytes};
@@ -28,8 +28,8 @@ fn session_at(s: &[u8], at: usize) -> Session
 
 // The sessions whose bytes start at the offset.
 fn sessions_at(s: &[u8], at: usize) -> [Session; SESSIONS]
-    requires { ⌜ at + 16 * 4 ≤ length (now s) ⌝ }
-    ensures { λ r. ⌜ r ≡ readSessions 4 (drop at (now (s .entry))) ⌝ }
+    requires { ⌜ at + 16 * SESSIONS ≤ length (now s) ⌝ }
+    ensures { λ r. ⌜ r ≡ readSessions SESSIONS (drop at (now (s .entry))) ⌝ }
 {
     let mut sessions = [Session {
         active: 0,
@@ -44,8 +44,8 @@ fn sessions_at(s: &[u8], at: usize) -> [Session; SESSIONS]
 
 // The line of the user.
 pub fn line_of(ledger: &[u8], user: usize) -> Line
-    requires { ⌜ lineSize 4 * user + lineSize 4 ≤ length (now ledger) ⌝ }
-    ensures { λ r. ⌜ r ≡ readLine 4 (lineAt (lineSize 4) user (now (ledger .entry))) ⌝ }
+    requires { ⌜ lineSize SESSIONS * user + lineSize SESSIONS ≤ length (now ledger) ⌝ }
+    ensures { λ r. ⌜ r ≡ readLine SESSIONS (lineAt (lineSize SESSIONS) user (now (ledger .entry))) ⌝ }
 {
     let at = LINE * user;
     let sessions = sessions_at(ledger, at + 16);
@@ -69,7 +69,7 @@ fn put_session(s: &mut [u8], at: usize, session: Session)
 
 // Writes the sessions' bytes from the offset on.
 fn put_sessions(s: &mut [u8], at: usize, sessions: [Session; SESSIONS])
-    requires { ⌜ at + 16 * 4 ≤ length (now s) ⌝ }
+    requires { ⌜ at + 16 * SESSIONS ≤ length (now s) ⌝ }
     ensures { λ _. ⌜ now (s .exit) ≡ splice (now (s .entry)) at (writeSessions sessions) ⌝ }
 {
     for k in 0..SESSIONS {
@@ -80,8 +80,8 @@ fn put_sessions(s: &mut [u8], at: usize, sessions: [Session; SESSIONS])
 
 // Puts the line in place of the user's.
 pub fn put_line(ledger: &mut [u8], user: usize, l: Line)
-    requires { ⌜ lineSize 4 * user + lineSize 4 ≤ length (now ledger) ⌝ }
-    ensures { λ _. ⌜ now (ledger .exit) ≡ withLine (lineSize 4) user (writeLine l) (now (ledger .entry)) ⌝ }
+    requires { ⌜ lineSize SESSIONS * user + lineSize SESSIONS ≤ length (now ledger) ⌝ }
+    ensures { λ _. ⌜ now (ledger .exit) ≡ withLine (lineSize SESSIONS) user (writeLine l) (now (ledger .entry)) ⌝ }
 {
     let at = LINE * user;
     octets::put_u64(ledger, at, l.opened);

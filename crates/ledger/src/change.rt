@@ -2,7 +2,7 @@
 ghost use mathlib.Core.Path.{_≡_};
 ghost use mathlib.Core.Bool.{true};
 ghost use Prim.Native.Nat.{_+_, _<_, _^_};
-ghost use Rattle.model.specs.Line.{isOpen, lowestClosed, opening, closing, putIn};
+ghost use Rattle.model.specs.Line.{SESSIONS, isOpen, lowestClosed, opening, closing, putIn};
 use model::Line;
 use model::SESSIONS;
 use model::Session;
@@ -25,7 +25,7 @@ fn bit(k: usize) -> u64
 
 // The lowest closed session, or the number of sessions where all are open.
 pub fn lowest_closed(l: Line) -> usize
-    ensures { λ r. ⌜ r ≡ lowestClosed l 0 4 ⌝ }
+    ensures { λ r. ⌜ r ≡ lowestClosed l 0 SESSIONS ⌝ }
 {
     for k in 0..SESSIONS {
         if !is_open(l, k) {
@@ -37,7 +37,7 @@ pub fn lowest_closed(l: Line) -> usize
 
 // Session k opened.
 pub fn opened(l: Line, k: usize) -> Line
-    requires { ⌜ (k < 4) × (l .opened < 2 ^ 4) ⌝ }
+    requires { ⌜ (k < SESSIONS) × (l .opened < 2 ^ SESSIONS) ⌝ }
     ensures { λ r. ⌜ r ≡ opening k l ⌝ }
 {
     let mut next = l;
@@ -47,7 +47,7 @@ pub fn opened(l: Line, k: usize) -> Line
 
 // Session k closed: it has no role and no history any more, and the user's history stays.
 pub fn closed(l: Line, k: usize) -> Line
-    requires { ⌜ (k < 4) × (isOpen l k ≡ true) ⌝ }
+    requires { ⌜ (k < SESSIONS) × (isOpen l k ≡ true) ⌝ }
     ensures { λ r. ⌜ r ≡ closing k l ⌝ }
 {
     let mut next = l;
@@ -61,7 +61,7 @@ pub fn closed(l: Line, k: usize) -> Line
 
 // The roles put in as the active ones of session k, in place of the old ones, and added to both histories.
 pub fn put_in(l: Line, k: usize, roles: u64) -> Line
-    requires { ⌜ k < 4 ⌝ }
+    requires { ⌜ k < SESSIONS ⌝ }
     ensures { λ r. ⌜ r ≡ putIn k roles l ⌝ }
 {
     let mut next = l;

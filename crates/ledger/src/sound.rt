@@ -4,7 +4,7 @@ ghost use Prim.Native.Nat.{_≤_, _<_, _^_};
 ghost use lib.Dec.{ltb};
 ghost use lib.ListN.{length};
 ghost use Rattle.model.specs.Policy.{Meaning, met};
-ghost use Rattle.model.specs.Line.{activeIn, counted as countedBy, exclusionsMet, sessionSound, sessionsSound, sound as soundBy};
+ghost use Rattle.model.specs.Line.{SESSIONS, activeIn, counted as countedBy, exclusionsMet, sessionSound, sessionsSound, sound as soundBy};
 ghost use Rattle.rows.specs.Rows.{exclusionsIn};
 ghost use Rattle.ledger.specs.Held.{metAt, Listed, Held};
 use model::Exclusion;
@@ -121,7 +121,7 @@ fn below(set: u64, n: u8) -> bool
 // The line is sound.
 pub fn sound(l: Line, roles: u8, authorized: u64, xs: &[[u64; 2]; 32], count: usize) -> bool
     requires { ⌜ (count ≤ 32) × (length (now xs) ≡ 32) ⌝ }
-    ensures { λ r. ⌜ ((m : Meaning) → Held roles authorized (exclusionsIn (now (xs .entry)) count) m → r ≡ soundBy 4 m l) ⌝ }
+    ensures { λ r. ⌜ ((m : Meaning) → Held roles authorized (exclusionsIn (now (xs .entry)) count) m → r ≡ soundBy SESSIONS m l) ⌝ }
 {
     let opened = below(l.opened, SESSIONS as u8);
     let history = below(l.history, roles);

@@ -2,6 +2,7 @@
 // plus 256 times an extra. No call requires anything of its arguments.
 ghost use mathlib.Core.Path.{_≡_};
 ghost use lib.ListN.{length};
+ghost use Rattle.model.specs.Line.{SESSIONS};
 ghost use Rattle.model.specs.Image.{judge, checkNumber};
 ghost use Rattle.model.specs.Run.{step, openBy, closeBy, showBy, askBy, shortAskBy, returned, answered};
 use model::Checked;
@@ -27,8 +28,8 @@ pub extern "C" fn nutrameza_check(image: &[u8]) -> u64
 // Opens the user's lowest closed session, and returns it as the extra.
 #[no_mangle]
 pub extern "C" fn nutrameza_open(image: &[u8], ledger: &mut [u8], user: u64) -> u64
-    ensures { λ r. ⌜ (r ≡ returned (step 4 (now (image .entry)) (now (ledger .entry)) (openBy user) .reply))
-        × (now (ledger .exit) ≡ step 4 (now (image .entry)) (now (ledger .entry)) (openBy user) .ledger) ⌝ }
+    ensures { λ r. ⌜ (r ≡ returned (step SESSIONS (now (image .entry)) (now (ledger .entry)) (openBy user) .reply))
+        × (now (ledger .exit) ≡ step SESSIONS (now (image .entry)) (now (ledger .entry)) (openBy user) .ledger) ⌝ }
 {
     let mut assigned = [0u64; 64];
     let mut granted = [[0u64; 4]; 64];
@@ -46,8 +47,8 @@ pub extern "C" fn nutrameza_open(image: &[u8], ledger: &mut [u8], user: u64) -> 
 // Closes the user's session.
 #[no_mangle]
 pub extern "C" fn nutrameza_close(image: &[u8], ledger: &mut [u8], user: u64, session: u64) -> u64
-    ensures { λ r. ⌜ (r ≡ returned (step 4 (now (image .entry)) (now (ledger .entry)) (closeBy user session) .reply))
-        × (now (ledger .exit) ≡ step 4 (now (image .entry)) (now (ledger .entry)) (closeBy user session) .ledger) ⌝ }
+    ensures { λ r. ⌜ (r ≡ returned (step SESSIONS (now (image .entry)) (now (ledger .entry)) (closeBy user session) .reply))
+        × (now (ledger .exit) ≡ step SESSIONS (now (image .entry)) (now (ledger .entry)) (closeBy user session) .ledger) ⌝ }
 {
     let mut assigned = [0u64; 64];
     let mut granted = [[0u64; 4]; 64];
@@ -71,9 +72,9 @@ pub extern "C" fn nutrameza_show(
     session: u64,
     answer: &mut [u8],
 ) -> u64
-    ensures { λ r. ⌜ (r ≡ returned (step 4 (now (image .entry)) (now (ledger .entry)) (showBy user session (length (now (answer .entry)))) .reply))
+    ensures { λ r. ⌜ (r ≡ returned (step SESSIONS (now (image .entry)) (now (ledger .entry)) (showBy user session (length (now (answer .entry)))) .reply))
         × (now (answer .exit) ≡ answered (now (answer .entry))
-        (step 4 (now (image .entry)) (now (ledger .entry)) (showBy user session (length (now (answer .entry)))) .reply)) ⌝ }
+        (step SESSIONS (now (image .entry)) (now (ledger .entry)) (showBy user session (length (now (answer .entry)))) .reply)) ⌝ }
 {
     let mut assigned = [0u64; 64];
     let mut granted = [[0u64; 4]; 64];
@@ -112,9 +113,9 @@ pub extern "C" fn nutrameza_ask(
     role_aim: u64,
     answer: &mut [u8],
 ) -> u64
-    ensures { λ r. ⌜ (r ≡ returned (step 4 (now (image .entry)) (now (ledger .entry)) (askBy user session (now (lower .entry)) (now (upper .entry)) «permission_aim» «role_aim» (length (now (answer .entry)))) .reply))
-        × (now (ledger .exit) ≡ step 4 (now (image .entry)) (now (ledger .entry)) (askBy user session (now (lower .entry)) (now (upper .entry)) «permission_aim» «role_aim» (length (now (answer .entry)))) .ledger)
-        × (now (answer .exit) ≡ answered (now (answer .entry)) (step 4 (now (image .entry)) (now (ledger .entry)) (askBy user session (now (lower .entry)) (now (upper .entry)) «permission_aim» «role_aim» (length (now (answer .entry)))) .reply)) ⌝ }
+    ensures { λ r. ⌜ (r ≡ returned (step SESSIONS (now (image .entry)) (now (ledger .entry)) (askBy user session (now (lower .entry)) (now (upper .entry)) «permission_aim» «role_aim» (length (now (answer .entry)))) .reply))
+        × (now (ledger .exit) ≡ step SESSIONS (now (image .entry)) (now (ledger .entry)) (askBy user session (now (lower .entry)) (now (upper .entry)) «permission_aim» «role_aim» (length (now (answer .entry)))) .ledger)
+        × (now (answer .exit) ≡ answered (now (answer .entry)) (step SESSIONS (now (image .entry)) (now (ledger .entry)) (askBy user session (now (lower .entry)) (now (upper .entry)) «permission_aim» «role_aim» (length (now (answer .entry)))) .reply)) ⌝ }
 {
     let mut assigned = [0u64; 64];
     let mut granted = [[0u64; 4]; 64];
@@ -155,9 +156,9 @@ pub extern "C" fn nutrameza_short_ask(
     upper: &[u8],
     answer: &mut [u8],
 ) -> u64
-    ensures { λ r. ⌜ (r ≡ returned (step 4 (now (image .entry)) (now (ledger .entry)) (shortAskBy user session (now (lower .entry)) (now (upper .entry)) (length (now (answer .entry)))) .reply))
-        × (now (ledger .exit) ≡ step 4 (now (image .entry)) (now (ledger .entry)) (shortAskBy user session (now (lower .entry)) (now (upper .entry)) (length (now (answer .entry)))) .ledger)
-        × (now (answer .exit) ≡ answered (now (answer .entry)) (step 4 (now (image .entry)) (now (ledger .entry)) (shortAskBy user session (now (lower .entry)) (now (upper .entry)) (length (now (answer .entry)))) .reply)) ⌝ }
+    ensures { λ r. ⌜ (r ≡ returned (step SESSIONS (now (image .entry)) (now (ledger .entry)) (shortAskBy user session (now (lower .entry)) (now (upper .entry)) (length (now (answer .entry)))) .reply))
+        × (now (ledger .exit) ≡ step SESSIONS (now (image .entry)) (now (ledger .entry)) (shortAskBy user session (now (lower .entry)) (now (upper .entry)) (length (now (answer .entry)))) .ledger)
+        × (now (answer .exit) ≡ answered (now (answer .entry)) (step SESSIONS (now (image .entry)) (now (ledger .entry)) (shortAskBy user session (now (lower .entry)) (now (upper .entry)) (length (now (answer .entry)))) .reply)) ⌝ }
 {
     nutrameza_ask(image, ledger, user, session, lower, upper, 0, 0, answer)
 }

@@ -2,7 +2,7 @@
 ghost use mathlib.Core.Path.{_≡_};
 ghost use Prim.Native.Nat.{_≤_, _<_};
 ghost use lib.ListN.{length};
-ghost use Rattle.model.specs.Line.{activeIn};
+ghost use Rattle.model.specs.Line.{SESSIONS, activeIn};
 ghost use Rattle.model.specs.Conditions.{others};
 ghost use Rattle.rows.specs.Rows.{exclusionsIn};
 ghost use Rattle.query.specs.Rooms.{stay, maskOf, roomOf};
@@ -24,7 +24,7 @@ pub struct Reduced {
 
 // The roles active in the sessions other than session k.
 fn active_elsewhere(sessions: [Session; SESSIONS], k: usize) -> u64
-    requires { ⌜ k < 4 ⌝ }
+    requires { ⌜ k < SESSIONS ⌝ }
     ensures { λ r. ⌜ r ≡ activeIn (others k sessions) ⌝ }
 {
     let mut rest = sessions;
@@ -68,7 +68,7 @@ fn room_of(members: u64, limit: u8, base: u64) -> u32
 
 // The exclusions, for roles to be put in for session k of the line.
 pub fn reduce(xs: &[[u64; 2]; 32], count: usize, line: Line, k: usize) -> Reduced
-    requires { ⌜ (count ≤ 32) × (length (now xs) ≡ 32) × (k < 4) ⌝ }
+    requires { ⌜ (count ≤ 32) × (length (now xs) ≡ 32) × (k < SESSIONS) ⌝ }
     ensures { λ r. ⌜ (r .count ≡ count) × (Reduces (exclusionsIn (now (xs .entry)) count) line k (r .masks) (r .rooms)) ⌝ }
 {
     let sessions = line.sessions;

@@ -15,7 +15,7 @@ use Rattle.model.specs.declared.Checked.the-variants.{Accepted, Refused}
 use Rattle.model.specs.Tests.{pick, between, all}
 use Rattle.model.specs.Bytes.{number, bytesOf}
 use Rattle.model.specs.Image.{judge}
-use Rattle.model.specs.Line.{lineSize}
+use Rattle.model.specs.Line.{SESSIONS, lineSize}
 use Rattle.model.specs.Session.{Reply, refuse}
 use Rattle.model.specs.Run.{Call, Event, step, openBy, closeBy, askBy, shortAskBy, showBy}
 use Rattle.model.specs.Ward.{sameList}
@@ -161,7 +161,7 @@ printed n r = lineOf n (r .number) (r .extra) (number (take 8 (r .filled))) (num
 -- an unreadable line is answered 21, and the script goes on; under a refused image a readable line gets that refusal
 unfoldable pub answerBy : List ℕ → List ℕ → Option Call → Event
 answerBy image ledger none = record { reply = refuse 21 0; ledger = ledger }
-answerBy image ledger (some c) = step 4 image ledger c
+answerBy image ledger (some c) = step SESSIONS image ledger c
 
 -- the answer to a line, and the ledger after it
 unfoldable pub answerTo : List ℕ → List ℕ → List ℕ → Event
@@ -175,7 +175,7 @@ printedFor image ledger n (l ∷ ls) =
 
 -- the ledger at the start: all zero, and of the fitting length under an accepted image
 unfoldable pub firstLedger : Checked → List ℕ
-firstLedger (Accepted h) = replicate (lineSize 4 * h .users) 0
+firstLedger (Accepted h) = replicate (lineSize SESSIONS * h .users) 0
 firstLedger (Refused n place) = []
 
 -- what the program prints for the bytes of an image and of an input; calls are numbered from 1
