@@ -149,7 +149,6 @@ pub fn ask_roles(
         return n;
     }
     let u = user as usize;
-    let k = session as usize;
     let authorized = roles_of(assigned, u);
     let low = bound(lower);
     let high = bound(upper);
@@ -162,7 +161,7 @@ pub fn ask_roles(
         count,
         authorized,
         u,
-        k,
+        session as usize,
         low,
         high,
         first as u8,

@@ -1,6 +1,7 @@
 // A word decoded: the head's numbers, or what a word behind the head says, in the enum of entries.
 ghost use mathlib.Core.Path.{_≡_};
-ghost use Rattle.model.specs.Image.{decode as decodeOf, headOf, headRight};
+ghost use Prim.Native.Nat.{_%_, _^_};
+ghost use Rattle.model.specs.Image.{field, kindOf, says, decode as decodeOf, headOf, headRight};
 ghost use Rattle.image.specs.Bounds.{Small};
 use model::Entry;
 use model::Exclusion;
@@ -9,6 +10,23 @@ use model::Permission;
 use model::Role;
 use model::User;
 use model::Word;
+
+// An exclusion word: its kind, its limit, how many member words follow, and its spare bits.
+fn exclusion_word(w: u32) -> Word
+    ensures { λ r. ⌜ (r ≡ says (Entry.Exclude (record { kind = kindOf (field w 26 2); limit = field w 19 7; members = 0 }) (field w 12 7)) (w % 2 ^ 12))
+        × Small (r .entry) ⌝ }
+{
+    let kind = rows::kind_of((w / 67108864 % 4) as u8);
+    let x = Exclusion {
+        kind,
+        limit: (w / 524288 % 128) as u8,
+        members: 0,
+    };
+    Word {
+        entry: Entry::Exclude(x, (w / 4096 % 128) as u8),
+        spare: w % 4096,
+    }
+}
 
 // A word behind the head: what it says, and its spare bits.
 pub fn decode(w: u32) -> Word
@@ -29,18 +47,7 @@ pub fn decode(w: u32) -> Word
             entry: Entry::Senior(Role(first), Role(second)),
             spare: w % 65536,
         },
-        5 => {
-            let k = rows::kind_of((w / 67108864 % 4) as u8);
-            let x = Exclusion {
-                kind: k,
-                limit: (w / 524288 % 128) as u8,
-                members: 0,
-            };
-            Word {
-                entry: Entry::Exclude(x, (w / 4096 % 128) as u8),
-                spare: w % 4096,
-            }
-        }
+        5 => exclusion_word(w),
         6 => Word {
             entry: Entry::Member(Role(first)),
             spare: w % 4194304,

@@ -22,7 +22,7 @@ returns-3 c = (rw (c .match .keys3), search needs)
 
 returns-4 : tie.Need-returns-4
 unfolding decode Small pick
-returns-4 c = (rw (c .before .match .keys4) (cc), search needs)
+returns-4 c = (rw (c .before .match .keys4) (c .exclusion-word .ensures .0), c .exclusion-word .ensures .1)
 
 returns-5 : tie.Need-returns-5
 unfolding decode Small pick
@@ -43,5 +43,4 @@ returns-7 c =
 pub decode-spec : {M : Type 1} → statement M
 decode-spec =
     tie.close
-    (tie.spec (λ c. search needs) (λ c. search needs) (λ c. search needs) (λ c. search needs) (λ c κs. search needs) (λ c. search needs)
-    (λ c. search needs) returns returns-2 returns-3 returns-4 returns-5 returns-6 returns-7)
+    (tie.spec (λ c. search needs) (λ c. search needs) (λ c. search needs) (λ c κs. search needs) returns returns-2 returns-3 returns-4 returns-5 returns-6 returns-7)
