@@ -3,12 +3,13 @@
 use mathlib.Core.Path.{_≡_, refl, sym, ap, ap₂, _∙_}
 use mathlib.Core.List.{List, [], _∷_, _++_, append-assoc, append-nil}
 use Prim.Native.Nat.{ℕ, zero, suc, _+_, _*_, _/_, _%_, _^_, _≤_, _<_}
-use native.Mathlib.Nat.{pow-suc}
 use native.Mathlib.Omega.{arith}
 use native.Mathlib.Numerals.{add-one}
 use lib.ListN.{length, take, drop, getD, length-append}
 use lib.Seq.{drop-cons, take-at, drop-at, length-take-le, drop-drop, take-suc, drop-append-add}
 use Rattle.model.specs.Bytes.{number, bytesOf}
+use Rattle.model.proofs.LineLaws.{length-bytesOf}
+use Rattle.model.proofs.RoundTrip.{number-bytes}
 use Rattle.octets.specs.Splice.{splice, numberAt, bytesOfAll}
 use Rattle.octets.proofs.Splices.{length-splice, read-splice, splice-splice, before-splice, drop-splice}
 
@@ -35,20 +36,6 @@ window-ext (suc n) s t at h =
 
 -- ---- bytes
 
-pub length-bytesOf : (n v : ℕ) → length (bytesOf n v) ≡ n
-unfolding bytesOf
-length-bytesOf zero v = refl
-length-bytesOf (suc n) v = ap suc (length-bytesOf n (v / 256))
-
--- the number of the bytes is the number
-pub number-bytesOf : (n v : ℕ) → v < 256 ^ n → number (bytesOf n v) ≡ v
-unfolding bytesOf number
-number-bytesOf zero v h = omega arith
-number-bytesOf (suc n) v h =
-    let k : v < 256 ^ n * 256 = rw pow-suc at h in
-    let e : number (bytesOf n (v / 256)) ≡ v / 256 = number-bytesOf n (v / 256) (omega arith) in
-    omega arith
-
 -- the bytes of a number are the bytes
 pub bytesOf-number : (bs : List ℕ) → ((i : ℕ) → i < length bs → getD bs i 0 < 256) → bytesOf (length bs) (number bs) ≡ bs
 unfolding bytesOf number
@@ -63,7 +50,7 @@ bytesOf-number (b ∷ bs) h =
 -- ---- the round trip: what was put is read back
 pub read-back : (s : List ℕ) (at v : ℕ) → at + 8 ≤ length s → v < 2 ^ 64 → numberAt (splice s at (bytesOf 8 v)) at ≡ v
 unfolding numberAt bytesOf
-read-back s at v h k = ap number (read-splice s at (bytesOf 8 v) h) ∙ number-bytesOf 8 v k
+read-back s at v h k = ap number (read-splice s at (bytesOf 8 v) h) ∙ number-bytes 8 v k
 
 -- ---- runs of numbers
 
@@ -116,7 +103,7 @@ nth : {ws : List ℕ} (r : List ℕ) (k : ℕ) → Small ws → k < length ws �
 unfolding bytesOfAll
 nth r k none h = absurd (omega arith)
 nth r zero (more {v} {vs} b t) h =
-    rw append-assoc (ap number (take-at (bytesOf 8 v) (bytesOfAll vs ++ r) 8 (length-bytesOf 8 v)) ∙ number-bytesOf 8 v b)
+    rw append-assoc (ap number (take-at (bytesOf 8 v) (bytesOfAll vs ++ r) 8 (length-bytesOf 8 v)) ∙ number-bytes 8 v b)
 nth r (suc k) (more {v} {vs} b t) h =
     let e : 8 * suc k ≡ length (bytesOf 8 v) + 8 * k = omega (arith, length-bytesOf 8 v) in
     rw (append-assoc, e, drop-append-add (bytesOf 8 v) (bytesOfAll vs ++ r) (8 * k)) (nth r k t (omega arith))

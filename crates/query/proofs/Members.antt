@@ -4,15 +4,14 @@ use mathlib.Core.Path.{_≡_, refl, sym, subst, _∙_}
 use mathlib.Core.Bool.{Bool, true, false, not}
 use mathlib.Core.Logic.{_⊎_, inl, inr}
 use Prim.Native.Nat.{ℕ, _≤_}
-use native.Mathlib.Omega.{arith}
 use borrow.Author.Tests.{eqb-true, eq-eqb}
 use lib.Dec.{eqb}
 use lib.Bits.{and-le-r}
-use lib.Pow.{pow-pos}
 use Rattle.model.specs.Sets.{has, inter, with, within, count}
 use Rattle.model.proofs.Bools.{and-l, or-r, not-both}
 use Rattle.model.proofs.AnyWidth.{within-iff}
-use Rattle.model.proofs.SetLaws.{has-with, has-beyond, count-within}
+use Rattle.model.proofs.SetLaws.{has-with, count-within}
+use Rattle.model.proofs.UnionLaws.{has-none}
 use Rattle.sets.specs.Members.{without}
 use Rattle.sets.proofs.Taken.{has-without}
 use Rattle.query.specs.Carry.{Sub}
@@ -32,10 +31,6 @@ pub sub-count : (d a b : ℕ) → Sub a b → count d a ≤ count d b
 sub-count d a b h = count-within d a b (sub-within a b h)
 
 -- the empty set
-pub has-none : (i : ℕ) → has 0 i ≡ false
-unfolding has
-has-none i = has-beyond 0 0 i (pow-pos 0) (omega arith)
-
 pub no-member {ℓ} : {A : Type ℓ} (i : ℕ) → has 0 i ≡ true → A
 no-member i m = not-both (has 0 i) m (has-none i)
 

@@ -9,7 +9,7 @@ use native.Mathlib.Omega.{arith}
 use lib.Dec.{ltb}
 use lib.Bits.{or-zero-l, or-comm}
 use lib.ListN.{length, getD, set, take, drop, length-take, length-set}
-use lib.Seq.{drop-cons, drop-length, set-split, getD-take, getD-set-same, getD-set-other}
+use lib.Seq.{set-split, getD-take, getD-set-same, getD-set-other}
 use borrow.Author.Tests.{eq-eqb, ltb-true, ltb-false, lt-ltb, le-ltb}
 use Rattle.model.specs.declared.Kind.{Kind}
 use Rattle.model.specs.declared.Kind.the-variants.{SsDmer, MsDmer, SsHmer, MsHmer}
@@ -35,18 +35,6 @@ use Rattle.query.proofs.Lacking.{has-lacking}
 use Rattle.query.proofs.RoomLaws.{below-at, at-below}
 
 -- ---- the roles active in sessions
-pub active-none : (ss : List Session) (n : ℕ) → length ss ≡ n → 0 ≡ activeIn (drop n ss)
-unfolding activeIn
-active-none ss n e = ap activeIn (sym (drop-length ss) ∙ ap (λ (x : ℕ). drop x ss) e)
-
-pub active-next : (ss : List Session) (n roles : ℕ) → 0 < n → n ≤ length ss → roles ≡ activeIn (drop n ss)
-    → union (getD ss (n - 1) emptySession .active) roles ≡ activeIn (drop (n - 1) ss)
-unfolding activeIn
-active-next ss n roles p l e =
-    let h : suc (n - 1) ≡ n = omega arith in
-    ap (union (getD ss (n - 1) emptySession .active)) (e ∙ ap (λ (x : ℕ). activeIn (drop x ss)) (sym h))
-    ∙ ap activeIn (sym (drop-cons ss (n - 1) emptySession (omega arith)))
-
 pub active-emptied : (ss : List Session) (k : ℕ) → k < length ss → activeIn (set ss k emptySession) ≡ activeIn (others k ss)
 unfolding emptySession others
 active-emptied ss k h =
