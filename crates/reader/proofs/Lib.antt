@@ -1,3 +1,4 @@
--- The laws that the proofs of the reader's code use.
+-- The laws that the proofs of the reader's code use, and what a walk over the exclusions reads.
 pub mod PlaceLaws
 pub mod ExclusionLaws
+pub mod Walk

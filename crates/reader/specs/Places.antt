@@ -1,13 +1,17 @@
--- The places behind an image's head: what stands at one, which comes after it, and where the next exclusion stands.
+-- The places behind an image's head: what stands at one, which comes after it, where the next exclusion stands, and what a walk from one
+-- exclusion to the next reads.
 -- Assumes nothing.
 use mathlib.Core.Bool.{Bool, true, false}
-use mathlib.Core.List.{List}
+use mathlib.Core.List.{List, [], _∷_, _++_}
 use Prim.Native.Nat.{ℕ, zero, suc, _+_, _-_}
 use lib.Dec.{leb}
+use lib.ListN.{take}
+use Rattle.model.specs.declared.Exclusion.{Exclusion}
 use Rattle.model.specs.declared.Entry.{Entry}
 use Rattle.model.specs.declared.Entry.the-variants.{Assignment, Grant, Senior, Exclude, Member, End, Unknown}
 use Rattle.model.specs.Tests.{pick, between}
 use Rattle.model.specs.Image.{wordAt, behindHead, decode}
+use Rattle.model.specs.Policy.{entryAt, entriesFrom, withMembers}
 use Rattle.reader.specs.declared.Found.{Found}
 use Rattle.reader.specs.declared.Found.the-variants.{Decoded, Nothing}
 
@@ -46,3 +50,29 @@ exclusionAmong s (suc n) place =
 -- the place of the first exclusion behind the place, or 0
 unfoldable pub exclusionAfter : List ℕ → ℕ → ℕ
 exclusionAfter s place = exclusionAmong s (behindHead s - place) place
+
+-- ---- the walk: from place 0 on to the first exclusion behind the place, until there is none
+
+-- the entries behind a place
+unfoldable pub entriesBehind : List ℕ → ℕ → List Entry
+entriesBehind s place = entriesFrom s (behindHead s - place) (place + 1)
+
+-- the exclusion that an entry opens, with the members that the entries behind it name; none where it opens none
+unfoldable pub exclusionBy : Entry → List Entry → List Exclusion
+exclusionBy (Assignment u r) es = []
+exclusionBy (Grant r p) es = []
+exclusionBy (Senior a b) es = []
+exclusionBy (Exclude x m) es = withMembers x (take m es) ∷ []
+exclusionBy (Member r) es = []
+exclusionBy End es = []
+exclusionBy Unknown es = []
+
+-- what is read from a place on; none from 0, which is no place of an exclusion
+unfoldable pub visiting : (ℕ → List Exclusion) → ℕ → List Exclusion
+visiting reading zero = []
+visiting reading (suc q) = reading (suc q)
+
+-- the exclusions at the places that n turns of the walk visit behind the place
+unfoldable pub walked : List ℕ → ℕ → ℕ → List Exclusion
+walked s zero place = []
+walked s (suc n) place = visiting (λ q. exclusionBy (entryAt s q) (entriesBehind s q) ++ walked s n q) (exclusionAfter s place)
