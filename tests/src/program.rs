@@ -4,7 +4,7 @@
 use std::fs::File;
 use std::io::Write;
 use std::path::{Path, PathBuf};
-use std::process::{Child, Command, Stdio};
+use std::process::{Child, Command, ExitStatus, Stdio};
 
 /// Where the program is.
 pub fn path() -> PathBuf {
@@ -12,25 +12,65 @@ pub fn path() -> PathBuf {
     std::env::var_os("NUTRAMEZA_PROGRAM").map_or(beside, PathBuf::from)
 }
 
-/// The program, to be started in a folder, with its output to a pipe.
-fn command(folder: &Path) -> Command {
-    let mut command = Command::new(path());
-    command.current_dir(folder).stdout(Stdio::piped());
+/// The program, to be started in a folder, with input, output and standard error as pipes.
+pub fn command(folder: &Path) -> Command {
+    command_of(&path(), folder)
+}
+
+/// The same of a copy of the program.
+pub fn command_of(program: &Path, folder: &Path) -> Command {
+    piped(Command::new(program), folder)
+}
+
+/// The program by a shell that runs a command first, as `trap '' PIPE`, or redirects it, as `<&-`.
+pub fn command_by_shell(folder: &Path, first: &str, redirected: &str) -> Command {
+    let mut shell = Command::new("sh");
+    shell.arg("-c").arg(format!("{first}\nexec \"$0\" {redirected}")).arg(path());
+    piped(shell, folder)
+}
+
+fn piped(mut command: Command, folder: &Path) -> Command {
+    command.current_dir(folder).stdin(Stdio::piped()).stdout(Stdio::piped()).stderr(Stdio::piped());
     command
 }
 
-/// The program started in a folder, with input and output as pipes.
-pub fn start_in(folder: &Path) -> Child {
-    let mut command = command(folder);
-    command.stdin(Stdio::piped());
-    command.spawn().unwrap_or_else(|error| panic!("{} starts: {error}", path().display()))
+/// A command started.
+pub fn start(mut command: Command) -> Child {
+    command.spawn().unwrap_or_else(|error| panic!("{command:?} starts: {error}"))
 }
 
-/// What a started program prints until it ends; it ends well.
+/// The program started in a folder, with input, output and standard error as pipes.
+pub fn start_in(folder: &Path) -> Child {
+    start(command(folder))
+}
+
+/// What a started program prints until it ends; it ends well and says nothing on standard error.
 fn printed(child: Child) -> Vec<u8> {
     let output = child.wait_with_output().expect("the program ends");
+    assert_eq!(String::from_utf8_lossy(&output.stderr), "");
     assert!(output.status.success(), "the program ends with {}", output.status);
     output.stdout
+}
+
+/// How a run ends, well or not: what is printed, what is said on standard error, the status, and whether the program took the whole script.
+pub struct Ending {
+    pub printed: String,
+    pub said: String,
+    pub status: ExitStatus,
+    pub took_all: bool,
+}
+
+/// How a started program ends that is given a script, unless its input is no pipe.
+pub fn ending(mut child: Child, script: &[u8]) -> Ending {
+    let input = child.stdin.take();
+    let feed = move || input.is_none_or(|mut pipe| pipe.write_all(script).is_ok());
+    std::thread::scope(|scope| {
+        let feeder = scope.spawn(feed);
+        let output = child.wait_with_output().expect("the program ends");
+        let [printed, said] =
+            [output.stdout, output.stderr].map(|text| String::from_utf8(text).expect("the program prints text"));
+        Ending { printed, said, status: output.status, took_all: feeder.join().expect("the script is written") }
+    })
 }
 
 /// What the program prints in a folder for a script from a pipe.
@@ -48,5 +88,5 @@ pub fn run_on_file(folder: &Path, script: &Path) -> Vec<u8> {
     let file = File::open(script).expect("the script is there");
     let mut command = command(folder);
     command.stdin(file);
-    printed(command.spawn().unwrap_or_else(|error| panic!("{} starts: {error}", path().display())))
+    printed(start(command))
 }

@@ -1,14 +1,18 @@
 //! The program nutrameza_script: 01's script, every kind of unreadable line, images that cannot be read, lines across the chunks in
-//! which it reads, golden files, and generated scripts beside the solver.
+//! which it reads, input and output that fail, golden files, and generated scripts beside the solver.
 
 use nutrameza_tests::compare::spread;
 use nutrameza_tests::gen::{damage, policy, script, Rng};
-use nutrameza_tests::program::{run_in, run_on_file, start_in};
+use nutrameza_tests::program::{self, ending, run_in, run_on_file, start, start_in, Ending};
 use nutrameza_tests::solver::image::judge;
 use nutrameza_tests::solver::script::output;
 use nutrameza_tests::{ward, words};
+use std::fs::{File, OpenOptions, Permissions};
 use std::io::{BufRead, BufReader, Write};
+use std::os::unix::fs::PermissionsExt;
+use std::os::unix::process::{CommandExt, ExitStatusExt};
 use std::path::{Path, PathBuf};
+use std::process::Command;
 use std::sync::atomic::{AtomicU64, Ordering};
 
 /// A fresh folder of this test run.
@@ -207,15 +211,138 @@ fn answers_before_it_waits_for_more() {
     std::fs::remove_dir_all(&folder).expect("the folder is removed");
 }
 
-#[test]
-fn ends_where_nobody_reads_its_answers() {
+/// A fresh folder with image A in it.
+fn ward_folder() -> PathBuf {
     let folder = folder();
+    std::fs::write(folder.join("policy.img"), ward::image_a()).expect("the image is written");
+    folder
+}
+
+/// The run printed and said this, and ended with status 0.
+fn assert_ended(ending: &Ending, printed: &str, said: &str) {
+    assert_eq!((&*ending.printed, &*ending.said, ending.status.code()), (printed, said, Some(0)));
+}
+
+/// A script that is longer than what a pipe and the program hold of it.
+fn long_script() -> Vec<u8> {
+    b"open 0\n".repeat(1_000_000)
+}
+
+#[test]
+fn says_that_a_full_device_takes_no_answers_and_stops_reading() {
+    let folder = ward_folder();
+    let on_full = |script: &[u8]| {
+        let mut command = program::command(&folder);
+        command.stdout(OpenOptions::new().write(true).open("/dev/full").expect("/dev/full is there"));
+        ending(start(command), script)
+    };
+    let said = "nutrameza_script: standard output can't be written: No space left on device\n";
+    assert_ended(&on_full(b""), "", "");
+    for script in [&b"open 0\n"[..], b"open 0", b"\nopen 0"] {
+        assert_ended(&on_full(script), "", said);
+    }
+    let long = on_full(&long_script());
+    assert_ended(&long, "", said);
+    assert!(!long.took_all, "the program stops reading");
+    std::fs::remove_dir_all(&folder).expect("the folder is removed");
+}
+
+#[test]
+fn a_signal_ends_it_where_nobody_reads_its_answers() {
+    const SIGPIPE: i32 = 13;
+    let folder = ward_folder();
     let mut child = start_in(&folder);
     drop(child.stdout.take());
-    let mut input = child.stdin.take().expect("the program reads");
-    let script = b"open 0\n".repeat(1_000_000);
-    assert!(input.write_all(&script).is_err(), "the program stops reading");
-    child.wait().expect("the program ends");
+    let ending = ending(child, &long_script());
+    assert_eq!((&*ending.said, ending.status.signal()), ("", Some(SIGPIPE)));
+    assert!(!ending.took_all, "the program stops reading");
+    std::fs::remove_dir_all(&folder).expect("the folder is removed");
+}
+
+#[test]
+fn says_that_nobody_reads_its_answers_where_that_signal_is_ignored() {
+    let folder = ward_folder();
+    let mut child = start(program::command_by_shell(&folder, "trap '' PIPE", ""));
+    drop(child.stdout.take());
+    let ending = ending(child, &long_script());
+    assert_ended(&ending, "", "nutrameza_script: standard output can't be written: Broken pipe\n");
+    assert!(!ending.took_all, "the program stops reading");
+    std::fs::remove_dir_all(&folder).expect("the folder is removed");
+}
+
+#[test]
+fn says_that_a_folder_is_no_script() {
+    let folder = ward_folder();
+    let mut command = program::command(&folder);
+    command.stdin(File::open(&folder).expect("the folder is opened"));
+    assert_ended(&ending(start(command), b""), "", "nutrameza_script: standard input can't be read: Is a directory\n");
+    std::fs::remove_dir_all(&folder).expect("the folder is removed");
+}
+
+#[test]
+fn says_that_input_or_output_is_closed() {
+    let folder = ward_folder();
+    let redirected = |how: &str| ending(start(program::command_by_shell(&folder, "", how)), b"open 0\n");
+    assert_ended(&redirected("<&-"), "", "nutrameza_script: standard input can't be read: Bad file descriptor\n");
+    assert_ended(&redirected(">&-"), "", "nutrameza_script: standard output can't be written: Bad file descriptor\n");
+    assert_ended(&redirected("2>&-"), "1 0 0 0 0\n", "");
+    assert_ended(&redirected(">&- 2>&-"), "", "");
+    std::fs::remove_dir_all(&folder).expect("the folder is removed");
+}
+
+/// The program with a read that fails behind the first ten bytes, compiled from preload/failing_read.c.
+fn with_failing_read(folder: &Path) -> Command {
+    let source = Path::new(env!("CARGO_MANIFEST_DIR")).join("preload/failing_read.c");
+    let library = folder.join("failing_read.so");
+    let compiled = Command::new("cc").args(["-shared", "-fPIC", "-o"]).arg(&library).arg(&source).status().expect("cc is there");
+    assert!(compiled.success(), "{} is compiled", source.display());
+    let mut command = program::command(folder);
+    command.env("LD_PRELOAD", &library);
+    command
+}
+
+#[test]
+fn a_line_that_a_failed_read_cuts_gets_no_answer() {
+    let folder = ward_folder();
+    let mut command = with_failing_read(&folder);
+    command.env("FAILING_INPUT", "1");
+    let said = "nutrameza_script: standard input can't be read: Input/output error\n";
+    assert_ended(&ending(start(command), b"open 0\nopen 0\nopen 0\n"), "1 0 0 0 0\n", said);
+    std::fs::remove_dir_all(&folder).expect("the folder is removed");
+}
+
+#[test]
+fn an_image_whose_reading_fails_midway_counts_as_empty() {
+    let folder = ward_folder();
+    assert_ended(&ending(start(with_failing_read(&folder)), b"open 0\nask\n"), "1 1 0 0 0\n2 21 0 0 0\n", "");
+    assert_ended(&ending(start_in(&folder), b"open 0\nask\n"), "1 0 0 0 0\n2 21 0 0 0\n", "");
+    std::fs::remove_dir_all(&folder).expect("the folder is removed");
+}
+
+#[test]
+fn an_image_that_may_not_be_read_counts_as_empty() {
+    const NOBODY: u32 = 65534;
+    // a folder that every user may enter, with a copy of the program that every user may run
+    let folder = std::env::temp_dir().join(format!("nutrameza-{}", std::process::id()));
+    let (image, copy) = (folder.join("policy.img"), folder.join("nutrameza_script"));
+    std::fs::create_dir(&folder).expect("a folder is made");
+    std::fs::set_permissions(&folder, Permissions::from_mode(0o755)).expect("the folder is open to all");
+    std::fs::write(&image, ward::image_a()).expect("the image is written");
+    let copied = Command::new("install").args(["-m", "755"]).arg(program::path()).arg(&copy).status().expect("install is there");
+    assert!(copied.success(), "the program is copied");
+    let set_mode = |mode: u32| std::fs::set_permissions(&image, Permissions::from_mode(mode)).expect("the image's mode is set");
+    set_mode(0o000);
+    let is_bound = File::open(&image).is_err();
+    let answered = |mode: u32| {
+        set_mode(mode);
+        let mut command = program::command_of(&copy, &folder);
+        if !is_bound {
+            command.uid(NOBODY).gid(NOBODY);
+        }
+        ending(start(command), b"open 0\nask\n")
+    };
+    assert_ended(&answered(0o444), "1 0 0 0 0\n2 21 0 0 0\n", "");
+    assert_ended(&answered(0o000), "1 1 0 0 0\n2 21 0 0 0\n", "");
     std::fs::remove_dir_all(&folder).expect("the folder is removed");
 }
 

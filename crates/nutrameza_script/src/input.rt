@@ -80,6 +80,15 @@ pub fn read_image(file: &mut [u8]) -> usize
     size
 }
 
+// Writes answers, and returns whether they are written; where they are not, says why on standard error.
+fn write_answers(answers: &[u8]) -> bool {
+    let is_written = io::write_all(STDOUT_FILENO, answers);
+    if !is_written {
+        os::fail(b"nutrameza_script: standard output can't be written");
+    }
+    is_written
+}
+
 // Answers the lines of a chunk and writes the answers; the run stops where they can't be written.
 fn answer_chunk(
     image: &[u8],
@@ -101,7 +110,7 @@ fn answer_chunk(
     while p.next < chunk.len() {
         let answered = answer_lines(image, ledger, line, chunk, out, p);
         let filled = answered.filled;
-        let is_written = io::write_all(STDOUT_FILENO, &out[0..filled]);
+        let is_written = write_answers(&out[0..filled]);
         if !is_written {
             return stopped(run.calls);
         }
@@ -119,7 +128,8 @@ fn answer_chunk(
     }
 }
 
-// Reads once and answers what came; at the end of the input, the line that is begun.
+// Reads once and answers what came; at the end of the input, the line that is begun. A read that fails is not the end: the run stops,
+// with a line on standard error, and a line that is begun gets no answer, since it is not known whole.
 fn answer_some(
     image: &[u8],
     ledger: &mut [u8],
@@ -132,10 +142,14 @@ fn answer_some(
     ensures { λ r. ⌜ (r .kept ≤ 174) × (r .calls ≤ run .calls + length (now (chunk .entry))) ⌝ }
 {
     let got = libc::read(STDIN_FILENO, chunk);
+    if got < 0 {
+        os::fail(b"nutrameza_script: standard input can't be read");
+        return stopped(run.calls);
+    }
     let count = io::count(got, chunk);
     if count == 0 {
         let filled = answer_last(image, ledger, line, run.kept, run.calls, out);
-        io::write_all(STDOUT_FILENO, &out[0..filled]);
+        write_answers(&out[0..filled]);
         return stopped(run.calls);
     }
     answer_chunk(image, ledger, line, &chunk[..count], out, run)

@@ -19,8 +19,8 @@ abbrev μ-loop : tie.MeasureT-loop
 answer-lines-requires : tie.Need-answer-lines-requires Inv-loop μ-loop
 answer-lines-requires c κs = search needs
 
-part-write-all-end : tie.Need-part-write-all-end Inv-loop μ-loop
-part-write-all-end c = omega (arith, c .before .before .before .before .before .before .before .answer-lines .ensures .room)
+part-write-answers-end : tie.Need-part-write-answers-end Inv-loop μ-loop
+part-write-answers-end c = omega (arith, c .before .before .before .before .before .before .before .answer-lines .ensures .room)
 
 loop-less : tie.Need-loop-less Inv-loop μ-loop
 loop-less c = let a = c .before .before .before .before .before .before .before .before .before .before .answer-lines .ensures in omega (arith, a .onward, a .inside)
@@ -54,7 +54,7 @@ answer-chunk-spec =
     answer-lines-requires
     (λ c. search needs)
     (λ c. search needs)
-    part-write-all-end
+    part-write-answers-end
     (λ c κs. search needs)
     (λ c κs. search needs)
     (λ c. search needs)
