@@ -113,7 +113,7 @@ judged() {
 
 # quiet STATUS: what 'make lib' says, and its exit status, where the prover says three lines and ends with STATUS
 quiet() {
-  printf '#!/bin/sh\necho "library sets: loaded"\necho "rt: sets proved (8 s)"\necho "logic=proved" >&2\nexit %s\n' "$1" > "$work/rt" &&
+  printf '%s\n' '#!/bin/sh' 'echo "library sets: loaded"' 'echo "rt: sets proved (8 s)"' 'echo logic=proved >&2' "exit $1" > "$work/rt" &&
     chmod +x "$work/rt" && make -s -C "$root" lib "RT=$work/rt" > "$work/quiet" 2>&1
 }
 
@@ -123,7 +123,8 @@ quiet_done() {
 }
 
 quiet_failed() {
-  ! quiet 3 && grep -q 'exit status 3' "$work/quiet" && grep -qx 'library sets: loaded' "$work/quiet" && grep -qx 'logic=proved' "$work/quiet"
+  ! quiet 3 && grep -q 'exit status 3' "$work/quiet" && grep -qx 'library sets: loaded' "$work/quiet" &&
+    grep -qx 'logic=proved' "$work/quiet"
 }
 
 small_stack() {
