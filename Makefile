@@ -8,7 +8,8 @@
 #   make bench                the kit beside plain Rust, as ratios
 #
 # Install, ward, host and bench take the library and the program that are there; what is missing, they make, except that install does
-# without the program. NUTRAMEZA_LIB names another folder for the library.
+# without the program. NUTRAMEZA_LIB names another folder for the library. Of the prover's output a line for each crate is shown, all of
+# it where something fails; target/make has it.
 
 VERSION := 0.1.0
 PREFIX ?= /usr/local
@@ -22,11 +23,8 @@ to := $(DESTDIR)$(prefix)
 
 .PHONY: lib install ward host test bench
 
-lib:
-	$(RT) staticlib nutrameza
-
-target/staticlib/libnutrameza.a:
-	$(RT) staticlib nutrameza
+lib target/staticlib/libnutrameza.a:
+	@tools/quiet target/make/lib $(RT) staticlib nutrameza
 
 install: $(library)
 	install -d '$(to)/lib/pkgconfig' '$(to)/include'
@@ -37,15 +35,15 @@ install: $(library)
 	if [ -x $(program) ]; then install -d '$(to)/bin' && install -m 755 $(program) '$(to)/bin/nutrameza_script'; fi
 
 $(program):
-	$(RT) check nutrameza_script
+	@tools/quiet target/make/program $(RT) check nutrameza_script
 
 # The script of the ward example beside the lines that the program answers.
 ward: $(program)
-	mkdir -p target/ward
-	tools/policy build examples/ward.policy -o target/ward/policy.img
-	cd target/ward && ../bin/nutrameza_script < ../../examples/ward.script > answers
-	paste examples/ward.script target/ward/answers | expand -t 24
-	cmp target/ward/answers examples/ward.answers
+	@mkdir -p target/ward
+	@tools/policy build examples/ward.policy -o target/ward/policy.img
+	@cd target/ward && ../bin/nutrameza_script < ../../examples/ward.script > answers
+	@paste examples/ward.script target/ward/answers | expand -t 24
+	@cmp target/ward/answers examples/ward.answers
 
 # A small clinic as a C host.
 host: $(library)

@@ -2,29 +2,10 @@
 # The kit as a record maker meets it: the header in three languages, an install into a fresh prefix, hosts that are built from
 # pkg-config alone and outside the repository. It needs libnutrameza.a (target/staticlib, or the folder that NUTRAMEZA_LIB names);
 # without it the tests fail. The last line is 'N passed, M failed'.
-set -u
-root=$(cd "$(dirname "${BASH_SOURCE[0]}")/.." && pwd) || { echo '0 passed, 1 failed'; exit 1; }
-work=$(mktemp -d) || { echo '0 passed, 1 failed'; exit 1; }
-trap 'rm -rf "$work"' EXIT
+. "$(dirname "${BASH_SOURCE[0]}")/it.sh"
 lib=$(cd "$root" && realpath -m "${NUTRAMEZA_LIB:-target/staticlib}")
 prefix=$work/prefix
 strict='-O2 -Wall -Wextra -Werror -pedantic'
-passed=0
-failed=0
-
-# it NAME COMMAND..: a test, which passes where the command's exit status is 0; it runs by itself, so its 'cd' ends with it
-it() {
-  local name=$1
-  shift
-  if ("$@") > "$work/said" 2>&1; then
-    passed=$((passed + 1))
-    echo "ok      $name"
-  else
-    failed=$((failed + 1))
-    echo "FAILED  $name"
-    sed 's/^/        /' "$work/said"
-  fi
-}
 
 # flags OPTION..: what pkg-config says of the installed kit; where the tool is missing, the .pc file is read here
 flags() {
@@ -130,12 +111,30 @@ judged() {
     diff "$work/judged" expected && [ "$(cut -d' ' -f1 expected | sort -u | wc -l)" -eq 9 ]
 }
 
+# quiet STATUS: what 'make lib' says, and its exit status, where the prover says three lines and ends with STATUS
+quiet() {
+  printf '%s\n' '#!/bin/sh' 'echo "library sets: loaded"' 'echo "rt: sets proved (8 s)"' 'echo logic=proved >&2' "exit $1" > "$work/rt" &&
+    chmod +x "$work/rt" && make -s -C "$root" lib "RT=$work/rt" > "$work/quiet" 2>&1
+}
+
+quiet_done() {
+  quiet 0 && grep -v '^make' "$work/quiet" | diff - <(echo 'rt: sets proved (8 s)') &&
+    diff <(sort "$root/target/make/lib") <(printf '%s\n' 'library sets: loaded' 'logic=proved' 'rt: sets proved (8 s)')
+}
+
+quiet_failed() {
+  ! quiet 3 && grep -q 'exit status 3' "$work/quiet" && grep -qx 'library sets: loaded' "$work/quiet" &&
+    grep -qx 'logic=proved' "$work/quiet"
+}
+
 small_stack() {
   host stack "$root/tests/host/stack.c" -pthread && timeout 300 ./host
 }
 
 it 'the library is there' test -s "$lib/libnutrameza.a"
 it 'the ward policy builds' ward_image
+it 'make shows a line for each crate that is proved and keeps the rest' quiet_done
+it 'make fails where the prover does, and shows all that it said' quiet_failed
 for standard in c99 c11; do
   it "the header compiles by itself as $standard" alone c $standard
   it "the inline functions are right as $standard" compiled c $standard
@@ -151,6 +150,4 @@ it 'the example leaves the ledger on disk' example_ledger
 it 'the example is a C++ program too' example_cxx
 it 'the check and the policy tool judge 3,000 images alike, each number from 0 to 8 among them' judged
 it 'long and deep asks fit a stack of 64 KiB' small_stack
-
-echo "$passed passed, $failed failed"
-[ "$failed" -eq 0 ]
+counted
