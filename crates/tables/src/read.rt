@@ -47,9 +47,7 @@ fn take_grant(h: Head, granted: &mut [[u64; 4]; 64], spare: u32, r: Role, p: Per
     if n != 0 {
         return n;
     }
-    let who = r.0 as usize;
-    let row = sets::perm_with(granted[who], p);
-    granted[who] = row;
+    sets::perm_put(granted, r, p);
     n
 }
 
