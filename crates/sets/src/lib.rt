@@ -104,8 +104,7 @@ pub fn perm_has(set: [u64; 4], p: Permission) -> bool
 // What a row's type says of it, which nothing says of a row behind a reference. There is nothing to run.
 fn four_words(row: [u64; 4])
     ensures { λ _. ⌜ FourWords row ⌝ }
-{
-}
+{}
 
 // Row r takes in the permission p: of its four words the one that has p is stored, and no other is read.
 pub fn perm_put(rows: &mut [[u64; 4]; 64], r: Role, p: Permission)
