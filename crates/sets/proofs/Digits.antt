@@ -17,7 +17,7 @@ use borrow.Author.Tests.{eqb-true, eqb-false, eq-eqb, ne-eqb, ltb-true, ltb-fals
 use Rattle.model.specs.Tests.{pick}
 use Rattle.model.specs.Sets.{has}
 use Rattle.model.proofs.SetLaws.{has-low, has-high}
-use Rattle.sets.specs.Words.{joined, onlyAt}
+use Rattle.sets.specs.Words.{joined}
 
 -- digit i of the number that a list's digits make
 abbrev pub word : List ℕ → ℕ → ℕ
@@ -110,6 +110,11 @@ module _ (w : ℕ) (f g : ℕ → ℕ) (hf : (i : ℕ) → f i < 2 ^ w) (hg : (i
   joined-and = joined-op w bitAnd and-block refl f g hf hg
 
 -- ---- one digit stored
+
+-- x at place j, and 0 at any other
+unfoldable pub onlyAt : ℕ → ℕ → ℕ → ℕ
+onlyAt j x i = pick (eqb i j) x 0
+
 only-at : (j x i : ℕ) → i ≡ j → onlyAt j x i ≡ x
 unfolding onlyAt pick
 only-at j x i e = ap (λ (b : Bool). pick b x 0) (eq-eqb i j e)

@@ -17,8 +17,8 @@ use lib.Seq.{ext-getD}
 use Rattle.model.specs.Sets.{has, union, inter, with, within, count}
 use Rattle.model.proofs.SetLaws.{ones-count, shl-one}
 use Rattle.sets.specs.Members.{without}
-use Rattle.sets.specs.Words.{joined, value, onlyAt, FourWords, Splits}
-use Rattle.sets.proofs.Digits.{word, word-put, only-lt, sumTo, allTo, joined-cong, joined-lt, joined-has, joined-only, joined-ones, joined-or, joined-and, joined-eqb, joined-inj}
+use Rattle.sets.specs.Words.{joined, value, FourWords, Splits}
+use Rattle.sets.proofs.Digits.{word, onlyAt, only-lt, word-put, sumTo, allTo, joined-cong, joined-lt, joined-has, joined-only, joined-ones, joined-or, joined-and, joined-eqb, joined-inj}
 
 -- ---- a role set, a word of 64 bits
 pub word-without : (n r : ℕ) → r < 64 → bitXor n ((1 * 2 ^ r) % 2 ^ 64) ≡ without n r
