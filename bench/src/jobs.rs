@@ -115,8 +115,13 @@ fn some_own_roles(image: &[u8], user: usize) -> u64 {
 /// Times open, close and show.
 #[cfg(feature = "calls")]
 pub fn calls() {
-    let large = largest(false);
-    let images = [("13 words", ward::image_a(), 1, 1), ("4,096 words", large.clone(), 64, some_own_roles(&large, 63))];
+    let large = |name, in_order| {
+        let image = largest(in_order);
+        let roles = some_own_roles(&image, 63);
+        (name, image, 64, roles)
+    };
+    let images =
+        [("13 words", ward::image_a(), 1, 1), large("4,096 words, by kind", true), large("4,096 words, in any order", false)];
     for (size, image, users, roles) in images {
         for call in [Call::Open, Call::Close, Call::Show] {
             let (mut first, mut second) = (Desk::new(&image, users, line(roles)), Desk::new(&image, users, line(roles)));

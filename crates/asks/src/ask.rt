@@ -15,13 +15,22 @@ ghost use Rattle.asks.specs.Asks.{Asked, Searched, askedOn, Answers};
 use crate::bounds::bound;
 use crate::request::ask_refusal;
 use calls::answer::fill;
+use calls::given::Rules;
+use calls::given::Window;
 use ledger::bytes::line_of;
 use ledger::bytes::put_line;
 use ledger::change::put_in;
-use model::Head;
 use model::Line;
 use query::rank::Job;
 use search::Choice;
+
+// What is asked for: the bounds as sets, and the objectives (01: aims) on permissions and on roles.
+pub struct Wanted {
+    pub lower: [u64; 4],
+    pub upper: [u64; 4],
+    pub first: u8,
+    pub second: u8,
+}
 
 // The best admissible role set for session k of a line that meets every exclusion.
 fn best(
@@ -31,66 +40,52 @@ fn best(
     count: usize,
     l: Line,
     k: usize,
-    lower: [u64; 4],
-    upper: [u64; 4],
-    first: u8,
-    second: u8,
+    wanted: Wanted,
 ) -> Choice
     requires { ⌜ (count ≤ 32) × (k < SESSIONS) × (length (now xs) ≡ 32) ⌝ }
     ensures { λ r. ⌜ ((p : Policy) (u : ℕ) → Asked p u l authorized (exclusionsIn (now (xs .entry)) count) (rowsOf (now (rows .entry)))
-        → answered r ≡ choose (meaning p u) l k (value lower) (value upper) first second) ⌝ }
+        → answered r ≡ choose (meaning p u) l k (value (wanted .lower)) (value (wanted .upper)) (wanted .first) (wanted .second)) ⌝ }
 {
     let reduced = query::exclusions::reduce(xs, count, l, k);
     let masks = reduced.masks;
     let rooms = reduced.rooms;
+    let lower = wanted.lower;
+    let upper = wanted.upper;
     let job = Job {
         lower,
         count: reduced.count,
-        first,
-        second,
+        first: wanted.first,
+        second: wanted.second,
     };
     search::solve(rows, upper, authorized, &masks, &rooms, job)
 }
 
-// The best admissible role set takes the place of the active roles of session k of a line that meets every exclusion, and fills the
+// The best admissible role set takes the place of the active roles of the session, on a line that meets every exclusion, and fills the
 // answer; 20 where no set is admissible. The juniors' table is closed in place.
 fn put_best(
     ledger: &mut [u8],
-    roles: u8,
+    rules: Rules,
     granted: &[[u64; 4]; 64],
     juniors: &mut [u64; 64],
     xs: &[[u64; 2]; 32],
-    count: usize,
     authorized: u64,
-    u: usize,
-    k: usize,
-    lower: [u64; 4],
-    upper: [u64; 4],
-    first: u8,
-    second: u8,
+    window: Window,
+    wanted: Wanted,
     answer: &mut [u8],
 ) -> u64
-    requires { ⌜ (roles ≤ 64) × (length (now juniors) ≡ 64) × (count ≤ 32) × (lineSize SESSIONS * u + lineSize SESSIONS ≤ length (now ledger)) × (k < SESSIONS)
-        × (length (now answer) ≡ 40) × (length (now xs) ≡ 32) ⌝ }
-    ensures { λ r. ⌜ ((p : Policy) → Searched p u (now (ledger .entry)) roles (values (now (granted .entry))) (now (juniors .entry)) authorized (exclusionsIn (now (xs .entry)) count)
-        → Answers (askedOn p (now (ledger .entry)) u k
-        (choose (meaning p u) (lineOf SESSIONS (now (ledger .entry)) u) k (value lower) (value upper) first second))
+    requires { ⌜ (rules .head .roles ≤ 64) × (length (now juniors) ≡ 64) × (rules .count ≤ 32) × (lineSize SESSIONS * window .user + lineSize SESSIONS ≤ length (now ledger))
+        × (window .session < SESSIONS) × (length (now answer) ≡ 40) × (length (now xs) ≡ 32) ⌝ }
+    ensures { λ r. ⌜ ((p : Policy) → Searched p (window .user) (now (ledger .entry)) (rules .head .roles) (values (now (granted .entry))) (now (juniors .entry)) authorized (exclusionsIn (now (xs .entry)) (rules .count))
+        → Answers (askedOn p (now (ledger .entry)) (window .user) (window .session)
+        (choose (meaning p (window .user)) (lineOf SESSIONS (now (ledger .entry)) (window .user)) (window .session) (value (wanted .lower)) (value (wanted .upper)) (wanted .first) (wanted .second)))
         r (now (ledger .exit)) (now (answer .entry)) (now (answer .exit))) ⌝ }
 {
-    let rows = tables::carried::carried(granted, juniors, roles as usize, authorized);
+    let head = rules.head;
+    let rows = tables::carried::carried(granted, juniors, head.roles as usize, authorized);
+    let u = window.user as usize;
+    let k = window.session as usize;
     let l = line_of(ledger, u);
-    let choice = best(
-        &rows,
-        authorized,
-        xs,
-        count,
-        l,
-        k,
-        lower,
-        upper,
-        first,
-        second,
-    );
+    let choice = best(&rows, authorized, xs, rules.count, l, k, wanted);
     let Choice::Roles(s) = choice else {
         return 20;
     };
@@ -111,34 +106,30 @@ fn roles_of(assigned: &[u64; 64], u: usize) -> u64
 // The best admissible role set takes the place of the session's active roles and fills the answer.
 pub fn ask_roles(
     ledger: &mut [u8],
-    head: Head,
+    rules: Rules,
     assigned: &[u64; 64],
     granted: &[[u64; 4]; 64],
     juniors: &mut [u64; 64],
     xs: &[[u64; 2]; 32],
-    count: usize,
-    user: u64,
-    session: u64,
+    window: Window,
     lower: &[u8],
     upper: &[u8],
     first: u64,
     second: u64,
     answer: &mut [u8],
 ) -> u64
-    requires { ⌜ (head .users ≤ 64) × (head .roles ≤ 64) × (count ≤ 32) × (length (now juniors) ≡ 64) × (length (now xs) ≡ 32) ⌝ }
-    ensures { λ r. ⌜ ((p : Policy) → Known head (now (assigned .entry)) (exclusionsIn (now (xs .entry)) count) p → values (now (granted .entry)) ≡ p .granted
+    requires { ⌜ (rules .head .users ≤ 64) × (rules .head .roles ≤ 64) × (rules .count ≤ 32) × (length (now juniors) ≡ 64) × (length (now xs) ≡ 32) ⌝ }
+    ensures { λ r. ⌜ ((p : Policy) → Known (rules .head) (now (assigned .entry)) (exclusionsIn (now (xs .entry)) (rules .count)) p → values (now (granted .entry)) ≡ p .granted
         → now (juniors .entry) ≡ p .juniors
-        → Answers (stepOn SESSIONS p (now (ledger .entry)) (askBy user session (now (lower .entry)) (now (upper .entry)) first second (length (now (answer .entry)))))
+        → Answers (stepOn SESSIONS p (now (ledger .entry)) (askBy (window .user) (window .session) (now (lower .entry)) (now (upper .entry)) first second (length (now (answer .entry)))))
         r (now (ledger .exit)) (now (answer .entry)) (now (answer .exit))) ⌝ }
 {
     let n = ask_refusal(
         ledger,
-        head,
+        rules,
         assigned,
         xs,
-        count,
-        user,
-        session,
+        window,
         lower,
         upper,
         first,
@@ -148,24 +139,26 @@ pub fn ask_roles(
     if n != 0 {
         return n;
     }
-    let u = user as usize;
-    let authorized = roles_of(assigned, u);
-    let low = bound(lower);
-    let high = bound(upper);
+    let authorized = roles_of(assigned, window.user as usize);
+    let lower = bound(lower);
+    let upper = bound(upper);
+    let first = first as u8;
+    let second = second as u8;
+    let wanted = Wanted {
+        lower,
+        upper,
+        first,
+        second,
+    };
     put_best(
         ledger,
-        head.roles,
+        rules,
         granted,
         juniors,
         xs,
-        count,
         authorized,
-        u,
-        session as usize,
-        low,
-        high,
-        first as u8,
-        second as u8,
+        window,
+        wanted,
         answer,
     )
 }

@@ -11,9 +11,10 @@ ghost use Rattle.asks.specs.Asks.{sessionRefusal, boundsRefusal, queryRe
 use crate::bounds::below;
 use crate::bounds::bound;
 use calls::first::first_refusal;
+use calls::given::Rules;
+use calls::given::Window;
 use ledger::bytes::line_of;
 use ledger::change::is_open;
-use model::Head;
 use model::Line;
 use model::SESSIONS;
 
@@ -86,30 +87,29 @@ pub fn query_refusal(
 // The first of the refusals 9 to 19 that holds for an ask, else 0.
 pub fn ask_refusal(
     ledger: &[u8],
-    head: Head,
+    rules: Rules,
     assigned: &[u64; 64],
     xs: &[[u64; 2]; 32],
-    count: usize,
-    user: u64,
-    session: u64,
+    window: Window,
     lower: &[u8],
     upper: &[u8],
     first: u64,
     second: u64,
     room: usize,
 ) -> u64
-    requires { ⌜ (head .users ≤ 64) × (count ≤ 32) × (length (now xs) ≡ 32) ⌝ }
-    ensures { λ r. ⌜ ((p : Policy) → Known head (now (assigned .entry)) (exclusionsIn (now (xs .entry)) count) p
-        → r ≡ askRefusal SESSIONS p (now (ledger .entry)) user session (now (lower .entry)) (now (upper .entry)) first second room) ⌝ }
+    requires { ⌜ (rules .head .users ≤ 64) × (rules .count ≤ 32) × (length (now xs) ≡ 32) ⌝ }
+    ensures { λ r. ⌜ ((p : Policy) → Known (rules .head) (now (assigned .entry)) (exclusionsIn (now (xs .entry)) (rules .count)) p
+        → r ≡ askRefusal SESSIONS p (now (ledger .entry)) (window .user) (window .session) (now (lower .entry)) (now (upper .entry)) first second room) ⌝ }
 {
-    let n = first_refusal(ledger, head, assigned, xs, count, user);
+    let n = first_refusal(ledger, rules, assigned, xs, window.user);
     if n != 0 {
         return n;
     }
-    let l = line_of(ledger, user as usize);
-    let m = session_refusal(l, session);
+    let l = line_of(ledger, window.user as usize);
+    let m = session_refusal(l, window.session);
     if m != 0 {
         return m;
     }
+    let head = rules.head;
     query_refusal(lower, upper, head.permissions, first, second, room)
 }

@@ -8,28 +8,29 @@ ghost use Rattle.model.specs.Run.{stepOn, closeBy};
 ghost use Rattle.rows.specs.Rows.{exclusionsIn};
 ghost use Rattle.calls.specs.Calls.{Known, Gives};
 use crate::first::first_refusal;
+use crate::given::Rules;
+use crate::given::Window;
 use ledger::bytes::line_of;
 use ledger::bytes::put_line;
 use ledger::change::closed;
 use ledger::change::is_open;
-use model::Head;
 use model::SESSIONS;
 
 // The user's session is closed; the user's history stays.
 pub fn close_session(
     ledger: &mut [u8],
-    head: Head,
+    rules: Rules,
     assigned: &[u64; 64],
     xs: &[[u64; 2]; 32],
-    count: usize,
-    user: u64,
-    session: u64,
+    window: Window,
 ) -> u64
-    requires { ⌜ (head .users ≤ 64) × (count ≤ 32) × (length (now xs) ≡ 32) ⌝ }
-    ensures { λ r. ⌜ ((p : Policy) → Known head (now (assigned .entry)) (exclusionsIn (now (xs .entry)) count) p
-        → Gives (stepOn SESSIONS p (now (ledger .entry)) (closeBy user session)) r (now (ledger .exit))) ⌝ }
+    requires { ⌜ (rules .head .users ≤ 64) × (rules .count ≤ 32) × (length (now xs) ≡ 32) ⌝ }
+    ensures { λ r. ⌜ ((p : Policy) → Known (rules .head) (now (assigned .entry)) (exclusionsIn (now (xs .entry)) (rules .count)) p
+        → Gives (stepOn SESSIONS p (now (ledger .entry)) (closeBy (window .user) (window .session))) r (now (ledger .exit))) ⌝ }
 {
-    let n = first_refusal(ledger, head, assigned, xs, count, user);
+    let user = window.user;
+    let session = window.session;
+    let n = first_refusal(ledger, rules, assigned, xs, user);
     if n != 0 {
         return n;
     }

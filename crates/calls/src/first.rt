@@ -6,23 +6,23 @@ ghost use Rattle.model.specs.Line.{SESSIONS};
 ghost use Rattle.model.specs.Policy.{Policy};
 ghost use Rattle.rows.specs.Rows.{exclusionsIn};
 ghost use Rattle.calls.specs.Calls.{Known, firstRefusal};
+use crate::given::Rules;
 use ledger::bytes::LINE;
 use ledger::bytes::line_of;
 use ledger::sound::sound;
-use model::Head;
 
 // 9 for a ledger that does not fit, 10 for a user without a line, 11 for a line that is not sound, else 0.
 pub fn first_refusal(
     ledger: &[u8],
-    head: Head,
+    rules: Rules,
     assigned: &[u64; 64],
     xs: &[[u64; 2]; 32],
-    count: usize,
     user: u64,
 ) -> u64
-    requires { ⌜ (head .users ≤ 64) × (count ≤ 32) × (length (now xs) ≡ 32) ⌝ }
-    ensures { λ r. ⌜ ((p : Policy) → Known head (now (assigned .entry)) (exclusionsIn (now (xs .entry)) count) p → r ≡ firstRefusal SESSIONS p (now (ledger .entry)) user) ⌝ }
+    requires { ⌜ (rules .head .users ≤ 64) × (rules .count ≤ 32) × (length (now xs) ≡ 32) ⌝ }
+    ensures { λ r. ⌜ ((p : Policy) → Known (rules .head) (now (assigned .entry)) (exclusionsIn (now (xs .entry)) (rules .count)) p → r ≡ firstRefusal SESSIONS p (now (ledger .entry)) user) ⌝ }
 {
+    let head = rules.head;
     let users = head.users as usize;
     if ledger.len() != LINE * users {
         return 9;
@@ -33,7 +33,7 @@ pub fn first_refusal(
     let u = user as usize;
     let l = line_of(ledger, u);
     let authorized = assigned[u];
-    if !sound(l, head.roles, authorized, xs, count) {
+    if !sound(l, head.roles, authorized, xs, rules.count) {
         return 11;
     }
     0

@@ -2,6 +2,7 @@
 // closed and shown, and the answer buffer filled.
 pub mod answer; // answer.rt: the answer buffer filled
 pub mod close; // close.rt: a session closed
+pub mod given; // given.rt: what a call is given beside tables and bytes
 pub mod first; // first.rt: the refusals that every call on a line can give first
 pub mod open; // open.rt: a session opened
 pub mod show; // show.rt: a session shown

@@ -8,27 +8,26 @@ ghost use Rattle.model.specs.Run.{stepOn, openBy};
 ghost use Rattle.rows.specs.Rows.{exclusionsIn};
 ghost use Rattle.calls.specs.Calls.{Known, Gives};
 use crate::first::first_refusal;
+use crate::given::Rules;
 use ledger::bytes::line_of;
 use ledger::bytes::put_line;
 use ledger::change::lowest_closed;
 use ledger::change::opened;
-use model::Head;
 use model::SESSIONS;
 
 // The user's lowest closed session is opened, and returned as the extra.
 pub fn open_session(
     ledger: &mut [u8],
-    head: Head,
+    rules: Rules,
     assigned: &[u64; 64],
     xs: &[[u64; 2]; 32],
-    count: usize,
     user: u64,
 ) -> u64
-    requires { ⌜ (head .users ≤ 64) × (count ≤ 32) × (length (now xs) ≡ 32) ⌝ }
-    ensures { λ r. ⌜ ((p : Policy) → Known head (now (assigned .entry)) (exclusionsIn (now (xs .entry)) count) p
+    requires { ⌜ (rules .head .users ≤ 64) × (rules .count ≤ 32) × (length (now xs) ≡ 32) ⌝ }
+    ensures { λ r. ⌜ ((p : Policy) → Known (rules .head) (now (assigned .entry)) (exclusionsIn (now (xs .entry)) (rules .count)) p
         → Gives (stepOn SESSIONS p (now (ledger .entry)) (openBy user)) r (now (ledger .exit))) ⌝ }
 {
-    let n = first_refusal(ledger, head, assigned, xs, count, user);
+    let n = first_refusal(ledger, rules, assigned, xs, user);
     if n != 0 {
         return n;
     }

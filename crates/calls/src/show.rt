@@ -10,9 +10,10 @@ ghost use Rattle.rows.specs.Rows.{exclusionsIn};
 ghost use Rattle.calls.specs.Calls.{Known, Shows};
 use crate::answer::fill;
 use crate::first::first_refusal;
+use crate::given::Rules;
+use crate::given::Window;
 use ledger::bytes::line_of;
 use ledger::change::is_open;
-use model::Head;
 use model::SESSIONS;
 use tables::carried::carried_by;
 
@@ -20,23 +21,23 @@ use tables::carried::carried_by;
 // place.
 pub fn show_session(
     ledger: &[u8],
-    head: Head,
+    rules: Rules,
     assigned: &[u64; 64],
     granted: &[[u64; 4]; 64],
     juniors: &mut [u64; 64],
     xs: &[[u64; 2]; 32],
-    count: usize,
-    user: u64,
-    session: u64,
+    window: Window,
     answer: &mut [u8],
 ) -> u64
-    requires { ⌜ (head .users ≤ 64) × (head .roles ≤ 64) × (count ≤ 32) × (length (now juniors) ≡ 64) × (length (now xs) ≡ 32) ⌝ }
-    ensures { λ r. ⌜ ((p : Policy) → Known head (now (assigned .entry)) (exclusionsIn (now (xs .entry)) count) p → values (now (granted .entry)) ≡ p .granted
+    requires { ⌜ (rules .head .users ≤ 64) × (rules .head .roles ≤ 64) × (rules .count ≤ 32) × (length (now juniors) ≡ 64) × (length (now xs) ≡ 32) ⌝ }
+    ensures { λ r. ⌜ ((p : Policy) → Known (rules .head) (now (assigned .entry)) (exclusionsIn (now (xs .entry)) (rules .count)) p → values (now (granted .entry)) ≡ p .granted
         → now (juniors .entry) ≡ p .juniors
-        → Shows (stepOn SESSIONS p (now (ledger .entry)) (showBy user session (length (now (answer .entry))))) r (now (answer .entry))
+        → Shows (stepOn SESSIONS p (now (ledger .entry)) (showBy (window .user) (window .session) (length (now (answer .entry))))) r (now (answer .entry))
         (now (answer .exit))) ⌝ }
 {
-    let n = first_refusal(ledger, head, assigned, xs, count, user);
+    let user = window.user;
+    let session = window.session;
+    let n = first_refusal(ledger, rules, assigned, xs, user);
     if n != 0 {
         return n;
     }
@@ -54,6 +55,7 @@ pub fn show_session(
     }
     let shown = l.sessions[k];
     let active = shown.active;
+    let head = rules.head;
     let permissions = carried_by(granted, juniors, head.roles as usize, active);
     fill(answer, active, permissions);
     0

@@ -5,6 +5,8 @@ ghost use lib.ListN.{length};
 ghost use Rattle.model.specs.Line.{SESSIONS};
 ghost use Rattle.model.specs.Image.{judge, checkNumber};
 ghost use Rattle.model.specs.Run.{step, openBy, closeBy, showBy, askBy, shortAskBy, returned, answered};
+use calls::given::Rules;
+use calls::given::Window;
 use model::Checked;
 
 // What a call returns under a refused image.
@@ -41,7 +43,8 @@ pub extern "C" fn nutrameza_open(image: &[u8], ledger: &mut [u8], user: u64) -> 
         return refusal_of(c);
     };
     let count = all.count;
-    calls::open::open_session(ledger, head, &assigned, &xs, count, user)
+    let rules = Rules { head, count };
+    calls::open::open_session(ledger, rules, &assigned, &xs, user)
 }
 
 // Closes the user's session.
@@ -60,7 +63,9 @@ pub extern "C" fn nutrameza_close(image: &[u8], ledger: &mut [u8], user: u64, se
         return refusal_of(c);
     };
     let count = all.count;
-    calls::close::close_session(ledger, head, &assigned, &xs, count, user, session)
+    let rules = Rules { head, count };
+    let window = Window { user, session };
+    calls::close::close_session(ledger, rules, &assigned, &xs, window)
 }
 
 // Shows the active roles of the user's session and the permissions that they carry.
@@ -86,16 +91,16 @@ pub extern "C" fn nutrameza_show(
         return refusal_of(c);
     };
     let count = all.count;
+    let rules = Rules { head, count };
+    let window = Window { user, session };
     calls::show::show_session(
         ledger,
-        head,
+        rules,
         &assigned,
         &granted,
         &mut juniors,
         &xs,
-        count,
-        user,
-        session,
+        window,
         answer,
     )
 }
@@ -127,16 +132,16 @@ pub extern "C" fn nutrameza_ask(
         return refusal_of(c);
     };
     let count = all.count;
+    let rules = Rules { head, count };
+    let window = Window { user, session };
     asks::ask::ask_roles(
         ledger,
-        head,
+        rules,
         &assigned,
         &granted,
         &mut juniors,
         &xs,
-        count,
-        user,
-        session,
+        window,
         lower,
         upper,
         permission_aim,

@@ -9,14 +9,15 @@ use native.Mathlib.Omega.{arith}
 use lib.Dec.{eqb, ltb}
 use lib.Arith.{digits-lt, digits-div, digits-mod}
 use lib.Pow.{pow-pos, pow-add, high, low}
-use lib.Bits.{bitAnd, bitOr, and-block, or-block}
+use lib.Bits.{bitAnd, bitOr, and-block, or-block, or-zero-r}
 use lib.Count.{ones, ones-cat}
-use lib.ListN.{getD}
+use lib.ListN.{length, getD, set}
+use lib.Seq.{getD-set-same, getD-set-other}
 use borrow.Author.Tests.{eqb-true, eqb-false, eq-eqb, ne-eqb, ltb-true, ltb-false}
 use Rattle.model.specs.Tests.{pick}
 use Rattle.model.specs.Sets.{has}
 use Rattle.model.proofs.SetLaws.{has-low, has-high}
-use Rattle.sets.specs.Words.{joined, onlyAt}
+use Rattle.sets.specs.Words.{joined}
 
 -- digit i of the number that a list's digits make
 abbrev pub word : List ℕ → ℕ → ℕ
@@ -109,6 +110,11 @@ module _ (w : ℕ) (f g : ℕ → ℕ) (hf : (i : ℕ) → f i < 2 ^ w) (hg : (i
   joined-and = joined-op w bitAnd and-block refl f g hf hg
 
 -- ---- one digit stored
+
+-- x at place j, and 0 at any other
+unfoldable pub onlyAt : ℕ → ℕ → ℕ → ℕ
+onlyAt j x i = pick (eqb i j) x 0
+
 only-at : (j x i : ℕ) → i ≡ j → onlyAt j x i ≡ x
 unfolding onlyAt pick
 only-at j x i e = ap (λ (b : Bool). pick b x 0) (eq-eqb i j e)
@@ -116,6 +122,27 @@ only-at j x i e = ap (λ (b : Bool). pick b x 0) (eq-eqb i j e)
 only-off : (j x i : ℕ) → (i ≡ j → ⊥) → onlyAt j x i ≡ 0
 unfolding onlyAt pick
 only-off j x i n = ap (λ (b : Bool). pick b x 0) (ne-eqb i j n)
+
+pub only-lt : (j x i m : ℕ) → x < m → onlyAt j x i < m
+unfolding onlyAt pick
+only-lt j x i m h = go (eqb i j)
+  where
+    go : (b : Bool) → pick b x 0 < m
+    go true = h
+    go false = omega arith
+
+-- a digit joined with x, the others as they are
+pub word-put : (ws : List ℕ) (j x i : ℕ) → j < length ws → word (set ws j (bitOr (word ws j) x)) i ≡ bitOr (word ws i) (onlyAt j x i)
+word-put ws j x i l = go (eqb i j) refl
+  where
+    go : (b : Bool) → eqb i j ≡ b → word (set ws j (bitOr (word ws j) x)) i ≡ bitOr (word ws i) (onlyAt j x i)
+    go true p =
+        let e : i ≡ j = eqb-true i j p in
+        ap (word (set ws j (bitOr (word ws j) x))) e ∙ getD-set-same ws j (bitOr (word ws j) x) 0 l
+        ∙ ap₂ bitOr (ap (word ws) (sym e)) (sym (only-at j x i e))
+    go false p =
+        let n = eqb-false i j p in
+        getD-set-other ws j i (bitOr (word ws j) x) 0 n ∙ sym (or-zero-r (word ws i)) ∙ ap (bitOr (word ws i)) (sym (only-off j x i n))
 
 only-none : (w j x d : ℕ) → d ≤ j → joined w (onlyAt j x) d ≡ 0
 unfolding joined

@@ -9,16 +9,16 @@ use native.Mathlib.Omega.{arith}
 use mir.Val.{Fits}
 use mir.Syntax.{w32, w64}
 use lib.Dec.{eqb, ltb}
-use lib.Pow.{pow-add}
+use lib.Pow.{pow-add, pow-lt}
 use lib.Bits.{bitAnd, bitOr, bitXor, and-lt}
 use lib.Count.{ones, ones-le}
-use lib.ListN.{length}
+use lib.ListN.{length, set}
 use lib.Seq.{ext-getD}
 use Rattle.model.specs.Sets.{has, union, inter, with, within, count}
 use Rattle.model.proofs.SetLaws.{ones-count, shl-one}
 use Rattle.sets.specs.Members.{without}
-use Rattle.sets.specs.Words.{joined, value, onlyAt, Splits}
-use Rattle.sets.proofs.Digits.{word, sumTo, allTo, joined-lt, joined-has, joined-only, joined-ones, joined-or, joined-and, joined-eqb, joined-inj}
+use Rattle.sets.specs.Words.{joined, value, FourWords, Splits}
+use Rattle.sets.proofs.Digits.{word, onlyAt, only-lt, word-put, sumTo, allTo, joined-cong, joined-lt, joined-has, joined-only, joined-ones, joined-or, joined-and, joined-eqb, joined-inj}
 
 -- ---- a role set, a word of 64 bits
 pub word-without : (n r : ℕ) → r < 64 → bitXor n ((1 * 2 ^ r) % 2 ^ 64) ≡ without n r
@@ -92,12 +92,22 @@ unfolding value joined
 value-inj a b la lb fa fb e =
     ext-getD 0 a b (la ∙ sym lb) (λ i l. joined-inj 64 (word a) (word b) (λ j. fa j .fits) (λ j. fb j .fits) 4 e i (omega arith))
 
--- ---- the words of the set with the single member p
-pub value-single : (a b c d p i k : ℕ) → Splits p i k → a ≡ onlyAt i ((1 * 2 ^ k) % 2 ^ 64) 0 → b ≡ onlyAt i ((1 * 2 ^ k) % 2 ^ 64) 1
-    → c ≡ onlyAt i ((1 * 2 ^ k) % 2 ^ 64) 2 → d ≡ onlyAt i ((1 * 2 ^ k) % 2 ^ 64) 3 → value (a ∷ b ∷ c ∷ d ∷ []) ≡ 2 ^ p
-unfolding value joined
-value-single a b c d p i k s ea eb ec ed =
-    rw (ea, eb, ec, ed)
-    (joined-only 64 i ((1 * 2 ^ k) % 2 ^ 64) 4 (s .inside)
+-- ---- permission p put into its word: bit k of word i
+
+-- the set with the single member p
+single : (p i k : ℕ) → Splits p i k → joined 64 (onlyAt i ((1 * 2 ^ k) % 2 ^ 64)) 4 ≡ 2 ^ p
+single p i k s =
+    joined-only 64 i ((1 * 2 ^ k) % 2 ^ 64) 4 (s .inside)
     ∙ ap (λ (x : ℕ). x * 2 ^ (i * 64)) (shl-one 64 k (s .small))
-    ∙ mul-comm (2 ^ k) (2 ^ (i * 64)) ∙ sym (pow-add 2 (i * 64) k) ∙ ap (λ (x : ℕ). 2 ^ x) (s .whole))
+    ∙ mul-comm (2 ^ k) (2 ^ (i * 64)) ∙ sym (pow-add 2 (i * 64) k) ∙ ap (λ (x : ℕ). 2 ^ x) (s .whole)
+
+pub value-put : (ws : List ℕ) (p i k : ℕ) → FourWords ws → Splits p i k
+    → value (set ws i (bitOr (word ws i) ((1 * 2 ^ k) % 2 ^ 64))) ≡ with (value ws) p
+unfolding value
+value-put ws p i k f s =
+    let x : ℕ = (1 * 2 ^ k) % 2 ^ 64 in
+    let l : x < 2 ^ 64 = rw (shl-one 64 k (s .small)) (pow-lt (s .small)) in
+    joined-cong 64 (word (set ws i (bitOr (word ws i) x))) (λ j. bitOr (word ws j) (onlyAt i x j)) 4
+    (λ j h. word-put ws i x j (omega (arith, f .long, s .inside)))
+    ∙ joined-or 64 (word ws) (onlyAt i x) (λ j. f .fit j .fits) (λ j. only-lt i x j (2 ^ 64) l) 4
+    ∙ ap (bitOr (joined 64 (word ws) 4)) (single p i k s)

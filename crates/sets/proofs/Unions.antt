@@ -3,11 +3,11 @@
 -- Assumes nothing.
 use mathlib.Core.Path.{_≡_, refl, sym, ap, ap₂, _∙_}
 use mathlib.Core.Bool.{Bool, true, false, _||_}
-use mathlib.Core.List.{List, [], map}
+use mathlib.Core.List.{List, [], _∷_, map}
 use Prim.Native.Nat.{ℕ, zero, suc, _^_, _<_}
 use native.Mathlib.Omega.{arith}
 use lib.Bits.{or-comm, or-self, or-zero-r}
-use lib.ListN.{getD, List·getD-map}
+use lib.ListN.{getD, set, List·getD-map}
 use borrow.Author.Tests.{eqb-true, eq-eqb}
 use Rattle.model.specs.Tests.{pick}
 use Rattle.model.specs.Sets.{has, union, with, count, unionTo, unionAt}
@@ -94,6 +94,20 @@ unionAt-unions rows sets s =
 pub values-at : (rows : List (List ℕ)) (r : ℕ) → getD (values rows) r 0 ≡ value (getD rows r [])
 unfolding values value
 values-at rows r = List·getD-map value rows r []
+
+pub map-set : {A B : Type 0} (f : A → B) (l : List A) (i : ℕ) (y : A) → map f (set l i y) ≡ set (map f l) i (f y)
+map-set f [] i y = refl
+map-set f (x ∷ l) zero y = refl
+map-set {A} {B} f (x ∷ l) (suc i) y = ap (λ (t : List B). f x ∷ t) (map-set f l i y)
+
+pub values-set : (rows : List (List ℕ)) (r : ℕ) (row : List ℕ) → values (set rows r row) ≡ set (values rows) r (value row)
+unfolding values
+values-set rows r row = map-set value rows r row
+
+-- a permission put into a row
+pub row-put : (rows : List (List ℕ)) (r p : ℕ) (row : List ℕ) → value row ≡ with (value (getD rows r [])) p
+    → values (set rows r row) ≡ set (values rows) r (with (getD (values rows) r 0) p)
+row-put rows r p row e = values-set rows r row ∙ ap (set (values rows) r) (e ∙ ap (λ (x : ℕ). with x p) (sym (values-at rows r)))
 
 pub unionAt-values : (rows : List (List ℕ)) (s : ℕ) → unionAt (values rows) s ≡ unionTo (λ r. value (getD rows r [])) s 64
 unfolding unionAt

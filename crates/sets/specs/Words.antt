@@ -3,9 +3,9 @@
 use mathlib.Core.Path.{_≡_}
 use mathlib.Core.List.{List, map}
 use Prim.Native.Nat.{ℕ, zero, suc, _+_, _*_, _^_, _<_}
-use lib.Dec.{eqb}
-use lib.ListN.{getD}
-use Rattle.model.specs.Tests.{pick}
+use lib.ListN.{length, getD}
+use mir.Val.{Fits}
+use mir.Syntax.{w64}
 
 -- the number whose digits of w bits are f 0, f 1, .., f (d - 1), the lowest first
 unfoldable pub joined : ℕ → (ℕ → ℕ) → ℕ → ℕ
@@ -22,9 +22,10 @@ unfoldable pub values : List (List ℕ) → List ℕ
 unfolding value
 values rows = map value rows
 
--- x at place j, and 0 at any other
-unfoldable pub onlyAt : ℕ → ℕ → ℕ → ℕ
-onlyAt j x i = pick (eqb i j) x 0
+-- a list of four numbers of 64 bits
+pub record FourWords (ws : List ℕ) : Type 0 where
+  pub long : length ws ≡ 4
+  pub fit : (i : ℕ) → Fits w64 (getD ws i 0)
 
 -- permission p is bit `bit` of the word at `place` of the four
 pub record Splits (p place bit : ℕ) : Type 0 where

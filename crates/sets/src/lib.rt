@@ -3,9 +3,10 @@
 ghost use mathlib.Core.Path.{_≡_};
 ghost use Prim.Native.Nat.{_<_};
 ghost use lib.Dec.{ltb};
+ghost use lib.ListN.{getD, set};
 ghost use Rattle.model.specs.Sets.{has as hasOf, union as unionOf, inter as interOf, with as withOf, within as withinOf, count, unionAt};
 ghost use Rattle.sets.specs.Members.{without as withoutOf, Lowest};
-ghost use Rattle.sets.specs.Words.{value, values, onlyAt, Splits};
+ghost use Rattle.sets.specs.Words.{value, values, FourWords, Splits};
 use model::Permission;
 use model::Role;
 
@@ -100,30 +101,21 @@ pub fn perm_has(set: [u64; 4], p: Permission) -> bool
     (set[place] >> spot.bit) % 2 == 1
 }
 
-// x where k is j, else 0.
-fn only(k: usize, j: usize, x: u64) -> u64
-    ensures { λ r. ⌜ r ≡ onlyAt j x k ⌝ }
-{
-    if k == j {
-        return x;
-    }
-    0
-}
+// What a row's type says of it, which nothing says of a row behind a reference. There is nothing to run.
+fn four_words(row: [u64; 4])
+    ensures { λ _. ⌜ FourWords row ⌝ }
+{}
 
-// The set and the permission p. Each word is joined with its own, so that no word is stored alone and read back with its row.
-pub fn perm_with(set: [u64; 4], p: Permission) -> [u64; 4]
-    ensures { λ s. ⌜ value s ≡ withOf (value set) (p .0) ⌝ }
+// Row r takes in the permission p: of its four words the one that has p is stored, and no other is read.
+pub fn perm_put(rows: &mut [[u64; 4]; 64], r: Role, p: Permission)
+    requires { ⌜ r .0 < 64 ⌝ }
+    ensures { λ _. ⌜ values (now (rows .exit)) ≡ set (values (now (rows .entry))) (r .0) (withOf (getD (values (now (rows .entry))) (r .0) 0) (p .0)) ⌝ }
 {
     let spot = split(p);
-    let j = spot.place;
-    let bit = 1 << spot.bit;
-    let one = [
-        only(0, j, bit),
-        only(1, j, bit),
-        only(2, j, bit),
-        only(3, j, bit),
-    ];
-    perm_union(set, one)
+    let place = spot.place;
+    let who = r.0 as usize;
+    four_words(rows[who]);
+    rows[who][place] = rows[who][place] | (1 << spot.bit);
 }
 
 pub fn perm_union(a: [u64; 4], b: [u64; 4]) -> [u64; 4]

@@ -23,9 +23,8 @@ use Rattle.model.proofs.Closure.{length-tableOf, getD-tableOf}
 use Rattle.sets.specs.Members.{without, Lowest}
 use Rattle.sets.specs.Words.{value, joined, values}
 use Rattle.sets.proofs.Taken.{has-without, without-lt, without-other, count-without}
-use Rattle.sets.proofs.Unions.{unionAt-unions}
+use Rattle.sets.proofs.Unions.{unionAt-unions, values-set}
 use Rattle.tables.specs.Carried.{rowsOf, carriedOf}
-use Rattle.tables.proofs.Fills.{values-set}
 
 -- ---- a table mapped in place, row by row
 

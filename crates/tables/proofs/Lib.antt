@@ -2,4 +2,5 @@
 pub mod Steps
 pub mod Fills
 pub mod Places
+pub mod Last
 pub mod Closing

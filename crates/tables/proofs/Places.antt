@@ -20,7 +20,7 @@ use Rattle.model.specs.Policy.{entryAt, entriesFrom, fold, joining, withMembers
 use Rattle.image.specs.Bounds.{Due}
 use Rattle.rows.specs.Rows.{exclusionOf}
 use Rattle.tables.specs.Tables.{noting, exclusionBy, exclusionAt}
-use Rattle.tables.proofs.Fills.{map-set}
+use Rattle.sets.proofs.Unions.{map-set}
 
 -- the place first, where the entry is an exclusion
 unfoldable pub placed : Entry → ℕ → List ℕ → List ℕ

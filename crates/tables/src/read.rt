@@ -1,10 +1,11 @@
 // One pass over an image that judges it and fills the tables of its policy on the way.
 ghost use mathlib.Core.Path.{_≡_};
+ghost use mathlib.Core.Bool.{true, false};
 ghost use mathlib.Core.List.{List};
 ghost use Prim.Native.Nat.{ℕ, _+_, _-_, _*_, _≤_, _<_};
 ghost use lib.ListN.{length};
 ghost use Rattle.model.specs.declared.Head.{Head as HeadOf};
-ghost use Rattle.model.specs.Image.{sparing, entryFault, scan, start, judge};
+ghost use Rattle.model.specs.Image.{sparing, entryFault, fault, scan, start, judge};
 ghost use Rattle.model.specs.Policy.{granting, ordering, policyOf};
 ghost use Rattle.sets.specs.Words.{values};
 ghost use Rattle.image.specs.Bounds.{Small};
@@ -47,9 +48,7 @@ fn take_grant(h: Head, granted: &mut [[u64; 4]; 64], spare: u32, r: Role, p: Per
     if n != 0 {
         return n;
     }
-    let who = r.0 as usize;
-    let row = sets::perm_with(granted[who], p);
-    granted[who] = row;
+    sets::perm_put(granted, r, p);
     n
 }
 
@@ -90,7 +89,7 @@ fn take_exclusion(
     n
 }
 
-// One match a word: each arm judges and stores.
+// A word before the last. One match a word: each arm judges and stores.
 fn step(
     h: Head,
     assigned: &mut [u64; 64],
@@ -98,17 +97,16 @@ fn step(
     juniors: &mut [u64; 64],
     places: &mut [usize; 32],
     t: Scan,
-    last: bool,
     place: usize,
     w: Word,
 ) -> u8
     requires { ⌜ Small (w .entry) ⌝ }
-    ensures { λ n. ⌜ Step h t last place w (now (assigned .entry)) (values (now (granted .entry))) (now (juniors .entry)) (now (places .entry)) n
+    ensures { λ n. ⌜ Step h t false place w (now (assigned .entry)) (values (now (granted .entry))) (now (juniors .entry)) (now (places .entry)) n
         (now (assigned .exit)) (values (now (granted .exit))) (now (juniors .exit)) (now (places .exit)) ⌝ }
 {
     let e = w.entry;
     let spare = w.spare;
-    if wrong_kind(last, t.due, e) {
+    if wrong_kind(false, t.due, e) {
         return 3;
     }
     match e {
@@ -120,6 +118,17 @@ fn step(
         Entry::End => spared(spare, 0),
         Entry::Unknown => spared(spare, 0),
     }
+}
+
+// The last word, where so many members are due: it is the end, or is refused.
+fn end_fault(due: u32, w: Word) -> u8
+    ensures { λ n. ⌜ ((h : HeadOf) (rows : List ℕ) (t : Scan) → t .due ≡ due → n ≡ fault h rows t true w) × (n ≡ 0 → w .entry ≡ Entry.End) ⌝ }
+{
+    let e = w.entry;
+    if wrong_kind(true, due, e) {
+        return 3;
+    }
+    spared(w.spare, 0)
 }
 
 // ---- the words behind the head, and the whole
@@ -144,7 +153,7 @@ fn read_words(
     juniors: &mut [u64; 64],
     xs: &mut [[u64; 2]; 32],
 ) -> Reading
-    requires { ⌜ (4 * words ≤ length (now image)) × (1 ≤ words) × (words ≤ 4096) × (length (now xs) ≡ 32) ⌝ }
+    requires { ⌜ (4 * words ≤ length (now image)) × (2 ≤ words) × (words ≤ 4096) × (length (now xs) ≡ 32) ⌝ }
     ensures { λ r. ⌜ (r .checked ≡ scan (now (image .entry)) h (words - 1) 1 (now (assigned .entry)) start first)
         × ((g : HeadOf) → r .checked ≡ Checked.Accepted g
         → Gathered (now (image .entry)) (words - 1) (now (assigned .entry)) (values (now (granted .entry))) (now (juniors .entry))
@@ -157,20 +166,11 @@ fn read_words(
         members: 0,
     };
     let mut sum = first;
-    for place in 1..words {
+    let end = words - 1;
+    for place in 1..end {
         let w = octets::word_at(image, place);
         let word = decode(w);
-        let number = step(
-            h,
-            assigned,
-            granted,
-            juniors,
-            &mut places,
-            t,
-            place + 1 == words,
-            place,
-            word,
-        );
+        let number = step(h, assigned, granted, juniors, &mut places, t, place, word);
         if number != 0 {
             return refused(number, place as u16);
         }
@@ -178,8 +178,14 @@ fn read_words(
         t = next(t, e);
         sum = std::num::wrapping_add_u32(sum, w);
     }
+    let w = octets::word_at(image, end);
+    let number = end_fault(t.due, decode(w));
+    if number != 0 {
+        return refused(number, end as u16);
+    }
+    sum = std::num::wrapping_add_u32(sum, w);
     if sum % 268435456 != 0 {
-        return refused(8, (words - 1) as u16);
+        return refused(8, end as u16);
     }
     let count = t.exclusions as usize;
     exclusions_at(image, words, &places, count, xs);

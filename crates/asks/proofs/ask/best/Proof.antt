@@ -10,8 +10,8 @@ use Rattle.asks.proofs.ask.best.Tie as tie
 returns : tie.Need-returns
 unfolding exclusionsIn
 returns c p u g =
-    let d = c .before .before .before .before .before .reduce .ensures in
-    let a = c .before .before .before .before .before .before .args in
+    let d = c .before .before .before .before .before .before .before .reduce .ensures in
+    let a = c .before .before .before .before .before .before .before .before .args in
     c .solve .ensures (meaning p u) (a .l) (a .k) (given-of p u (a .authorized) (exclusionsIn (a .xs .now) (a .count)) (a .l) (a .k) _ _ _ _ (d .0) (d .1) g)
 
 pub best-spec : {M : Type 1} → statement M

@@ -17,39 +17,40 @@ use Rattle.asks.proofs.ask.put_best.Tie as tie
 returns : tie.Need-returns
 unfolding lineOf
 returns c p g =
-    let s = c .before .before .before .before .before .before .before .before .before .before in
+    let s = c .before .before .before .before .before .before .before .before .before .before .before .before in
     let a = s .args in
     let l = c .before .before .before .before .line-of .ensures in
-    let q = asked-of p (a .u) (a .ledger .now) (a .roles) (values (a .granted .now)) (a .juniors .now) (a .authorized) (exclusionsIn (a .xs .now) (a .count)) _ _ g
+    let q = asked-of p (a .window .user) (a .ledger .now) (a .rules .head .roles) (values (a .granted .now)) (a .juniors .now) (a .authorized) (exclusionsIn (a .xs .now) (a .rules .count)) _ _ g
     (s .fits .authorized .fits) (c .before .before .before .before .before .before .carried .ensures) l in
-    answers-none p (a .ledger .now) (a .u) (a .k) _ _
-    (chosen-none p (a .u) (a .ledger .now) _ l _ (a .k) (value (a .lower)) (value (a .upper)) (a .first) (a .second)
-    (c .before .before .best .ensures p (a .u) q) (c .enum-told .given .1))
+    answers-none p (a .ledger .now) (a .window .user) (a .window .session) _ _
+    (chosen-none p (a .window .user) (a .ledger .now) _ l _ (a .window .session) (value (a .wanted .lower)) (value (a .wanted .upper)) (a .wanted .first) (a .wanted .second)
+    (c .before .before .best .ensures p (a .window .user) q) (c .enum-told .given .1))
 
 returns-2 : tie.Need-returns-2
 unfolding lineOf
 returns-2 c p g =
-    let s = c .before .before .before .before .before .before .before .before .before .before .before .before .before .before .before .before .before .before .before .before .before .before in
+    let s = c .before .before .before .before .before .before .before .before .before .before .before .before .before .before .before .before .before .before .before .before .before .before .before .before in
     let a = s .args in
     let l = c .before .before .before .before .before .before .before .before .before .before .before .before .before .before .before .before .line-of .ensures in
-    let q = asked-of p (a .u) (a .ledger .now) (a .roles) (values (a .granted .now)) (a .juniors .now) (a .authorized) (exclusionsIn (a .xs .now) (a .count)) _ _ g
+    let q = asked-of p (a .window .user) (a .ledger .now) (a .rules .head .roles) (values (a .granted .now)) (a .juniors .now) (a .authorized) (exclusionsIn (a .xs .now) (a .rules .count)) _ _ g
     (s .fits .authorized .fits) (c .before .before .before .before .before .before .before .before .before .before .before .before .before .before .before .before .before .before .carried .ensures) l in
-    let o = chosen-some p (a .u) (a .ledger .now) _ l _ (a .k) (value (a .lower)) (value (a .upper)) (a .first) (a .second)
-    (c .before .before .before .before .before .before .before .before .before .before .before .before .before .before .best .ensures p (a .u) q) _ (c .before .before .before .before .before .before .before .before .before .before .before .before .choice .given .1) in
-    let w = chosen-own p (a .u) (a .authorized) _ (a .k) (value (a .lower)) (value (a .upper)) (a .first) (a .second) _ (g .own-is) (s .fits .authorized .fits) o in
-    let k = c .before .before .before .carried-by .ensures (meaning p (a .u)) (carry-within p (a .u) (a .authorized) _ _ (q .carry) w) in
-    answers-some p (a .ledger .now) (a .u) (a .k) _ _ _ _ _ _ o k
+    let o = chosen-some p (a .window .user) (a .ledger .now) _ l _ (a .window .session) (value (a .wanted .lower)) (value (a .wanted .upper)) (a .wanted .first) (a .wanted .second)
+    (c .before .before .before .before .before .before .before .before .before .before .before .before .before .before .best .ensures p (a .window .user) q) _ (c .before .before .before .before .before .before .before .before .before .before .before .before .choice .given .1) in
+    let w = chosen-own p (a .window .user) (a .authorized) _ (a .window .session) (value (a .wanted .lower)) (value (a .wanted .upper)) (a .wanted .first) (a .wanted .second) _ (g .own-is) (s .fits .authorized .fits) o in
+    let k = c .before .before .before .carried-by .ensures (meaning p (a .window .user)) (carry-within p (a .window .user) (a .authorized) _ _ (q .carry) w) in
+    answers-some p (a .ledger .now) (a .window .user) (a .window .session) _ _ _ _ _ _ o k
     (c .before .before .before .before .before .before .before .before .put-line .ensures
-    ∙ ap (λ (x : Line). withLine (lineSize 4) (a .u) (writeLine x) (a .ledger .now)) (c .before .before .before .before .before .before .before .before .before .before .put-in .ensures ∙ ap (putIn (a .k) _) l))
+    ∙ ap (λ (x : Line). withLine (lineSize 4) (a .window .user) (writeLine x) (a .ledger .now)) (c .before .before .before .before .before .before .before .before .before .before .put-in .ensures ∙ ap (putIn (a .window .session) _) l))
     (c .before .before .fill .ensures)
 
 fill-requires : tie.Need-fill-requires
-fill-requires c κs = c .before .before .before .before .before .before .before .before .before .before .before .before .before .before .before .before .before .before .before .pre .5
+fill-requires c κs = c .before .before .before .before .before .before .before .before .before .before .before .before .before .before .before .before .before .before .before .before .before .pre .5
 
 pub put-best-spec : {M : Type 1} → statement M
 put-best-spec =
     tie.close
     (tie.spec
+    (λ c. search needs)
     (λ c κs. search needs)
     (λ c κs. search needs)
     (λ c κs. search needs)

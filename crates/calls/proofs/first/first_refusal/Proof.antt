@@ -17,15 +17,15 @@ use Rattle.calls.proofs.first.first_refusal.Tie as tie
 returns : tie.Need-returns
 unfolding lineSize
 returns c p h =
-    let a = c .before .before .before .args in
-    let e : p .head .users ≡ a .head .users = ap (λ (x : Head). x .users) (h .head-is) in
+    let a = c .before .before .before .before .args in
+    let e : p .head .users ≡ a .rules .head .users = ap (λ (x : Head). x .users) (h .head-is) in
     first9 4 p _ _ (λ q. c .if1 .taken (q ∙ ap (λ (n : ℕ). 80 * n) e))
 
 returns-2 : tie.Need-returns-2
 unfolding lineSize
 returns-2 c p h =
-    let a = c .before .before .before .before .args in
-    let e : p .head .users ≡ a .head .users = ap (λ (x : Head). x .users) (h .head-is) in
+    let a = c .before .before .before .before .before .args in
+    let e : p .head .users ≡ a .rules .head .users = ap (λ (x : Head). x .users) (h .head-is) in
     first10 4 p _ _ (omega arith) (omega arith)
 
 line-of-requires : tie.Need-line-of-requires
@@ -36,20 +36,20 @@ returns-3 : tie.Need-returns-3
 unfolding lineSize lineOf
 returns-3 c p h =
     let l = c .before .before .before in
-    let a = l .before .before .before .before .before .args in
-    let e : p .head .users ≡ a .head .users = ap (λ (x : Head). x .users) (h .head-is) in
+    let a = l .before .before .before .before .before .before .args in
+    let e : p .head .users ≡ a .rules .head .users = ap (λ (x : Head). x .users) (h .head-is) in
     let m = meaning p (a .user) in
-    let s = c .before .sound .ensures m (held (a .head) (a .assigned .now) (exclusionsIn (a .xs .now) (a .count)) p (a .user) h) in
+    let s = c .before .sound .ensures m (held (a .rules .head) (a .assigned .now) (exclusionsIn (a .xs .now) (a .rules .count)) p (a .user) h) in
     first11 4 p _ _ (omega arith) (omega arith) (ap (sound 4 m) (sym (l .line-of .ensures)) ∙ sym s ∙ not-true _ (c .if3 .taken))
 
 returns-4 : tie.Need-returns-4
 unfolding lineSize lineOf
 returns-4 c p h =
     let l = c .before .before .before in
-    let a = l .before .before .before .before .before .args in
-    let e : p .head .users ≡ a .head .users = ap (λ (x : Head). x .users) (h .head-is) in
+    let a = l .before .before .before .before .before .before .args in
+    let e : p .head .users ≡ a .rules .head .users = ap (λ (x : Head). x .users) (h .head-is) in
     let m = meaning p (a .user) in
-    let s = c .before .sound .ensures m (held (a .head) (a .assigned .now) (exclusionsIn (a .xs .now) (a .count)) p (a .user) h) in
+    let s = c .before .sound .ensures m (held (a .rules .head) (a .assigned .now) (exclusionsIn (a .xs .now) (a .rules .count)) p (a .user) h) in
     first0 4 p _ _ (omega arith) (omega arith) (ap (sound 4 m) (sym (l .line-of .ensures)) ∙ sym s ∙ not-false _ (c .if3 .left))
 
 pub first-refusal-spec : {M : Type 1} → statement M

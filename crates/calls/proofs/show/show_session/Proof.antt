@@ -26,59 +26,59 @@ returns c p h eg ej =
     let f = c .before in
     let a = f .before .before .before .args in
     shows-refusal _ _ (a .ledger .now) (a .answer .now)
-    (stopped 4 p (a .ledger .now) (showBy (a .user) (a .session) (length (a .answer .now))) (f .first-refusal .result)
+    (stopped 4 p (a .ledger .now) (showBy (a .window .user) (a .window .session) (length (a .answer .now))) (f .first-refusal .result)
     (f .first-refusal .ensures p h) (c .if1 .taken))
 
 returns-2 : tie.Need-returns-2
 returns-2 c p h eg ej =
     let f = c .before .before in
     let a = f .before .before .before .args in
-    let r = ready-for 4 (a .head) (a .assigned .now) (exclusionsIn (a .xs .now) (a .count)) (a .ledger .now) (a .user) _ (f .first-refusal .ensures) (c .before .if1 .left) p h in
-    show12 4 p (a .ledger .now) (a .user) (a .session) (a .answer .now) r (c .if2 .taken)
+    let r = ready-for 4 (a .rules .head) (a .assigned .now) (exclusionsIn (a .xs .now) (a .rules .count)) (a .ledger .now) (a .window .user) _ (f .first-refusal .ensures) (c .before .if1 .left) p h in
+    show12 4 p (a .ledger .now) (a .window .user) (a .window .session) (a .answer .now) r (c .if2 .taken)
 
 line-of-requires : tie.Need-line-of-requires
 line-of-requires c κs =
     let f = c .before .before in
     let a = f .before .before .before .args in
-    room-for 4 (a .head) (a .assigned .now) (exclusionsIn (a .xs .now) (a .count)) (a .ledger .now) (a .user) _ (f .first-refusal .ensures) (c .before .if1 .left)
+    room-for 4 (a .rules .head) (a .assigned .now) (exclusionsIn (a .xs .now) (a .rules .count)) (a .ledger .now) (a .window .user) _ (f .first-refusal .ensures) (c .before .if1 .left)
 
 returns-3 : tie.Need-returns-3
 unfolding lineOf
 returns-3 c p h eg ej =
     let f = c .before .before .before .before .before in
     let a = f .before .before .before .args in
-    let r = ready-for 4 (a .head) (a .assigned .now) (exclusionsIn (a .xs .now) (a .count)) (a .ledger .now) (a .user) _ (f .first-refusal .ensures) (c .before .before .before .before .if1 .left) p h in
-    show13 4 p (a .ledger .now) (a .user) (a .session) (a .answer .now) r (c .before .before .before .if2 .left)
-    (ap (λ (x : Line). isOpen x (a .session)) (sym (c .before .before .line-of .ensures)) ∙ sym (c .before .is-open .ensures) ∙ not-true _ (c .if3 .taken))
+    let r = ready-for 4 (a .rules .head) (a .assigned .now) (exclusionsIn (a .xs .now) (a .rules .count)) (a .ledger .now) (a .window .user) _ (f .first-refusal .ensures) (c .before .before .before .before .if1 .left) p h in
+    show13 4 p (a .ledger .now) (a .window .user) (a .window .session) (a .answer .now) r (c .before .before .before .if2 .left)
+    (ap (λ (x : Line). isOpen x (a .window .session)) (sym (c .before .before .line-of .ensures)) ∙ sym (c .before .is-open .ensures) ∙ not-true _ (c .if3 .taken))
 
 returns-4 : tie.Need-returns-4
 unfolding lineOf
 returns-4 c p h eg ej =
     let f = c .before .before .before .before .before .before in
     let a = f .before .before .before .args in
-    let r = ready-for 4 (a .head) (a .assigned .now) (exclusionsIn (a .xs .now) (a .count)) (a .ledger .now) (a .user) _ (f .first-refusal .ensures) (c .before .before .before .before .before .if1 .left) p h in
-    show19 4 p (a .ledger .now) (a .user) (a .session) (a .answer .now) r (c .before .before .before .before .if2 .left)
-    (ap (λ (x : Line). isOpen x (a .session)) (sym (c .before .before .before .line-of .ensures)) ∙ sym (c .before .before .is-open .ensures)
+    let r = ready-for 4 (a .rules .head) (a .assigned .now) (exclusionsIn (a .xs .now) (a .rules .count)) (a .ledger .now) (a .window .user) _ (f .first-refusal .ensures) (c .before .before .before .before .before .if1 .left) p h in
+    show19 4 p (a .ledger .now) (a .window .user) (a .window .session) (a .answer .now) r (c .before .before .before .before .if2 .left)
+    (ap (λ (x : Line). isOpen x (a .window .session)) (sym (c .before .before .before .line-of .ensures)) ∙ sym (c .before .before .is-open .ensures)
     ∙ not-false _ (c .before .if3 .left)) (c .if4 .taken)
 
 returns-5 : tie.Need-returns-5
 unfolding lineOf sessionAt emptySession
 returns-5 c p h eg ej =
     let k = c .before .before .before .before in
-    let t = k .before .before .before .before in
+    let t = k .before .before .before .before .before in
     let o = t .before .before in
     let n = o .before in
     let f = n .before .before .before in
     let a = f .before .before .before .args in
     let l = n .line-of .ensures in
-    let r = ready-for 4 (a .head) (a .assigned .now) (exclusionsIn (a .xs .now) (a .count)) (a .ledger .now) (a .user) _ (f .first-refusal .ensures) (n .before .before .if1 .left) p h in
-    let g = show0 4 p (a .ledger .now) (a .user) (a .session) (a .answer .now) r (n .before .if2 .left)
-    (ap (λ (x : Line). isOpen x (a .session)) (sym l) ∙ sym (o .is-open .ensures) ∙ not-false _ (t .before .if3 .left)) (t .if4 .left) in
-    let s = ap (λ (x : Line). sessionAt x (a .session) .active) l in
-    let e = k .carried-by .ensures ∙ set-carries p (a .user) _ _ _ _ (ap (λ (x : Head). x .roles) (h .head-is)) eg ej in
+    let r = ready-for 4 (a .rules .head) (a .assigned .now) (exclusionsIn (a .xs .now) (a .rules .count)) (a .ledger .now) (a .window .user) _ (f .first-refusal .ensures) (n .before .before .if1 .left) p h in
+    let g = show0 4 p (a .ledger .now) (a .window .user) (a .window .session) (a .answer .now) r (n .before .if2 .left)
+    (ap (λ (x : Line). isOpen x (a .window .session)) (sym l) ∙ sym (o .is-open .ensures) ∙ not-false _ (t .before .if3 .left)) (t .if4 .left) in
+    let s = ap (λ (x : Line). sessionAt x (a .window .session) .active) l in
+    let e = k .carried-by .ensures ∙ set-carries p (a .window .user) _ _ _ _ (ap (λ (x : Head). x .roles) (h .head-is)) eg ej in
     record {
       number = g .number;
-      buffer = c .before .before .fill .ensures ∙ ap₂ (λ (x y : ℕ). bytesOf 8 x ++ bytesOf 32 y) s (e ∙ ap (carriedBy (meaning p (a .user))) s) ∙ g .buffer;
+      buffer = c .before .before .fill .ensures ∙ ap₂ (λ (x y : ℕ). bytesOf 8 x ++ bytesOf 32 y) s (e ∙ ap (carriedBy (meaning p (a .window .user))) s) ∙ g .buffer;
     }
 
 pub show-session-spec : {M : Type 1} → statement M

@@ -3,25 +3,27 @@
 -- Assumes nothing.
 use mathlib.Core.Path.{_≡_, refl, sym, ap, subst, _∙_}
 use mathlib.Core.List.{List, _++_, map}
-use Prim.Native.Nat.{ℕ, _≤_, _<_, _-_}
+use Prim.Native.Nat.{ℕ, _+_, _-_, _≤_, _<_}
 use native.Mathlib.Omega.{arith}
 use lib.ListN.{length, getD, take}
 use borrow.Author.Needs.{needs}
 use Rattle.sets.specs.Words.{values}
 use Rattle.model.specs.declared.Scan.{Scan}
-use Rattle.model.specs.Image.{assigning, scan, start}
+use Rattle.model.specs.declared.Checked.the-variants.{Refused}
+use Rattle.model.specs.Image.{wordAt, assigning, scan, start}
 use Rattle.model.specs.Policy.{entriesFrom, fold, granting, ordering}
 use Rattle.tables.specs.Tables.{exclusionAt}
-use Rattle.image.proofs.Turns.{due-of, stops, goes, ends, sum-right, sum-wrong}
+use Rattle.image.proofs.Turns.{due-of, stops, goes, sum-right, sum-wrong}
 use Rattle.image.proofs.Judged.{never}
-use Rattle.tables.proofs.Fills.{fold-next, fold-end}
-use Rattle.tables.proofs.Places.{placesFrom, exclusions-placed, places-next, places-end, length-noted, noted-below, none-noted, next-few}
+use Rattle.tables.proofs.Fills.{fold-next}
+use Rattle.tables.proofs.Places.{placesFrom, exclusions-placed, places-next, length-noted, noted-below, none-noted, next-few}
+use Rattle.tables.proofs.Last.{before-last, at-last, fold-last, places-last, scan-last}
 use Rattle.tables.proofs.read.read_words.Statement.{statement}
 use Rattle.tables.proofs.read.read_words.Tie as tie
 
 abbrev Inv-loop : tie.InvT-loop
-Inv-loop image words h first assigned₀ granted₀ juniors₀ xs places₀ t₀ sum₀ place₀ assigned granted juniors places t sum place =
-    (1 ≤ place) × (place ≤ words) × (scan image h (words - place) place assigned t sum ≡ scan image h (words - 1) 1 assigned₀ start first)
+Inv-loop image words h first assigned₀ granted₀ juniors₀ xs places₀ t₀ sum₀ end place₀ assigned granted juniors places t sum place =
+    (1 ≤ place) × (place ≤ words - 1) × (scan image h (words - place) place assigned t sum ≡ scan image h (words - 1) 1 assigned₀ start first)
     × (t .exclusions ≤ 32) × (length places ≡ 32) × ((j : ℕ) → getD places j 0 < words)
     × (fold assigning assigned (entriesFrom image (words - place) place) ≡ fold assigning assigned₀ (entriesFrom image (words - 1) 1))
     × (fold granting (values granted) (entriesFrom image (words - place) place) ≡ fold granting (values granted₀) (entriesFrom image (words - 1) 1))
@@ -29,11 +31,11 @@ Inv-loop image words h first assigned₀ granted₀ juniors₀ xs places₀ t₀
     × (take (t .exclusions) places ++ placesFrom image (words - place) place ≡ placesFrom image (words - 1) 1)
 
 abbrev μ-loop : tie.MeasureT-loop
-μ-loop image words h first assigned₀ granted₀ juniors₀ xs places₀ t₀ sum₀ place₀ assigned granted juniors places t sum place = words - place
+μ-loop image words h first assigned₀ granted₀ juniors₀ xs places₀ t₀ sum₀ end place₀ assigned granted juniors places t sum place = words - place
 
 loop-holds : tie.Need-loop-holds Inv-loop μ-loop
 unfolding start
-loop-holds c = (omega arith, omega arith, refl, omega arith, refl, none-noted 32 (c .before .args .words) (c .before .pre .1), refl, refl, refl, refl)
+loop-holds c = (omega arith, omega arith, refl, omega arith, refl, none-noted 32 (c .before .args .words) (omega (arith, c .before .pre .1)), refl, refl, refl, refl)
 
 returns : tie.Need-returns Inv-loop μ-loop
 returns c =
@@ -44,7 +46,9 @@ returns c =
     let a = l .before .before .args in (
       c .refused .ensures
           ∙ stops (a .image .now) (a .h) (a .words) (l .loop .place) (l .loop .assigned) (l .loop .t) (l .loop .sum) (w .word-at .result) (d .decode .result) (f .step .result)
-          (w .before .loop-test .taken) (w .word-at .ensures) (d .decode .ensures .0) (f .step .ensures .faulty) (c .before .if1 .taken)
+          (omega (arith, w .before .loop-test .taken)) (w .word-at .ensures) (d .decode .ensures .0)
+          (before-last (a .h) (l .loop .assigned) (l .loop .t) (d .decode .result) (a .words) (l .loop .place) (f .step .result) (omega (arith, w .before .loop-test .taken)) (f .step .ensures .faulty))
+          (c .before .if1 .taken)
           ∙ l .loop .inv .2,
       λ g e. never _ _ g (sym (c .refused .ensures) ∙ e),
     )
@@ -65,13 +69,15 @@ loop-again c =
     let a = l .before .before .args in
     let e = d .decode .result .entry in
     let z = c .before .before .if1 .left in
-    let lt = w .before .loop-test .taken in
+    let in-loop = w .before .loop-test .taken in
+    let lt = let j : l .loop .place < a .words = omega (arith, in-loop) in j in
     let due = due-of (a .h) (l .loop .assigned) (l .loop .t) _ (d .decode .result) (f .step .result) (f .step .ensures .faulty) z in
     let noted = f .step .ensures .places-is z in (
       omega (arith, l .loop .inv .0),
-      omega (arith, lt),
+      omega (arith, in-loop),
       goes (a .image .now) (a .h) (a .words) (l .loop .place) (l .loop .assigned) (l .loop .t) (l .loop .sum) (w .word-at .result) (d .decode .result) (f .step .result)
-          lt (w .word-at .ensures) (d .decode .ensures .0) (f .step .ensures .faulty) z
+          lt (w .word-at .ensures) (d .decode .ensures .0)
+          (before-last (a .h) (l .loop .assigned) (l .loop .t) (d .decode .result) (a .words) (l .loop .place) (f .step .result) (omega (arith, in-loop)) (f .step .ensures .faulty)) z
           _ _ _ (f .step .ensures .assigned-is z) (c .before .next .ensures) (c .wrapping-add-u32 .ensures)
           ∙ l .loop .inv .2,
       subst (λ (x : Scan). x .exclusions ≤ 32) (sym (c .before .next .ensures)) (next-few (l .loop .t) e due (l .loop .inv .3)),
@@ -92,41 +98,84 @@ loop-again c =
           ∙ l .loop .inv .9,
     )
 
+-- where the loop ends is the place of the last word
+last-place : (n p : ℕ) → 2 ≤ n → p ≤ n - 1 → n - 1 ≤ p → p + 1 ≡ n
+last-place n p a b c = omega arith
+
+end-place : (n p : ℕ) → p + 1 ≡ n → n - 1 ≡ p
+end-place n p e = omega arith
+
 returns-2 : tie.Need-returns-2 Inv-loop μ-loop
 returns-2 c =
-    let l = c .before .before .before in
-    let a = l .before .before .args in (
+    let f = c .before .before in
+    let w = f .before .before in
+    let l = w .before .before in
+    let a = l .before .before .args in
+    let p = last-place _ _ (l .before .before .pre .1) (l .loop .inv .1) (w .before .loop-test .left) in
+    let q = end-place _ _ p in (
       c .refused2 .ensures
-          ∙ sym (ends (a .image .now) (a .h) (a .words) (l .loop .place) (l .loop .assigned) (l .loop .t) (l .loop .sum) (c .before .before .loop-test .left) (l .loop .inv .1)
-          ∙ sum-wrong (a .h) (a .words) (l .loop .sum) (c .before .if2 .taken))
+          ∙ ap (Refused (f .end-fault .result)) q
+          ∙ stops (a .image .now) (a .h) (a .words) (l .loop .place) (l .loop .assigned) (l .loop .t) (l .loop .sum) (w .word-at2 .result) (f .before .decode2 .result) (f .end-fault .result)
+          (omega (arith, p)) (w .word-at2 .ensures ∙ ap (wordAt (a .image .now)) q) (f .before .decode2 .ensures .0)
+          (at-last (a .h) (l .loop .assigned) (l .loop .t) (f .before .decode2 .result) (a .words) (l .loop .place) (f .end-fault .result) p
+          (f .end-fault .ensures .0 (a .h) (l .loop .assigned) (l .loop .t) refl)) (c .before .if2 .taken)
           ∙ l .loop .inv .2,
       λ g e. never _ _ g (sym (c .refused2 .ensures) ∙ e),
     )
 
+returns-3 : tie.Need-returns-3 Inv-loop μ-loop
+returns-3 c =
+    let u = c .before .before in
+    let f = u .before .before in
+    let w = f .before .before in
+    let l = w .before .before in
+    let a = l .before .before .args in
+    let z = u .before .if2 .left in
+    let p = last-place _ _ (l .before .before .pre .1) (l .loop .inv .1) (w .before .loop-test .left) in (
+      c .refused3 .ensures
+          ∙ sym (sum-wrong (a .h) (a .words) (u .wrapping-add-u322 .result) (c .before .if3 .taken))
+          ∙ scan-last (a .image .now) (a .words) (l .loop .place) (w .word-at2 .result) (f .before .decode2 .result) p (w .word-at2 .ensures ∙ ap (wordAt (a .image .now)) (end-place _ _ p))
+          (f .before .decode2 .ensures .0) (f .end-fault .ensures .1 z) (a .h) (l .loop .assigned) (l .loop .t) (f .end-fault .result)
+          (f .end-fault .ensures .0 (a .h) (l .loop .assigned) (l .loop .t) refl) z (l .loop .sum) _ (u .wrapping-add-u322 .ensures)
+          ∙ l .loop .inv .2,
+      λ g e. never _ _ g (sym (c .refused3 .ensures) ∙ e),
+    )
+
 exclusions-at-requires : tie.Need-exclusions-at-requires Inv-loop μ-loop
 exclusions-at-requires c κs =
-    let l = c .before .before .before .before .before in
+    let l = c .before .before .before .before .before .before .before .before .before .before in
     let a = l .before .before in
     (a .pre .0, a .pre .2, l .loop .inv .3, l .loop .inv .4, l .loop .inv .5, a .pre .3)
 
-returns-3 : tie.Need-returns-3 Inv-loop μ-loop
-returns-3 c =
+returns-4 : tie.Need-returns-4 Inv-loop μ-loop
+unfolding assigning granting ordering
+returns-4 c =
     let x = c .exclusions-at in
-    let l = c .before .before .before .before .before .before in
+    let u = c .before .before .before .before .before in
+    let f = u .before .before in
+    let w = f .before .before in
+    let l = w .before .before in
     let a = l .before .before .args in
-    let n = c .before .before .before .before .before .loop-test .left in
-    let one = l .before .before .pre .1 in (
-      sym (ends (a .image .now) (a .h) (a .words) (l .loop .place) (l .loop .assigned) (l .loop .t) (l .loop .sum) n (l .loop .inv .1)
-          ∙ sum-right (a .h) (a .words) (l .loop .sum) (c .before .before .before .before .if2 .left))
+    let s = a .image .now in
+    let z = u .before .if2 .left in
+    let p = last-place _ _ (l .before .before .pre .1) (l .loop .inv .1) (w .before .loop-test .left) in
+    let ew = w .word-at2 .ensures ∙ ap (wordAt s) (end-place _ _ p) in
+    let ed = f .before .decode2 .ensures .0 in
+    let ee = f .end-fault .ensures .1 z in
+    let ef = f .end-fault .ensures .0 (a .h) (l .loop .assigned) (l .loop .t) refl in (
+      sym (sum-right (a .h) (a .words) (u .wrapping-add-u322 .result) (c .before .before .before .before .if3 .left))
+          ∙ scan-last s (a .words) (l .loop .place) (w .word-at2 .result) (f .before .decode2 .result) p ew ed ee (a .h) (l .loop .assigned) (l .loop .t) (f .end-fault .result) ef z
+          (l .loop .sum) _ (u .wrapping-add-u322 .ensures)
           ∙ l .loop .inv .2,
       λ g e. record {
-        assigned-is = fold-end assigning (a .image .now) (a .words) (l .loop .place) (l .loop .assigned) n ∙ l .loop .inv .6;
-        granted-is = fold-end granting (a .image .now) (a .words) (l .loop .place) (values (l .loop .granted)) n ∙ l .loop .inv .7;
-        juniors-is = fold-end ordering (a .image .now) (a .words) (l .loop .place) (l .loop .juniors) n ∙ l .loop .inv .8;
+        assigned-is = fold-last s (a .words) (l .loop .place) _ _ p ew ed ee assigning (l .loop .assigned) refl ∙ l .loop .inv .6;
+        granted-is = fold-last s (a .words) (l .loop .place) _ _ p ew ed ee granting (values (l .loop .granted)) refl ∙ l .loop .inv .7;
+        juniors-is = fold-last s (a .words) (l .loop .place) _ _ p ew ed ee ordering (l .loop .juniors) refl ∙ l .loop .inv .8;
         exclusions-are =
             x .ensures .0
-            ∙ ap (map (exclusionAt (a .image .now) (a .words))) (places-end (a .image .now) (a .words) (l .loop .place) (l .loop .t) (l .loop .places) n ∙ l .loop .inv .9)
-            ∙ sym (exclusions-placed (a .image .now) (a .words) (a .words - 1) 1 (omega (arith, one)));
+            ∙ ap (map (exclusionAt s (a .words)))
+            (places-last s (a .words) (l .loop .place) _ _ p ew ed ee (a .h) (l .loop .assigned) (l .loop .t) (f .end-fault .result) ef z (l .loop .places) (l .loop .inv .4) ∙ l .loop .inv .9)
+            ∙ sym (exclusions-placed s (a .words) (a .words - 1) 1 (omega (arith, l .before .before .pre .1)));
         few = l .loop .inv .3;
         full = x .ensures .1;
       },
@@ -138,10 +187,10 @@ read-words-spec =
     (tie.spec
     Inv-loop
     μ-loop
+    (λ c. search needs)
     loop-holds
     (λ c κs. search needs)
     (λ c κs. search needs)
-    (λ c. search needs)
     (λ c κs. search needs)
     (λ c. search needs)
     (λ c κs. search needs)
@@ -151,10 +200,16 @@ read-words-spec =
     (λ c. search needs)
     (λ c. search needs)
     loop-again
-    (λ c. search needs)
+    (λ c κs. search needs)
+    (λ c κs. search needs)
+    (λ c κs. search needs)
     (λ c. search needs)
     (λ c κs. search needs)
     returns-2
+    (λ c κs. search needs)
+    (λ c. search needs)
+    (λ c κs. search needs)
+    returns-3
     (λ c. search needs)
     exclusions-at-requires
-    returns-3)
+    returns-4)

@@ -4,7 +4,6 @@ use mathlib.Core.Path.{ap, _∙_}
 use borrow.Author.Needs.{needs}
 use Rattle.model.specs.Image.{sparing}
 use Rattle.model.specs.Policy.{granting}
-use Rattle.tables.proofs.Fills.{row-put}
 use Rattle.tables.proofs.read.take_grant.Statement.{statement}
 use Rattle.tables.proofs.read.take_grant.Tie as tie
 
@@ -15,8 +14,8 @@ returns c =
 returns-2 : tie.Need-returns-2
 unfolding granting
 returns-2 c =
-    let f = c .before .before .before .before in
-    (λ rows t. f .spared .ensures ∙ ap (sparing (f .before .before .args .spare)) (f .before .grant-fault .ensures rows t), λ z. row-put (f .before .before .args .granted .now) _ _ (c .perm-with .result) (c .perm-with .ensures))
+    let f = c .before .before .before in
+    (λ rows t. f .spared .ensures ∙ ap (sparing (f .before .before .args .spare)) (f .before .grant-fault .ensures rows t), λ z. c .perm-put .ensures)
 
 pub take-grant-spec : {M : Type 1} → statement M
-take-grant-spec = tie.close (tie.spec (λ c κs. search needs) (λ c κs. search needs) returns (λ c. search needs) (λ c. search needs) (λ c. search needs) (λ c κs. search needs) (λ c. search needs) (λ c. search needs) returns-2)
+take-grant-spec = tie.close (tie.spec (λ c κs. search needs) (λ c κs. search needs) returns (λ c κs. search needs) returns-2)
