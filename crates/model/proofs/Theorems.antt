@@ -21,6 +21,7 @@ use Rattle.model.specs.Policy.{policyOf, entriesOf, withMembers, reached
 use Rattle.model.specs.Choice.{carriedBy, admissible}
 use Rattle.model.specs.Ward.{holds, starred, settled}
 use Rattle.model.specs.Refusals.{isJudged, judgedImages}
+use Rattle.model.specs.Returned.{isSeen, returnedCases, isChecked, checkedCases}
 use Rattle.model.specs.Read.{ReadOff}
 use Rattle.model.specs.Chains.{over, Chain, Carries, Provides}
 use Rattle.model.specs.Ranges.{InRange}
@@ -56,6 +57,14 @@ settled-cases = Cases.settled-hold
 -- images with their refusals 1 to 8, each clause and each tie
 pub judged-cases : all isJudged judgedImages ≡ true
 judged-cases = Cases.judged-so
+
+-- what a host sees: the number that a call returns, and the bytes of its answer buffer and of the ledger after it
+pub returned-cases : all isSeen returnedCases ≡ true
+returned-cases = Cases.returned-so
+
+-- what a check returns
+pub checked-cases : all isChecked checkedCases ≡ true
+checked-cases = Cases.checked-so
 
 -- ---- policies
 
