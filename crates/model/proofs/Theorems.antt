@@ -17,7 +17,7 @@ use Rattle.model.specs.declared.Checked.the-variants.{Accepted}
 use Rattle.model.specs.Tests.{all}
 use Rattle.model.specs.Sets.{has, count}
 use Rattle.model.specs.Image.{judge}
-use Rattle.model.specs.Policy.{policyOf, entriesOf, withMembers, reached, carriedTable, authorized, meaning}
+use Rattle.model.specs.Policy.{Meaning, policyOf, entriesOf, withMembers, reached, carriedTable, authorized, meaning}
 use Rattle.model.specs.Choice.{carriedBy, admissible}
 use Rattle.model.specs.Ward.{holds, starred, settled}
 use Rattle.model.specs.Refusals.{isJudged, judgedImages}
@@ -25,7 +25,7 @@ use Rattle.model.specs.Returned.{isSeen, returnedCases, isChecked, check
 use Rattle.model.specs.Read.{ReadOff}
 use Rattle.model.specs.Chains.{over, Chain, Carries, Provides}
 use Rattle.model.specs.Ranges.{InRange}
-use Rattle.model.specs.Chosen.{ChoiceIs}
+use Rattle.model.specs.Chosen.{ChoiceIs, RankIs}
 use Rattle.model.specs.Conditions.{Conditions, Admitted}
 use Rattle.model.specs.Independence.{Run, SameFor, Independent}
 use Rattle.model.specs.Kept.{LineKept, RunKept}
@@ -35,6 +35,7 @@ use Rattle.model.proofs.Tables
 use Rattle.model.proofs.Accepted
 use Rattle.model.proofs.Closure
 use Rattle.model.proofs.AnyWidth
+use Rattle.model.proofs.Ranks
 use Rattle.model.proofs.Choices
 use Rattle.model.proofs.ConditionsProof
 use Rattle.model.proofs.IndependenceProof
@@ -65,6 +66,12 @@ returned-cases = Cases.returned-so
 -- what a check returns
 pub checked-cases : all isChecked checkedCases ≡ true
 checked-cases = Cases.checked-so
+
+-- ---- the order of role sets
+
+-- better is by the counts of permissions and of roles under the two objectives, then by the lower set number
+pub rank-is : (m : Meaning) → RankIs m
+rank-is = Ranks.rank-is
 
 -- ---- policies
 
