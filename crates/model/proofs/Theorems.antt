@@ -28,6 +28,7 @@ use Rattle.model.specs.Ranges.{InRange}
 use Rattle.model.specs.Chosen.{ChoiceIs, RankIs}
 use Rattle.model.specs.Conditions.{Conditions, Admitted}
 use Rattle.model.specs.Independence.{Run, SameFor, Independent}
+use Rattle.model.specs.Apart.{Apart}
 use Rattle.model.specs.Kept.{LineKept, RunKept}
 use Rattle.model.specs.Frames.{LineBytes, StepFrame, ShowKeeps, AnswerKeepsLength, SessionFrames}
 use Rattle.model.proofs.Cases
@@ -39,6 +40,7 @@ use Rattle.model.proofs.Ranks
 use Rattle.model.proofs.Choices
 use Rattle.model.proofs.ConditionsProof
 use Rattle.model.proofs.IndependenceProof
+use Rattle.model.proofs.ApartProof
 use Rattle.model.proofs.KeptProof
 use Rattle.model.proofs.RoundTrip
 use Rattle.model.proofs.FramesProof
@@ -166,6 +168,10 @@ module _ (s : List ℕ) (h : Head) (accepted : judge s ≡ Accepted h) where
 -- two runs that are the same for a user tell that user the same, which is what the session rules give
 pub independence : (W u : ℕ) (r s : Run W) → SameFor W u r s → Independent W u r s
 independence = IndependenceProof.independence
+
+-- two runs that differ in all that others may change are the same for a user
+pub apart-runs : Apart
+apart-runs = ApartProof.apart
 
 -- ---- bytes
 

@@ -12,6 +12,7 @@ pub mod Frames
 pub mod Ward
 pub mod Refusals
 pub mod Returned
+pub mod Apart
 pub mod Chains
 pub mod Read
 pub mod Chosen
