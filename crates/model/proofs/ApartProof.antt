@@ -4,7 +4,8 @@ use mathlib.Core.Path.{_≡_, refl}
 use mathlib.Core.Bool.{Bool, true, false, _||_}
 use lib.Dec.{lit<}
 use Rattle.model.specs.declared.Head.{Head}
-use Rattle.model.specs.Policy.{policyOf, excludes, sameExclusion, kindNumber, Agree}
+use Rattle.model.specs.declared.Kind.the-variants.{MsDmer}
+use Rattle.model.specs.Policy.{policyOf, onlyFor, excludes, sameExclusion, Agree}
 use Rattle.model.specs.Independence.{Run, SameFor, callsOf, firstLine}
 use Rattle.model.specs.Apart.{oneImage, otherImage, oneLedger, otherLedger, oneList, otherList, Apart}
 use Rattle.model.proofs.Computing.{computing}
@@ -33,13 +34,18 @@ agree =
       own = refl;
       grants = refl;
       seniors = refl;
-      exclusions = λ x. twice (sameExclusion (record { kind = _; limit = 2; members = 3 }) x);
+      exclusions = λ x. twice (sameExclusion (record { kind = MsDmer; limit = 2; members = 3 }) x);
     }
 
 same-for-user : SameFor 4 0 one other
 unfolding computing one other two-users callsOf firstLine oneImage otherImage oneLedger otherLedger oneList otherList
 same-for-user = record { agree = agree; below = lit< tt; line = refl; calls = refl }
 
+fed : onlyFor 0 (policyOf oneImage) .assigned ≡ onlyFor 0 (policyOf otherImage) .assigned
+unfolding computing onlyFor oneImage otherImage
+fed = refl
+
 pub apart : Apart
 unfolding one other
-apart = record { one = one; other = other; images = (refl, refl); ledgers = (refl, refl); calls = (refl, refl); same = same-for-user }
+apart =
+    record { one = one; other = other; images = (refl, refl); ledgers = (refl, refl); calls = (refl, refl); same = same-for-user; fed = fed }

@@ -5,6 +5,7 @@ use mathlib.Core.Path.{_≡_}
 use mathlib.Core.List.{List, [], _∷_, _++_}
 use Prim.Native.Nat.{ℕ}
 use lib.ListN.{replicate}
+use Rattle.model.specs.Policy.{policyOf, onlyFor}
 use Rattle.model.specs.Run.{Call, openBy, closeBy}
 use Rattle.model.specs.Independence.{Run, SameFor}
 use Rattle.model.specs.Ward.{imageBytes, ended, opens, asks, shows, damaged}
@@ -40,7 +41,7 @@ oneList = opens ∷ asks 0 0x3 0x1f 1 0 ∷ shows 0 ∷ []
 unfoldable pub otherList : List Call
 otherList = openBy 1 ∷ opens ∷ closeBy 1 0 ∷ openBy 2 ∷ asks 0 0x3 0x1f 1 0 ∷ shows 0 ∷ openBy 1 ∷ []
 
--- these are two runs, and they are the same for the first user
+-- these are two runs, and they are the same for the first user; the session rules are fed no other user's assignments, so the same ones
 pub record Apart : Type 0 where
   pub one : Run 4
   pub other : Run 4
@@ -48,3 +49,4 @@ pub record Apart : Type 0 where
   pub ledgers : (one .ledger ≡ oneLedger) × (other .ledger ≡ otherLedger)
   pub calls : (one .calls ≡ oneList) × (other .calls ≡ otherList)
   pub same : SameFor 4 0 one other
+  pub fed : onlyFor 0 (policyOf oneImage) .assigned ≡ onlyFor 0 (policyOf otherImage) .assigned
