@@ -291,11 +291,11 @@ ranked =
     ∷ grantWord 62 255 ∷ grantWord 63 64 ∷ grantWord 63 128 ∷ grantWord 63 192 ∷ [])
 
 -- on a line with session 0 open, the roles and permissions fill the answer, and the roles go into the line
-unfoldable pub ranks : Call → List ℕ → List ℕ → HostCase
-ranks c roles permissions =
-    under ranked opened0 (fills c (full roles permissions) (two (0 ∷ []) roles (session roles roles) idle) ∷ [])
+unfoldable pub ranks : List ℕ → Call → List ℕ → List ℕ → HostCase
+ranks image c roles permissions =
+    under image opened0 (fills c (full roles permissions) (two (0 ∷ []) roles (session roles roles) idle) ∷ [])
 
--- what some of the roles carry
+-- all that they carry
 unfoldable pub allRanked : List ℕ
 allRanked = 64 ∷ 127 ∷ 128 ∷ 192 ∷ 255 ∷ []
 
@@ -303,20 +303,28 @@ allRanked = 64 ∷ 127 ∷ 128 ∷ 192 ∷ 255 ∷ []
 unfoldable pub rankedBy : ℕ → ℕ → Call
 rankedBy a b = asksFor 0 (64 ∷ 192 ∷ []) allRanked a b
 
--- each pair of objectives
 unfoldable pub objectives : List HostCase
 objectives =
-    ranks (rankedBy 0 0) (61 ∷ 62 ∷ []) (64 ∷ 127 ∷ 192 ∷ 255 ∷ [])
-    ∷ ranks (rankedBy 0 1) (63 ∷ []) (64 ∷ 128 ∷ 192 ∷ [])
-    ∷ ranks (rankedBy 0 2) (61 ∷ 62 ∷ 63 ∷ []) allRanked
-    ∷ ranks (rankedBy 1 0) (63 ∷ []) (64 ∷ 128 ∷ 192 ∷ [])
-    ∷ ranks (rankedBy 1 1) (63 ∷ []) (64 ∷ 128 ∷ 192 ∷ [])
-    ∷ ranks (rankedBy 1 2) (61 ∷ 63 ∷ []) (64 ∷ 128 ∷ 192 ∷ [])
-    ∷ ranks (rankedBy 2 0) (62 ∷ 63 ∷ []) allRanked
-    ∷ ranks (rankedBy 2 1) (62 ∷ 63 ∷ []) allRanked
-    ∷ ranks (rankedBy 2 2) (61 ∷ 62 ∷ 63 ∷ []) allRanked
-    -- a short ask is answered as 0, 0 is, and not as any other pair
-    ∷ ranks (asksBriefly 0 (64 ∷ 192 ∷ []) allRanked) (61 ∷ 62 ∷ []) (64 ∷ 127 ∷ 192 ∷ 255 ∷ [])
+    ranks ranked (rankedBy 0 1) (63 ∷ []) (64 ∷ 128 ∷ 192 ∷ [])
+    ∷ ranks ranked (rankedBy 1 2) (61 ∷ 63 ∷ []) (64 ∷ 128 ∷ 192 ∷ [])
+    ∷ ranks ranked (rankedBy 2 0) (62 ∷ 63 ∷ []) allRanked
+    ∷ ranks ranked (rankedBy 2 2) (61 ∷ 62 ∷ 63 ∷ []) allRanked
+    ∷ []
+
+-- Role 0 carries 0 and 2, role 1 1, role 2 all three, role 3 0, role 4 0 and 1. For 0 and 1, the best sets are the roles 0 and 1 by the
+-- objectives 0, 0, role 2 by 0, 1, the roles 1 and 3 by 1, 0, and role 4 by 1, 1.
+unfoldable pub fiveRoles : List ℕ
+fiveRoles =
+    imageOf
+    (headWord 1 5 3 ∷ assignWord 0 0 ∷ assignWord 0 1 ∷ assignWord 0 2 ∷ assignWord 0 3 ∷ assignWord 0 4 ∷ grantWord 0 0 ∷ grantWord 0 2
+    ∷ grantWord 1 1 ∷ grantWord 2 0 ∷ grantWord 2 1 ∷ grantWord 2 2 ∷ grantWord 3 0 ∷ grantWord 4 0 ∷ grantWord 4 1 ∷ [])
+
+unfoldable pub shortObjectives : List HostCase
+shortObjectives =
+    ranks fiveRoles (asksFor 0 (0 ∷ 1 ∷ []) (0 ∷ 1 ∷ 2 ∷ []) 0 0) (0 ∷ 1 ∷ []) (0 ∷ 1 ∷ 2 ∷ [])
+    ∷ ranks fiveRoles (asksFor 0 (0 ∷ 1 ∷ []) (0 ∷ 1 ∷ 2 ∷ []) 1 1) (4 ∷ []) (0 ∷ 1 ∷ [])
+    -- a short ask is answered as 0, 0 is
+    ∷ ranks fiveRoles (asksBriefly 0 (0 ∷ 1 ∷ []) (0 ∷ 1 ∷ 2 ∷ [])) (0 ∷ 1 ∷ []) (0 ∷ 1 ∷ 2 ∷ [])
     ∷ []
 
 -- ---- the highest user, roles, permissions and session
@@ -354,11 +362,13 @@ lastUser =
 unfoldable pub returnedCases : List HostCase
 returnedCases =
     sixLines ∷ shortAsks ∷ fourSessions
-    -- a word of no kind at place 11; a length; a head
+    -- a last word that is no end, at place 11; a length; a head
     ∷ refusedImage (imageBytes (take 12 imageA)) 2819
     ∷ refusedImage [] 1
     ∷ refusedImage (imageBytes (drop 1 imageA)) 2
     -- tests run in number order: 9 to 13, with nothing behind them right
+    ∷ under (imageBytes imageA) damaged (leaves damaged (openBy 1) 0 10 ∷ [])
+    ∷ under (imageBytes imageA) (take 79 damaged) (leaves (take 79 damaged) (openBy 1) 0 9 ∷ [])
     ∷ refusesAll (replicate 79 0) 1 4 9
     ∷ refusesAll (replicate 81 0) 1 4 9
     ∷ refusesAll [] 1 4 9
@@ -369,7 +379,7 @@ returnedCases =
     ∷ refusesAll (two (1 ∷ []) [] idle idle) 0 3 13
     ∷ unsoundLine (imageBytes imageA) damaged
     ∷ refusedAsks
-    ∷ (linesJudged ++ (objectives ++ (lastUser ∷ [])))
+    ∷ (linesJudged ++ (objectives ++ (shortObjectives ++ (lastUser ∷ []))))
 
 -- ---- what a check returns
 
