@@ -5,6 +5,7 @@ use mathlib.Core.Bool.{true}
 use Rattle.model.specs.Tests.{all}
 use Rattle.model.specs.Ward.{holds, starred, settled}
 use Rattle.model.specs.Refusals.{isJudged, judgedImages}
+use Rattle.model.specs.Returned.{isSeen, returnedCases, isChecked, checkedCases}
 use Rattle.model.proofs.Computing.{computing}
 
 pub starred-hold : all holds starred ≡ true
@@ -18,3 +19,11 @@ settled-hold = refl
 pub judged-so : all isJudged judgedImages ≡ true
 unfolding computing
 judged-so = refl
+
+pub returned-so : all isSeen returnedCases ≡ true
+unfolding computing
+returned-so = refl
+
+pub checked-so : all isChecked checkedCases ≡ true
+unfolding computing
+checked-so = refl

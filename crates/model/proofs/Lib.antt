@@ -21,6 +21,7 @@ pub mod LedgerLaws
 pub mod RoundTrip
 pub mod Meanings
 pub mod IndependenceProof
+pub mod ApartProof
 pub mod FramesProof
 pub mod AnswerProof
 pub mod SessionFrameProof

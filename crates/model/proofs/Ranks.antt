@@ -1,16 +1,18 @@
--- The order of role sets by the two objectives and the set number: irreflexive, transitive and total.
+-- The order of role sets by the two objectives and the set number: irreflexive, transitive and total, and the one that the counts make.
 -- Assumes nothing.
-use mathlib.Core.Path.{_≡_, refl, sym, _∙_}
+use mathlib.Core.Path.{_≡_, refl, sym, ap, _∙_}
 use mathlib.Core.Logic.{_⊎_, inl, inr}
 use mathlib.Core.Bool.{Bool, true, false, _&&_, _||_, or-true}
-use Prim.Native.Nat.{ℕ, _<_}
+use Prim.Native.Nat.{ℕ, zero, suc, _+_, _-_, _≤_, _<_}
 use native.Mathlib.Omega.{arith}
 use native.Mathlib.Decide.{decLt}
 use lib.Dec.{eqb, ltb}
 use borrow.Author.Tests.{eqb-true, eq-eqb, lt-ltb, ltb-true}
+use Rattle.model.specs.Sets.{has, one, countTo, count}
 use Rattle.model.specs.Policy.{Meaning}
-use Rattle.model.specs.Choice.{better, earlier, permissionCost, roleCost}
-use Rattle.model.proofs.Bools.{and-l, and-r, or-cases, not-both}
+use Rattle.model.specs.Choice.{carriedBy, cost, better, earlier, permissionCost, roleCost}
+use Rattle.model.specs.Chosen.{before, RankIs}
+use Rattle.model.proofs.Bools.{and-l, and-r, or-cases, not-both, bool-ext}
 
 -- `earlier` as a fact about the numbers
 abbrev pub Earlier : ℕ → ℕ → ℕ → ℕ → ℕ → ℕ → Type 0
@@ -114,3 +116,48 @@ module _ (m : Meaning) (a b : ℕ) where
   pub better-total : (s t : ℕ) → better m a b s t ≡ false → better m a b t s ≡ false → s ≡ t
   unfolding better
   better-total s t = earlier-total (permissionCost m a s) (permissionCost m a t) (roleCost b s) (roleCost b t) s t
+
+-- ---- the order is by counts
+
+one-most : (b : Bool) → one b ≤ 1
+one-most true = omega arith
+one-most false = omega arith
+
+-- at most d numbers below d pass a test
+count-most : (f : ℕ → Bool) (d : ℕ) → countTo f d ≤ d
+unfolding countTo
+count-most f zero = omega arith
+count-most f (suc d) = omega (arith, one-most (f d), count-most f d)
+
+module _ (n k : ℕ) (small : n ≤ 256) (short : k ≤ 256) where
+  -- up to 256, the lower distance from 256 is the higher number
+  most-first : ltb (256 - n) (256 - k) ≡ ltb k n
+  most-first =
+      bool-ext (ltb (256 - n) (256 - k)) (ltb k n) (λ e. let h = ltb-true (256 - n) (256 - k) e in lt-ltb k n (omega arith))
+      (λ e. let h = ltb-true k n e in lt-ltb (256 - n) (256 - k) (omega arith))
+
+  most-same : eqb (256 - n) (256 - k) ≡ eqb n k
+  most-same =
+      bool-ext (eqb (256 - n) (256 - k)) (eqb n k) (λ e. let h = eqb-true (256 - n) (256 - k) e in eq-eqb n k (omega arith))
+      (λ e. let h = eqb-true n k e in eq-eqb (256 - n) (256 - k) (omega arith))
+
+  -- costs compare as the objective says of the counts
+  by-cost : (a : ℕ) (rest : Bool) → (ltb (cost a n) (cost a k) || (eqb (cost a n) (cost a k) && rest)) ≡ before a n k rest
+  unfolding cost before
+  by-cost zero rest = refl
+  by-cost (suc zero) rest = refl
+  by-cost (suc (suc a)) rest = rw (most-first, most-same)
+
+pub rank-is : (m : Meaning) → RankIs m
+unfolding better earlier permissionCost roleCost
+rank-is m a b s t =
+    by-cost (count 256 (carriedBy m s)) (count 256 (carriedBy m t)) (most 256 (carriedBy m s)) (most 256 (carriedBy m t)) a
+    (ltb (roleCost b s) (roleCost b t) || (eqb (roleCost b s) (roleCost b t) && ltb s t))
+    ∙ ap (before a (count 256 (carriedBy m s)) (count 256 (carriedBy m t)))
+    (by-cost (count 64 s) (count 64 t) (few s) (few t) b (ltb s t))
+  where
+    most : (d x : ℕ) → count d x ≤ d
+    most d x = unfold count in count-most (has x) d
+
+    few : (x : ℕ) → count 64 x ≤ 256
+    few x = omega (arith, most 64 x)

@@ -17,16 +17,18 @@ use Rattle.model.specs.declared.Checked.the-variants.{Accepted}
 use Rattle.model.specs.Tests.{all}
 use Rattle.model.specs.Sets.{has, count}
 use Rattle.model.specs.Image.{judge}
-use Rattle.model.specs.Policy.{policyOf, entriesOf, withMembers, reached, carriedTable, authorized, meaning}
+use Rattle.model.specs.Policy.{Meaning, policyOf, entriesOf, withMembers, reached, carriedTable, authorized, meaning}
 use Rattle.model.specs.Choice.{carriedBy, admissible}
 use Rattle.model.specs.Ward.{holds, starred, settled}
 use Rattle.model.specs.Refusals.{isJudged, judgedImages}
+use Rattle.model.specs.Returned.{isSeen, returnedCases, isChecked, checkedCases}
 use Rattle.model.specs.Read.{ReadOff}
 use Rattle.model.specs.Chains.{over, Chain, Carries, Provides}
 use Rattle.model.specs.Ranges.{InRange}
-use Rattle.model.specs.Chosen.{ChoiceIs}
+use Rattle.model.specs.Chosen.{ChoiceIs, RankIs}
 use Rattle.model.specs.Conditions.{Conditions, Admitted}
 use Rattle.model.specs.Independence.{Run, SameFor, Independent}
+use Rattle.model.specs.Apart.{Apart}
 use Rattle.model.specs.Kept.{LineKept, RunKept}
 use Rattle.model.specs.Frames.{LineBytes, StepFrame, ShowKeeps, AnswerKeepsLength, SessionFrames}
 use Rattle.model.proofs.Cases
@@ -34,9 +36,11 @@ use Rattle.model.proofs.Tables
 use Rattle.model.proofs.Accepted
 use Rattle.model.proofs.Closure
 use Rattle.model.proofs.AnyWidth
+use Rattle.model.proofs.Ranks
 use Rattle.model.proofs.Choices
 use Rattle.model.proofs.ConditionsProof
 use Rattle.model.proofs.IndependenceProof
+use Rattle.model.proofs.ApartProof
 use Rattle.model.proofs.KeptProof
 use Rattle.model.proofs.RoundTrip
 use Rattle.model.proofs.FramesProof
@@ -56,6 +60,20 @@ settled-cases = Cases.settled-hold
 -- images with their refusals 1 to 8, each clause and each tie
 pub judged-cases : all isJudged judgedImages ≡ true
 judged-cases = Cases.judged-so
+
+-- what a host sees: the number that a call returns, and the bytes of its answer buffer and of the ledger after it
+pub returned-cases : all isSeen returnedCases ≡ true
+returned-cases = Cases.returned-so
+
+-- what a check returns
+pub checked-cases : all isChecked checkedCases ≡ true
+checked-cases = Cases.checked-so
+
+-- ---- the order of role sets
+
+-- better is by the counts of permissions and of roles under the two objectives, then by the lower set number
+pub rank-is : (m : Meaning) → RankIs m
+rank-is = Ranks.rank-is
 
 -- ---- policies
 
@@ -150,6 +168,10 @@ module _ (s : List ℕ) (h : Head) (accepted : judge s ≡ Accepted h) where
 -- two runs that are the same for a user tell that user the same, which is what the session rules give
 pub independence : (W u : ℕ) (r s : Run W) → SameFor W u r s → Independent W u r s
 independence = IndependenceProof.independence
+
+-- two runs that differ in all that others may change are the same for a user
+pub apart-runs : Apart
+apart-runs = ApartProof.apart
 
 -- ---- bytes
 

@@ -1,13 +1,15 @@
--- What the choice gives: the admissible set that no admissible set is better than.
+-- What the choice gives: the admissible set that no admissible set is better than; and what better means, in counts.
 -- Assumes nothing.
 use mathlib.Core.Path.{_≡_}
-use mathlib.Core.Bool.{true, false}
+use mathlib.Core.Bool.{Bool, true, false, _&&_, _||_}
 use mathlib.Core.Option.{none, some}
 use mathlib.Core.Logic.{_↔_}
-use Prim.Native.Nat.{ℕ}
+use Prim.Native.Nat.{ℕ, zero, suc}
+use lib.Dec.{eqb, ltb}
 use Rattle.model.specs.declared.Line.{Line}
+use Rattle.model.specs.Sets.{count}
 use Rattle.model.specs.Policy.{Meaning}
-use Rattle.model.specs.Choice.{admissible, better, choose}
+use Rattle.model.specs.Choice.{carriedBy, admissible, better, choose}
 
 -- s is admissible, and no admissible set is better, by the objectives a and b
 pub record IsBest (m : Meaning) (l : Line) (k lower upper a b s : ℕ) : Type 0 where
@@ -19,3 +21,16 @@ pub record ChoiceIs (m : Meaning) (l : Line) (k lower upper a b : ℕ) : Type 0 
   pub is-best : (s : ℕ) → (choose m l k lower upper a b ≡ some s) ↔ IsBest m l k lower upper a b s
   pub is-none : (choose m l k lower upper a b ≡ none) ↔ ((t : ℕ) → admissible m l k lower upper t ≡ false)
   pub is-unique : (s t : ℕ) → IsBest m l k lower upper a b s → IsBest m l k lower upper a b t → s ≡ t
+
+-- n is before k under an objective: 1 is the fewest, 2 the most; where that does not tell them apart, and under 0, the rest does
+unfoldable pub before : ℕ → ℕ → ℕ → Bool → Bool
+before zero n k rest = rest
+before (suc zero) n k rest = ltb n k || (eqb n k && rest)
+before (suc (suc a)) n k rest = ltb k n || (eqb n k && rest)
+
+-- s is better than t by the count of all permissions carried under the first objective, then by the count of roles under the second, then
+-- by the lower set number
+abbrev pub RankIs : Meaning → Type 0
+RankIs m = (a b s t : ℕ)
+    → better m a b s t
+    ≡ before a (count 256 (carriedBy m s)) (count 256 (carriedBy m t)) (before b (count 64 s) (count 64 t) (ltb s t))

@@ -11,6 +11,8 @@ pub mod Independence
 pub mod Frames
 pub mod Ward
 pub mod Refusals
+pub mod Returned
+pub mod Apart
 pub mod Chains
 pub mod Read
 pub mod Chosen

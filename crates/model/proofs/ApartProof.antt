@@ -1,0 +1,51 @@
+-- The two runs of specs/Apart.antt are the same for user 0, by computation from the bytes of the images.
+-- Assumes nothing.
+use mathlib.Core.Path.{_≡_, refl}
+use mathlib.Core.Bool.{Bool, true, false, _||_}
+use lib.Dec.{lit<}
+use Rattle.model.specs.declared.Head.{Head}
+use Rattle.model.specs.declared.Kind.the-variants.{MsDmer}
+use Rattle.model.specs.Policy.{policyOf, onlyFor, excludes, sameExclusion, Agree}
+use Rattle.model.specs.Independence.{Run, SameFor, callsOf, firstLine}
+use Rattle.model.specs.Apart.{oneImage, otherImage, oneLedger, otherLedger, oneList, otherList, Apart}
+use Rattle.model.proofs.Computing.{computing}
+
+two-users : Head
+two-users = record { users = 2; roles = 2; permissions = 5 }
+
+one : Run 4
+unfolding computing two-users oneImage oneLedger oneList
+one = record { image = oneImage; head = two-users; accepted = refl; ledger = oneLedger; fits = refl; calls = oneList }
+
+other : Run 4
+unfolding computing two-users otherImage otherLedger otherList
+other = record { image = otherImage; head = two-users; accepted = refl; ledger = otherLedger; fits = refl; calls = otherList }
+
+-- a test once or twice
+twice : (b : Bool) → (b || false) ≡ (b || (b || false))
+twice true = refl
+twice false = refl
+
+agree : Agree 0 (policyOf oneImage) (policyOf otherImage)
+unfolding computing excludes oneImage otherImage
+agree =
+    record {
+      heads = refl;
+      own = refl;
+      grants = refl;
+      seniors = refl;
+      exclusions = λ x. twice (sameExclusion (record { kind = MsDmer; limit = 2; members = 3 }) x);
+    }
+
+same-for-user : SameFor 4 0 one other
+unfolding computing one other two-users callsOf firstLine oneImage otherImage oneLedger otherLedger oneList otherList
+same-for-user = record { agree = agree; below = lit< tt; line = refl; calls = refl }
+
+fed : onlyFor 0 (policyOf oneImage) .assigned ≡ onlyFor 0 (policyOf otherImage) .assigned
+unfolding computing onlyFor oneImage otherImage
+fed = refl
+
+pub apart : Apart
+unfolding one other
+apart =
+    record { one = one; other = other; images = (refl, refl); ledgers = (refl, refl); calls = (refl, refl); same = same-for-user; fed = fed }

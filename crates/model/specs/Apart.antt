@@ -1,0 +1,52 @@
+-- Two runs of one user that differ in all that others may change: the order and repeats of entries, the other user's assignments, line
+-- and calls. That they are the same for the user keeps the independence rule from being claimed of equal runs alone.
+-- Assumes nothing.
+use mathlib.Core.Path.{_≡_}
+use mathlib.Core.List.{List, [], _∷_, _++_}
+use Prim.Native.Nat.{ℕ}
+use lib.ListN.{replicate}
+use Rattle.model.specs.Policy.{policyOf, onlyFor}
+use Rattle.model.specs.Run.{Call, openBy, closeBy}
+use Rattle.model.specs.Independence.{Run, SameFor}
+use Rattle.model.specs.Ward.{imageBytes, ended, opens, asks, shows, damaged}
+
+-- image A for two users, the second with the Doctor's role alone
+unfoldable pub oneImage : List ℕ
+oneImage =
+    imageBytes
+    (ended
+    (0x104080A0 ∷ 0x20000000 ∷ 0x20010000 ∷ 0x20400000 ∷ 0x30000000 ∷ 0x30004000 ∷ 0x30008000 ∷ 0x3000C000 ∷ 0x30404000 ∷ 0x30410000 ∷ 0x40010000
+    ∷ 0x54102000 ∷ 0x60000000 ∷ 0x60400000 ∷ []))
+
+-- the same in another order, with an assignment, a grant, a senior word and the exclusion said twice, the members the other way round, and
+-- the second user with the other role
+unfoldable pub otherImage : List ℕ
+otherImage =
+    imageBytes
+    (ended
+    (0x104080A0 ∷ 0x54102000 ∷ 0x60400000 ∷ 0x60000000 ∷ 0x40010000 ∷ 0x20410000 ∷ 0x30410000 ∷ 0x30404000 ∷ 0x3000C000 ∷ 0x30008000 ∷ 0x30004000
+    ∷ 0x30000000 ∷ 0x30000000 ∷ 0x20010000 ∷ 0x20000000 ∷ 0x20010000 ∷ 0x54102000 ∷ 0x60000000 ∷ 0x60400000 ∷ 0x40010000 ∷ []))
+
+-- the second user's line is zero, or damaged
+unfoldable pub oneLedger : List ℕ
+oneLedger = replicate 80 0 ++ replicate 80 0
+
+unfoldable pub otherLedger : List ℕ
+otherLedger = replicate 80 0 ++ damaged
+
+-- the first user's calls alone, and with others before, between and behind them, some by a user without a line
+unfoldable pub oneList : List Call
+oneList = opens ∷ asks 0 0x3 0x1f 1 0 ∷ shows 0 ∷ []
+
+unfoldable pub otherList : List Call
+otherList = openBy 1 ∷ opens ∷ closeBy 1 0 ∷ openBy 2 ∷ asks 0 0x3 0x1f 1 0 ∷ shows 0 ∷ openBy 1 ∷ []
+
+-- these are two runs, and they are the same for the first user; the session rules are fed no other user's assignments, so the same ones
+pub record Apart : Type 0 where
+  pub one : Run 4
+  pub other : Run 4
+  pub images : (one .image ≡ oneImage) × (other .image ≡ otherImage)
+  pub ledgers : (one .ledger ≡ oneLedger) × (other .ledger ≡ otherLedger)
+  pub calls : (one .calls ≡ oneList) × (other .calls ≡ otherList)
+  pub same : SameFor 4 0 one other
+  pub fed : onlyFor 0 (policyOf oneImage) .assigned ≡ onlyFor 0 (policyOf otherImage) .assigned
