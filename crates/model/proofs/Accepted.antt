@@ -1,4 +1,4 @@
--- What holds of a policy whose image is accepted: every number is in its range, and every limit of the register is kept.
+-- What holds of a policy whose image passes the judgement by its words: every number is in its range, and every limit of the register is kept.
 -- Assumes nothing.
 use mathlib.Core.Path.{_≡_, refl, sym, ap, _∙_, subst}
 use mathlib.Core.Bool.{Bool, true, false, _&&_, not, true≢false}
@@ -20,7 +20,7 @@ use Rattle.model.specs.declared.Checked.{Checked}
 use Rattle.model.specs.declared.Checked.the-variants.{Accepted, Refused}
 use Rattle.model.specs.Tests.{between}
 use Rattle.model.specs.Sets.{has, with, count}
-use Rattle.model.specs.Image.{wordAt, behindHead, inRange, repeats, crowds, assigning, next, scan, headOf, headRight, lengthRight, emptyRows, start, judge, field, isKind}
+use Rattle.model.specs.Image.{wordAt, behindHead, inRange, repeats, crowds, assigning, next, scan, headOf, headRight, lengthRight, emptyRows, start, judgeWords, field, isKind}
 use Rattle.model.specs.Policy.{entriesOf, granting, ordering, fold, joining, withMembers, exclusionsOf, policyOf}
 use Rattle.model.specs.Ranges.{Each, OneTo, ExclusionInRange, TableInRange, RowsBelow, InRange}
 use Rattle.model.proofs.Bools.{and-l, and-r, not-both}
@@ -221,7 +221,7 @@ module _ (h : Head) (small : h .roles ≤ 64) where
   due-behind [] rows t x m es v = due-members rows t x m es v .0
   due-behind (e ∷ before) rows t x m es v = due-behind before (assigning rows e) (next t e) x m es (v .1)
 
--- ---- an accepted image: its head is right, and its entries are valid from the start
+-- ---- an image that passes: its head is right, and its entries are valid from the start
 abbrev Known : List ℕ → Checked → Type 0
 Known s (Accepted k) =
     (headRight (wordAt s 0) ≡ true) × Valid (headOf (wordAt s 0)) emptyRows start (entriesOf s) × (headOf (wordAt s 0) ≡ k)
@@ -234,8 +234,8 @@ known-by s (Accepted k) e j = (e, j .0, j .1)
 known-by s (Refused n place) e j = tt
 
 -- by the tests of the length and the head
-known : (s : List ℕ) → Known s (judge s)
-unfolding judge entriesOf start
+known : (s : List ℕ) → Known s (judgeWords s)
+unfolding judgeWords entriesOf start
 known s = go (lengthRight (length s)) (headRight (wordAt s 0)) refl
   where
     rest : Checked
@@ -259,7 +259,7 @@ head-tests k a b c d e =
 one-to : (n b : ℕ) → between 1 n b ≡ true → OneTo b n
 one-to n b e = (leb-true 1 n (and-l (leb 1 n) (leb n b) e), leb-true n b (and-r (leb 1 n) (leb n b) e))
 
-module _ (s : List ℕ) (h : Head) (accepted : judge s ≡ Accepted h) where
+module _ (s : List ℕ) (h : Head) (accepted : judgeWords s ≡ Accepted h) where
   -- what is known of this image
   facts : Known s (Accepted h)
   facts = subst (Known s) accepted (known s)
@@ -272,15 +272,15 @@ module _ (s : List ℕ) (h : Head) (accepted : judge s ≡ Accepted h) where
       let t = head-tests (isKind w 1) (between 1 (field w 21 7) 64) (between 1 (field w 14 7) 64) (between 1 (field w 5 9) 256) _ (facts .0) in
       (one-to (field w 21 7) 64 (t .0), one-to (field w 14 7) 64 (t .1), one-to (field w 5 9) 256 (t .2))
 
-  -- the policy's head is the one that the image is accepted with
-  pub accepted-head : policyOf s .head ≡ h
+  -- the policy's head is the one that the image passes with
+  pub words-head : policyOf s .head ≡ h
   unfolding policyOf
-  accepted-head = facts .2
+  words-head = facts .2
 
-  -- the policy of an accepted image is in range
-  pub accepted-in-range : InRange (policyOf s)
+  -- its policy is in range
+  pub words-in-range : InRange (policyOf s)
   unfolding policyOf
-  accepted-in-range =
+  words-in-range =
       let k = headOf (wordAt s 0) in
       let v = facts .1 in
       let small = head-in-range .1 .1 in
@@ -305,9 +305,9 @@ module _ (s : List ℕ) (h : Head) (accepted : judge s ≡ Accepted h) where
       }
 
   -- an exclusion word with m is followed by m member words that name m different roles
-  pub accepted-members : (before : List Entry) (x : Exclusion) (m : ℕ) (after : List Entry) → entriesOf s ≡ before ++ (Exclude x m ∷ after)
+  pub words-members : (before : List Entry) (x : Exclusion) (m : ℕ) (after : List Entry) → entriesOf s ≡ before ++ (Exclude x m ∷ after)
       → count 64 (withMembers x (take m after) .members) ≡ m
   unfolding policyOf
-  accepted-members before x m after e =
+  words-members before x m after e =
       due-behind (headOf (wordAt s 0)) (head-in-range .1 .1) before emptyRows start x m after
       (subst (Valid (headOf (wordAt s 0)) emptyRows start) e (facts .1))

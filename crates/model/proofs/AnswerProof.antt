@@ -13,7 +13,7 @@ use borrow.Author.Tests.{eqb-true, not-false}
 use Rattle.model.specs.declared.Checked.{Checked}
 use Rattle.model.specs.declared.Checked.the-variants.{Accepted, Refused}
 use Rattle.model.specs.Tests.{pick, first}
-use Rattle.model.specs.Image.{judge}
+use Rattle.model.specs.Judgement.{judge}
 use Rattle.model.specs.Policy.{Policy, Meaning, policyOf, meaning}
 use Rattle.model.specs.Line.{lineSize, readLine}
 use Rattle.model.specs.Session.{Operation, open-session, close-session, ask, short-ask, show, sessionOf, queryOf, Reply, refuse, done, Refusal, bad-line, bad-session, is-closed, bad-set, bad-permission, bad-bounds, bad-aim, bad-room, no-set, canGive, applies, perform, unless, rule}
@@ -87,7 +87,7 @@ module _ (W : ℕ) (p : Policy) (l : List ℕ) (c : Call) where
   stepBy-roomy (Refused n place) = inl refl
 
 -- a buffer that is left alone, or filled with as many bytes, keeps its length
-filled-length : (buffer fs : List ℕ) → (fs ≡ []) ⊎ (length fs ≡ length buffer) → length (filledWith buffer fs) ≡ length buffer
+pub filled-length : (buffer fs : List ℕ) → (fs ≡ []) ⊎ (length fs ≡ length buffer) → length (filledWith buffer fs) ≡ length buffer
 unfolding filledWith
 filled-length buffer [] h = refl
 filled-length buffer (b ∷ bs) (inl e) = let z : suc (length bs) ≡ 0 = ap length e in absurd (omega arith)

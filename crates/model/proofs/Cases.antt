@@ -4,7 +4,7 @@ use mathlib.Core.Path.{_≡_, refl}
 use mathlib.Core.Bool.{true}
 use Rattle.model.specs.Tests.{all}
 use Rattle.model.specs.Ward.{holds, starred, settled}
-use Rattle.model.specs.Refusals.{isJudged, judgedImages}
+use Rattle.model.specs.Refusals.{isJudged, judgedImages, isLooped, loopedImages}
 use Rattle.model.specs.Returned.{isSeen, returnedCases, isChecked, checkedCases}
 use Rattle.model.proofs.Computing.{computing}
 
@@ -19,6 +19,10 @@ settled-hold = refl
 pub judged-so : all isJudged judgedImages ≡ true
 unfolding computing
 judged-so = refl
+
+pub looped-so : all isLooped loopedImages ≡ true
+unfolding computing
+looped-so = refl
 
 pub returned-so : all isSeen returnedCases ≡ true
 unfolding computing

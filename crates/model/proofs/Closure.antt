@@ -1,4 +1,4 @@
--- The closed table of seniority holds exactly the roles that chains of senior words reach, the carried table exactly what a role
+-- The closed table of seniority holds exactly the roles below each role, with itself those that chains of senior words reach, the carried table exactly what a role
 -- carries, and the union of its rows exactly what a set of roles carries.
 -- Assumes nothing.
 use mathlib.Core.Path.{_≡_, refl, sym, ap, _∙_, subst}
@@ -7,17 +7,17 @@ use mathlib.Core.Bool.{Bool, true, false, _&&_, _||_, or-false}
 use mathlib.Core.List.{List, [], _∷_, _++_}
 use Prim.Native.Nat.{ℕ, zero, suc, _^_, _≤_, _<_}
 use native.Mathlib.Nat.{lt-of-lt-of-le}
-use native.Mathlib.Decide.{decLt}
 use native.Mathlib.Omega.{arith}
 use lib.Dec.{eqb}
-use lib.ListN.{getD, length, List·getD-map, length-append, List·getD-append, List·getD-eq-default}
+use lib.ListN.{getD, length, List·getD-map, length-append, List·getD-append}
 use lib.Seq.{getD-at}
 use borrow.Author.Tests.{eqb-true, eq-eqb}
 use Rattle.model.specs.Tests.{pick}
 use Rattle.model.specs.Sets.{has, union, with, unionAt}
-use Rattle.model.specs.Policy.{Policy, taking, through, closed, tableOf, selfAndJuniors, reached, carriedTable}
-use Rattle.model.specs.Chains.{over, grants, Chain, here, step, Carries, Provides}
-use Rattle.model.proofs.Bools.{and-l, and-r, both, or-l, or-r, or-cases, not-both}
+use Rattle.model.specs.Policy.{Policy, taking, through, closed, tableOf, belowTable, withSelves, reached, carriedTable}
+use Rattle.model.specs.Chains.{over, grants, Chain, here, step, Below, Carries, Provides}
+use Rattle.model.specs.Ranges.{InRange}
+use Rattle.model.proofs.Bools.{and-l, and-r, both, or-l, or-r, or-cases}
 use Rattle.model.proofs.SetLaws.{has-union, has-with}
 use Rattle.model.proofs.UnionLaws.{has-none, has-below, below-or-last, has-unionAt, unionAt-none}
 
@@ -122,58 +122,70 @@ pub join : {p : Policy} {a b c : ℕ} → Chain p a b → Chain p b c → Chain 
 join here q = q
 join (step e c) q = step e (join c q)
 
--- ---- the tables of a policy whose senior words name roles below R, where R is at most 64
-module _ (p : Policy) (few : p .head .roles ≤ 64)
-    (below : (a b : ℕ) → over p a b ≡ true → (a < p .head .roles) × (b < p .head .roles)) where
+-- so too chains of at least one senior word
+join-below : {p : Policy} {a b c : ℕ} → Below p a b → Below p b c → Below p a c
+join-below x y = record { junior = x .junior; word = x .word; chain = join (x .chain) (step (y .word) (y .chain)) }
+
+-- a chain is of no word, or of at least one
+pub chain-cases : {p : Policy} {a b : ℕ} → Chain p a b → (a ≡ b) ⊎ Below p a b
+chain-cases here = inl refl
+chain-cases (step {b = b} e c) = inr (record { junior = b; word = e; chain = c })
+
+-- ---- the tables of a policy in range
+module _ (p : Policy) (range : InRange p) where
+  -- there are at most 64 roles, and senior words name roles
+  pub few : p .head .roles ≤ 64
+  few = range .roles .1
+
+  pub below : (a b : ℕ) → over p a b ≡ true → (a < p .head .roles) × (b < p .head .roles)
+  unfolding over
+  below a b e = range .juniors a b e
+
   -- a chain from a role below 64 stays below 64
-  chain-below : {a b : ℕ} → a < 64 → Chain p a b → b < 64
+  pub chain-below : {a b : ℕ} → a < 64 → Chain p a b → b < 64
   chain-below h here = h
   chain-below h (step {a} {b} e c) = chain-below (lt-of-lt-of-le (below a b e .1) few) c
 
-  -- before the first pass a row holds its own role and the direct juniors
-  first-at : (i j : ℕ) → i < 64 → at (selfAndJuniors (p .juniors)) zero i j ≡ (over p i j || eqb j i)
-  unfolding at closed selfAndJuniors over
-  first-at i j h =
-      ap (λ (x : ℕ). has x j) (getD-tableOf 64 (λ a. with (getD (p .juniors) a 0) a) i h) ∙ has-with (getD (p .juniors) i 0) i j
+  -- what a row holds after the passes below k stands below its role
+  at-below : (k i j : ℕ) → at (p .juniors) k i j ≡ true → Below p i j
+  unfolding at closed over
+  at-below zero i j e = record { junior = j; word = e; chain = here }
+  at-below (suc k) i j e =
+      elim (at-cases (p .juniors) k i j e)
+      [ inl h ↦ at-below k i j h | inr h ↦ join-below (at-below k i k (h .0)) (at-below k k j (h .1)) ]
 
-  -- beyond the 64 rows there is nothing
-  first-none : (i j : ℕ) → 64 ≤ i → at (selfAndJuniors (p .juniors)) zero i j ≡ false
-  unfolding at closed selfAndJuniors
-  first-none i j h =
-      ap (λ (x : ℕ). has x j)
-      (List·getD-eq-default (selfAndJuniors (p .juniors)) 0 (rw length-tableOf h)) ∙ has-none j
+  -- a senior word is held from the first
+  word-at : (i j : ℕ) → over p i j ≡ true → at (p .juniors) (p .head .roles) i j ≡ true
+  unfolding at closed over
+  word-at i j e = at-first (p .juniors) (p .head .roles) i j e
 
-  -- what a row holds at first is reached by a chain of at most one senior word
-  first-chain : (i j : ℕ) → at (selfAndJuniors (p .juniors)) zero i j ≡ true → Chain p i j
-  first-chain i j e =
-      elim (decLt i 64) [
-        | yes h ↦
-            elim (or-cases (over p i j) (eqb j i) (sym (first-at i j h) ∙ e))
-            [ inl q ↦ step q here | inr q ↦ subst (λ (x : ℕ). Chain p i x) (sym (eqb-true j i q)) here ]
-        | no h ↦ not-both (at (selfAndJuniors (p .juniors)) zero i j) e (first-none i j (omega arith))
-      ]
+  -- what a chain of at least one senior word reaches is held after the passes below R
+  chain-at : (i : ℕ) {b j : ℕ} → over p i b ≡ true → Chain p b j → at (p .juniors) (p .head .roles) i j ≡ true
+  chain-at i {b} e here = word-at i b e
+  chain-at i {b} {j} e (step f c) = at-trans (p .juniors) (p .head .roles) i b j (below i b e .1) (word-at i b e) (chain-at b f c)
 
-  -- what a row holds after the passes below k is reached by a chain
-  at-chain : (k i j : ℕ) → at (selfAndJuniors (p .juniors)) k i j ≡ true → Chain p i j
-  at-chain zero i j e = first-chain i j e
-  at-chain (suc k) i j e =
-      elim (at-cases (selfAndJuniors (p .juniors)) k i j e)
-      [ inl h ↦ at-chain k i j h | inr h ↦ join (at-chain k i k (h .0)) (at-chain k k j (h .1)) ]
+  -- a row of the closed table holds the roles below its own
+  pub below-is : (a b : ℕ) → (has (getD (belowTable p) a 0) b ≡ true) ↔ Below p a b
+  unfolding belowTable at
+  below-is a b = (at-below (p .head .roles) a b, λ w. chain-at a (w .word) (w .chain))
 
-  -- what a chain reaches is held after the passes below R
-  chain-at : {i j : ℕ} → i < 64 → Chain p i j → at (selfAndJuniors (p .juniors)) (p .head .roles) i j ≡ true
-  chain-at {i} h here =
-      at-first (selfAndJuniors (p .juniors)) (p .head .roles) i i (first-at i i h ∙ or-r (over p i i) (eqb i i) (eq-eqb i i refl))
-  chain-at {i} {j} h (step {b = b} e c) =
-      let k = below i b e .1 in
-      at-trans (selfAndJuniors (p .juniors)) (p .head .roles) i b j k
-      (at-first (selfAndJuniors (p .juniors)) (p .head .roles) i b (first-at i b h ∙ or-l (over p i b) (eqb b i) e))
-      (chain-at (lt-of-lt-of-le k few) c)
+  -- and with itself
+  has-reached : (a b : ℕ) → a < 64 → has (getD (reached p) a 0) b ≡ (has (getD (belowTable p) a 0) b || eqb b a)
+  unfolding reached withSelves
+  has-reached a b h =
+      ap (λ (x : ℕ). has x b) (getD-tableOf 64 (λ i. with (getD (belowTable p) i 0) i) a h) ∙ has-with (getD (belowTable p) a 0) a b
 
-  -- a row of the closed table holds the roles that chains reach
+  -- a row of the table of roles reached holds the roles that chains reach
   pub reached-is : (a b : ℕ) → a < 64 → (has (getD (reached p) a 0) b ≡ true) ↔ Chain p a b
-  unfolding reached at
-  reached-is a b h = (at-chain (p .head .roles) a b, chain-at h)
+  reached-is a b h = (λ e. chain-of (or-cases _ _ (sym (has-reached a b h) ∙ e)), λ c. has-reached a b h ∙ holds (chain-cases c))
+    where
+      chain-of : (has (getD (belowTable p) a 0) b ≡ true) ⊎ (eqb b a ≡ true) → Chain p a b
+      chain-of (inl e) = let w = below-is a b .0 e in step (w .word) (w .chain)
+      chain-of (inr e) = subst (λ (x : ℕ). Chain p a x) (sym (eqb-true b a e)) here
+
+      holds : (a ≡ b) ⊎ Below p a b → (has (getD (belowTable p) a 0) b || eqb b a) ≡ true
+      holds (inl e) = or-r (has (getD (belowTable p) a 0) b) (eqb b a) (eq-eqb b a (sym e))
+      holds (inr w) = or-l (has (getD (belowTable p) a 0) b) (eqb b a) (below-is a b .1 w)
 
   -- row a of the carried table joins the grants of the roles reached from a
   carried-at : (a : ℕ) → getD (carriedTable p) a 0 ≡ unionAt (p .granted) (getD (reached p) a 0)

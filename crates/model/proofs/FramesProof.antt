@@ -14,7 +14,7 @@ use Rattle.model.specs.declared.Checked.{Checked}
 use Rattle.model.specs.declared.Checked.the-variants.{Accepted, Refused}
 use Rattle.model.specs.Tests.{pick}
 use Rattle.model.specs.Bytes.{bytesOf}
-use Rattle.model.specs.Image.{judge}
+use Rattle.model.specs.Judgement.{judge}
 use Rattle.model.specs.Policy.{Policy, Meaning, policyOf, meaning}
 use Rattle.model.specs.Line.{lineSize, readLine}
 use Rattle.model.specs.Session.{Operation, open-session, close-session, ask, short-ask, show, refuse, done, given, Refusal, Result, asked, perform, unless, rule}

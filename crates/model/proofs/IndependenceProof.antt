@@ -12,13 +12,13 @@ use borrow.Author.Tests.{eqb-true, eqb-false}
 use Rattle.model.specs.declared.Head.{Head}
 use Rattle.model.specs.declared.Checked.{Checked}
 use Rattle.model.specs.declared.Checked.the-variants.{Accepted}
-use Rattle.model.specs.Image.{judge}
+use Rattle.model.specs.Judgement.{judge}
 use Rattle.model.specs.Policy.{Meaning, policyOf, meaning, onlyFor}
 use Rattle.model.specs.Line.{lineSize}
 use Rattle.model.specs.Session.{Result}
 use Rattle.model.specs.Run.{Call, lineAt, stepOn, stepBy, step, run}
 use Rattle.model.specs.Independence.{rules, callsOf, seenBy, Steady, no-call, own-call, other-call, SteadyFor, Run, eventsOf, viewOf, firstLine, SameFor, Independent}
-use Rattle.model.proofs.Accepted.{accepted-head, accepted-in-range}
+use Rattle.model.proofs.Judgements.{accepted-head, accepted-in-range}
 use Rattle.model.proofs.LedgerLaws.{step-length, step-own, step-other}
 use Rattle.model.proofs.Meanings.{agree-meaning, only-meaning}
 

@@ -13,7 +13,7 @@ use Rattle.model.specs.declared.Checked.{Checked}
 use Rattle.model.specs.declared.Checked.the-variants.{Accepted}
 use Rattle.model.specs.Tests.{pick}
 use Rattle.model.specs.Bytes.{number}
-use Rattle.model.specs.Image.{judge}
+use Rattle.model.specs.Judgement.{judge}
 use Rattle.model.specs.Policy.{Policy, policyOf, meaning, authorized}
 use Rattle.model.specs.Line.{lineSize}
 use Rattle.model.specs.Session.{refuse, Result}
@@ -21,7 +21,7 @@ use Rattle.model.specs.Run.{Call, Event, lineAt, stepOn, stepBy, step, r
 use Rattle.model.specs.Ranges.{Each, InRange}
 use Rattle.model.specs.Kept.{SoundBytes, LineKept, SoundLedger, Well, RunKept}
 use Rattle.model.proofs.LedgerLaws.{step-length, step-own, step-other}
-use Rattle.model.proofs.Accepted.{accepted-in-range}
+use Rattle.model.proofs.Judgements.{accepted-in-range}
 use Rattle.model.proofs.MetLaws.{meaning-antitone, meaning-none}
 use Rattle.model.proofs.ZeroLaws.{zero-sound, zero-lines}
 use Rattle.model.proofs.CallsKept.{call-well, call-answer}

@@ -8,6 +8,10 @@ pub mod Computing
 pub mod Cases
 pub mod UnionLaws
 pub mod Closure
+pub mod LowestLaws
+pub mod Judgements
+pub mod Levels
+pub mod OrderedProof
 pub mod Tables
 pub mod Ranks
 pub mod Subsets

@@ -16,14 +16,15 @@ use Rattle.model.specs.declared.Line.{Line}
 use Rattle.model.specs.declared.Checked.the-variants.{Accepted}
 use Rattle.model.specs.Tests.{all}
 use Rattle.model.specs.Sets.{has, count}
-use Rattle.model.specs.Image.{judge}
+use Rattle.model.specs.Judgement.{judge}
 use Rattle.model.specs.Policy.{Meaning, policyOf, entriesOf, withMembers, reached, carriedTable, authorized, meaning}
 use Rattle.model.specs.Choice.{carriedBy, admissible}
 use Rattle.model.specs.Ward.{holds, starred, settled}
-use Rattle.model.specs.Refusals.{isJudged, judgedImages}
+use Rattle.model.specs.Refusals.{isJudged, judgedImages, isLooped, loopedImages}
 use Rattle.model.specs.Returned.{isSeen, returnedCases, isChecked, checkedCases}
 use Rattle.model.specs.Read.{ReadOff}
-use Rattle.model.specs.Chains.{over, Chain, Carries, Provides}
+use Rattle.model.specs.Chains.{Chain, Carries, Provides}
+use Rattle.model.specs.Ordered.{JudgeIs, Antisymmetric, LoopCallIs}
 use Rattle.model.specs.Ranges.{InRange}
 use Rattle.model.specs.Chosen.{ChoiceIs, RankIs}
 use Rattle.model.specs.Conditions.{Conditions, Admitted}
@@ -35,6 +36,8 @@ use Rattle.model.proofs.Cases
 use Rattle.model.proofs.Tables
 use Rattle.model.proofs.Accepted
 use Rattle.model.proofs.Closure
+use Rattle.model.proofs.Judgements
+use Rattle.model.proofs.OrderedProof
 use Rattle.model.proofs.AnyWidth
 use Rattle.model.proofs.Ranks
 use Rattle.model.proofs.Choices
@@ -57,9 +60,13 @@ starred-cases = Cases.starred-hold
 pub settled-cases : all holds settled ≡ true
 settled-cases = Cases.settled-hold
 
--- images with their refusals 1 to 8, each clause and each tie
+-- images with their refusals 1 to 8 and 22, each clause and each tie
 pub judged-cases : all isJudged judgedImages ≡ true
 judged-cases = Cases.judged-so
+
+-- images with the chain that the loop call shows, or its refusal
+pub looped-cases : all isLooped loopedImages ≡ true
+looped-cases = Cases.looped-so
 
 -- what a host sees: the number that a call returns, and the bytes of its answer buffer and of the ledger after it
 pub returned-cases : all isSeen returnedCases ≡ true
@@ -81,38 +88,43 @@ rank-is = Ranks.rank-is
 pub read-off : (s : List ℕ) → ReadOff s
 read-off = Tables.read-off
 
+-- an image is refused by 22 exactly where its words pass and a role is on a loop, with the lowest such role
+pub judge-is : (s : List ℕ) → JudgeIs s
+judge-is = Judgements.judge-is
+
+-- the loop call shows the shortest loop of that role, the lowest of those as short; 20 exactly if there is none
+pub loop-call-is : (s : List ℕ) → LoopCallIs s
+loop-call-is = OrderedProof.loop-call
+
 module _ (s : List ℕ) (h : Head) (accepted : judge s ≡ Accepted h) where
   -- an accepted policy has the head's numbers, and is in range
   pub head-is : policyOf s .head ≡ h
-  head-is = Accepted.accepted-head s h accepted
+  head-is = Judgements.accepted-head s h accepted
 
   pub in-range : InRange (policyOf s)
-  in-range = Accepted.accepted-in-range s h accepted
+  in-range = Judgements.accepted-in-range s h accepted
+
+  -- its seniority is an order: two roles reached from each other are the same role
+  pub antisymmetric : Antisymmetric (policyOf s)
+  antisymmetric = OrderedProof.antisymmetric (policyOf s) (Judgements.loopless s h accepted)
 
   -- an exclusion word with m is followed by member words that name m different roles
   pub members-are-m : (before : List Entry) (x : Exclusion) (m : ℕ) (after : List Entry) → entriesOf s ≡ before ++ (Exclude x m ∷ after)
       → count 64 (withMembers x (take m after) .members) ≡ m
-  members-are-m = Accepted.accepted-members s h accepted
-
-  few : policyOf s .head .roles ≤ 64
-  few = in-range .roles .1
-
-  below : (a b : ℕ) → over (policyOf s) a b ≡ true → (a < policyOf s .head .roles) × (b < policyOf s .head .roles)
-  unfolding over
-  below a b e = in-range .juniors a b e
+  members-are-m = Accepted.words-members s h (Judgements.words-pass s h accepted)
 
   -- the closed table is chains of senior words; what a role and a set of roles carry is 001's π
   pub reached-is : (a b : ℕ) → a < 64 → (has (getD (reached (policyOf s)) a 0) b ≡ true) ↔ Chain (policyOf s) a b
-  reached-is = Closure.reached-is (policyOf s) few below
+  reached-is = Closure.reached-is (policyOf s) in-range
 
   pub carried-is : (r m : ℕ) → r < 64 → (has (getD (carriedTable (policyOf s)) r 0) m ≡ true) ↔ Carries (policyOf s) r m
-  carried-is = Closure.carried-is (policyOf s) few below
+  carried-is = Closure.carried-is (policyOf s) in-range
 
   -- ---- the choice: demand 2
 
   own-below : (u : ℕ) → authorized (policyOf s) u < 2 ^ 64
   unfolding authorized
-  own-below u = lt-of-lt-of-le (in-range .assigned-rows u) (pow-mono few)
+  own-below u = lt-of-lt-of-le (in-range .assigned-rows u) (pow-mono (in-range .roles .1))
 
   -- the choice is the one admissible set that none is better than, and none exactly if no set is admissible
   pub choice-is : (u : ℕ) (l : Line) (k lower upper a b : ℕ) → ChoiceIs (meaning (policyOf s) u) l k lower upper a b
@@ -122,7 +134,7 @@ module _ (s : List ℕ) (h : Head) (accepted : judge s ≡ Accepted h) where
     -- below 2 ^ 64, what the set's roles carry is what the set provides
     provided : t < 2 ^ 64 → (q : ℕ) → (has (carriedBy (meaning (policyOf s) u) t) q ≡ true) ↔ Provides (policyOf s) t q
     unfolding carriedBy meaning
-    provided small q = Closure.provided-is (policyOf s) few below t q small
+    provided small q = Closure.provided-is (policyOf s) in-range t q small
 
     own-small : ((r : ℕ) → has t r ≡ true → has (authorized (policyOf s) u) r ≡ true) → t < 2 ^ 64
     own-small own = Choices.within-below t (authorized (policyOf s) u) 64 (own-below u) (AnyWidth.within-iff t (authorized (policyOf s) u) .1 own)

@@ -2,7 +2,8 @@
 -- Assumes nothing.
 use mathlib.Core.Path.{_≡_}
 use mathlib.Core.Bool.{Bool, true}
-use Prim.Native.Nat.{ℕ}
+use mathlib.Core.List.{List, [], _∷_}
+use Prim.Native.Nat.{ℕ, _<_}
 use lib.ListN.{getD}
 use Rattle.model.specs.Sets.{has}
 use Rattle.model.specs.Policy.{Policy}
@@ -19,6 +20,22 @@ grants p r m = has (getD (p .granted) r 0) m
 pub data Chain (p : Policy) : ℕ → ℕ → Type 0 where
   here : {a : ℕ} → Chain p a a
   step : {a b c : ℕ} → over p a b ≡ true → Chain p b c → Chain p a c
+
+-- the roles of a chain, one for each senior word: those after the first
+unfoldable pub rolesOf : {p : Policy} {a c : ℕ} → Chain p a c → List ℕ
+rolesOf here = []
+rolesOf (step {b = b} e q) = b ∷ rolesOf q
+
+-- role c stands below role a: a chain of at least one senior word leads from a down to c
+pub record Below (p : Policy) (a c : ℕ) : Type 0 where
+  pub junior : ℕ
+  pub word : over p a junior ≡ true
+  pub chain : Chain p junior c
+
+-- role r is on a loop, and no lower role is
+pub record LowestOnLoop (p : Policy) (r : ℕ) : Type 0 where
+  pub loop : Below p r r
+  pub lowest : (a : ℕ) → a < r → ¬ Below p a a
 
 -- role r carries the permission m: a grant gives it to a role reached from r (001, conditions 4 and 5: π of a role)
 pub record Carries (p : Policy) (r m : ℕ) : Type 0 where

@@ -1,5 +1,5 @@
--- The policy image: bytes, words, entries, and the judgement of an image: accepted with the head's numbers, or refused with a number
--- and a place. The named parts of a fault follow the lines 3 to 7 of 01's refusal register.
+-- The policy image: bytes, words, entries, and the judgement of an image by its words: accepted with the head's numbers, or refused by
+-- 1 to 8 with a place. The named parts of a fault follow the lines 3 to 7 of 01's refusal register.
 -- Assumes nothing.
 use mathlib.Core.Bool.{Bool, true, false, _&&_, _||_, not}
 use mathlib.Core.List.{List}
@@ -178,8 +178,9 @@ emptyRows = replicate 64 0
 unfoldable pub start : Scan
 start = record { exclusions = 0; due = 0; members = 0 }
 
-unfoldable pub judge : List ℕ → Checked
-judge s =
+-- by the refusals 1 to 8 alone; what the words mean together is judged by `judge` (specs/Judgement.antt)
+unfoldable pub judgeWords : List ℕ → Checked
+judgeWords s =
     elim (lengthRight (length s)) [
       | false ↦ Refused 1 0
       | true ↦ elim (headRight (wordAt s 0)) [
@@ -188,7 +189,7 @@ judge s =
       ]
     ]
 
--- the number that a check returns: 0, or the refusal's number plus 256 times its place
+-- the number that a check returns: 0, or the refusal's number plus 256 times what it names
 unfoldable pub checkNumber : Checked → ℕ
 checkNumber (Accepted h) = 0
-checkNumber (Refused n place) = n + 256 * place
+checkNumber (Refused n x) = n + 256 * x

@@ -9,7 +9,7 @@ use lib.Dec.{eqb}
 use lib.ListN.{length}
 use Rattle.model.specs.declared.Head.{Head}
 use Rattle.model.specs.declared.Checked.the-variants.{Accepted}
-use Rattle.model.specs.Image.{judge}
+use Rattle.model.specs.Judgement.{judge}
 use Rattle.model.specs.Policy.{Meaning, policyOf, meaning, onlyFor, Agree}
 use Rattle.model.specs.Line.{lineSize}
 use Rattle.model.specs.Session.{Operation, Result, rule}

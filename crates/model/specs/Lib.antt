@@ -2,10 +2,12 @@ pub mod Tests
 pub mod Sets
 pub mod Image
 pub mod Policy
+pub mod Judgement
 pub mod Bytes
 pub mod Line
 pub mod Choice
 pub mod Session
+pub mod Loop
 pub mod Run
 pub mod Independence
 pub mod Frames
@@ -14,6 +16,7 @@ pub mod Refusals
 pub mod Returned
 pub mod Apart
 pub mod Chains
+pub mod Ordered
 pub mod Read
 pub mod Chosen
 pub mod Conditions

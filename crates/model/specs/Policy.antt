@@ -122,13 +122,17 @@ unfoldable pub tableOf : ℕ → (ℕ → ℕ) → List ℕ
 tableOf zero f = []
 tableOf (suc n) f = tableOf n f ++ (f n ∷ [])
 
--- row a: role a and its direct juniors
-unfoldable pub selfAndJuniors : List ℕ → List ℕ
-selfAndJuniors juniors = tableOf 64 (λ a. with (getD juniors a 0) a)
+-- row a: the roles below role a, by a chain of at least one senior word
+unfoldable pub belowTable : Policy → List ℕ
+belowTable p = closed (p .head .roles) (p .juniors)
+
+-- each row with its own number
+unfoldable pub withSelves : List ℕ → List ℕ
+withSelves rows = tableOf 64 (λ a. with (getD rows a 0) a)
 
 -- row a: the roles reached from role a by a chain of senior words, itself among them
 unfoldable pub reached : Policy → List ℕ
-reached p = closed (p .head .roles) (selfAndJuniors (p .juniors))
+reached p = withSelves (belowTable p)
 
 -- row r: the permissions that role r carries
 unfoldable pub carriedTable : Policy → List ℕ

@@ -1,14 +1,16 @@
 -- Images and how they are judged: image A with words replaced, put in or left out, each with the number and the place of its refusal
--- (0, 0: accepted). Each clause of the register's lines 1 to 8 has a case, and so has each tie.
+-- (0, 0: accepted). Each clause of the register's lines 1 to 8 has a case, and so has each tie; 22 comes after them, with a role.
 -- Assumes nothing.
 use mathlib.Core.Bool.{Bool}
 use mathlib.Core.List.{List, [], _∷_, _++_}
-use Prim.Native.Nat.{ℕ, zero, suc, _+_, _*_, _^_}
+use Prim.Native.Nat.{ℕ, zero, suc, _+_, _-_, _*_, _^_}
 use lib.ListN.{take, drop, replicate}
 use Rattle.model.specs.declared.Checked.{Checked}
 use Rattle.model.specs.declared.Checked.the-variants.{Accepted, Refused}
-use Rattle.model.specs.Image.{judge}
-use Rattle.model.specs.Ward.{imageBytes, ended, imageA, sameList}
+use Rattle.model.specs.Judgement.{judge}
+use Rattle.model.specs.Session.{Reply}
+use Rattle.model.specs.Loop.{loopCall}
+use Rattle.model.specs.Ward.{imageBytes, ended, imageA, loop, sameList}
 
 unfoldable pub verdict : Checked → List ℕ
 verdict (Accepted h) = 0 ∷ 0 ∷ []
@@ -39,6 +41,14 @@ exclusionWords (suc n) = 0x54102000 ∷ 0x60000000 ∷ 0x60400000 ∷ exclusionW
 -- one user, 17 roles
 unfoldable pub wide : List ℕ → List ℕ
 wide ws = 0x102440A0 ∷ ws
+
+-- role a over role b
+unfoldable pub seniorWord : ℕ → ℕ → ℕ
+seniorWord a b = 4 * 2 ^ 28 + a * 2 ^ 22 + b * 2 ^ 16
+
+-- one user and four roles, with the words
+unfoldable pub hierarchyOf : List ℕ → List ℕ
+hierarchyOf ws = imageBytes (ended (0x10210020 ∷ ws))
 
 pub record Judged : Type 0 where
   pub image : List ℕ
@@ -102,10 +112,9 @@ judgedImages =
     ∷ judged (edited 9 (0x54002000 ∷ [])) 5 9
     ∷ judged (edited 9 (0x54182000 ∷ [])) 5 9
     ∷ judged (edited 10 (0x60800000 ∷ [])) 5 10
-    -- 6, repeat: a member again, a senior over itself; not a repeat: a loop, and an entry said twice
+    -- 6, repeat: a member again, a senior over itself; not a repeat: an entry said twice
     ∷ judged (edited 11 (0x60000000 ∷ [])) 6 11
     ∷ judged (edited 1 (0x40000000 ∷ [])) 6 1
-    ∷ judged (edited 1 (0x40010000 ∷ 0x40400000 ∷ 0x40010000 ∷ [])) 0 0
     ∷ judged (edited 1 (0x20000000 ∷ 0x20000000 ∷ 0x30000000 ∷ [])) 0 0
     -- 7, crowd: a 17th role, the same 16 twice being none; a 33rd exclusion
     ∷ judged (imageBytes (ended (wide (assignments 16)))) 0 0
@@ -129,4 +138,49 @@ judgedImages =
     ∷ judged (unbalanced 1 (0x20400000 ∷ [])) 5 1
     ∷ judged (imageBytes (wide (assignments 17) ++ (0xF0000001 ∷ []))) 7 17
     ∷ judged (take 4 (imageBytes (0 ∷ [])) ++ imageBytes (drop 1 imageA)) 2 0
+    -- 22, loop: of two roles; of three, with a role above it that is not on it; two loops, the lowest role; not a loop: two ways down
+    ∷ judged (edited 1 (0x40010000 ∷ 0x40400000 ∷ 0x40010000 ∷ [])) 22 0
+    ∷ judged (hierarchyOf (seniorWord 0 1 ∷ seniorWord 1 2 ∷ seniorWord 2 3 ∷ seniorWord 3 1 ∷ [])) 22 1
+    ∷ judged (hierarchyOf (seniorWord 2 3 ∷ seniorWord 3 2 ∷ seniorWord 1 0 ∷ seniorWord 0 1 ∷ [])) 22 0
+    ∷ judged (hierarchyOf (seniorWord 0 1 ∷ seniorWord 0 2 ∷ seniorWord 1 3 ∷ seniorWord 2 3 ∷ [])) 0 0
+    -- after 8
+    ∷ judged (unbalanced 1 (0x40010000 ∷ 0x40400000 ∷ [])) 8 13
+    ∷ []
+
+-- ---- the loop call
+
+pub record Looped : Type 0 where
+  pub image : List ℕ
+  pub room : ℕ
+  pub answer : List ℕ
+
+-- number, extra, and the bytes that fill the answer buffer
+unfoldable pub answerOf : Reply → List ℕ
+answerOf r = r .number ∷ r .extra ∷ r .filled
+
+unfoldable pub isLooped : Looped → Bool
+isLooped l = sameList (answerOf (loopCall (l .image) (l .room))) (l .answer)
+
+-- the chain that an image with a loop has, in a buffer of 64 bytes
+unfoldable pub chained : List ℕ → ℕ → List ℕ → Looped
+chained image n bs = record { image = image; room = 64; answer = 0 ∷ n ∷ (bs ++ replicate (64 - n) 0) }
+
+unfoldable pub unchained : List ℕ → ℕ → ℕ → ℕ → Looped
+unchained image room n x = record { image = image; room = room; answer = n ∷ x ∷ [] }
+
+unfoldable pub loopedImages : List Looped
+loopedImages =
+    chained (imageBytes loop) 3 (1 ∷ 2 ∷ 0 ∷ [])
+    -- a role above a loop is not on it
+    ∷ chained (hierarchyOf (seniorWord 0 1 ∷ seniorWord 1 2 ∷ seniorWord 2 3 ∷ seniorWord 3 1 ∷ [])) 3 (2 ∷ 3 ∷ 1 ∷ [])
+    -- of two loops of one role the shorter, though its first role is higher; of two as short the one with the lower role
+    ∷ chained (hierarchyOf (seniorWord 0 1 ∷ seniorWord 1 2 ∷ seniorWord 2 0 ∷ seniorWord 0 3 ∷ seniorWord 3 0 ∷ [])) 2 (3 ∷ 0 ∷ [])
+    ∷ chained (hierarchyOf (seniorWord 0 2 ∷ seniorWord 2 3 ∷ seniorWord 2 1 ∷ seniorWord 3 0 ∷ seniorWord 1 0 ∷ [])) 3 (2 ∷ 1 ∷ 0 ∷ [])
+    -- the lowest role on a loop, though a higher one is on a shorter
+    ∷ chained (hierarchyOf (seniorWord 2 3 ∷ seniorWord 3 2 ∷ seniorWord 2 0 ∷ seniorWord 0 1 ∷ seniorWord 1 3 ∷ [])) 4 (1 ∷ 3 ∷ 2 ∷ 0 ∷ [])
+    -- no loop; another buffer, before that is looked for; an image that its words refuse, before the buffer
+    ∷ unchained (hierarchyOf (seniorWord 0 1 ∷ seniorWord 0 2 ∷ seniorWord 1 3 ∷ seniorWord 2 3 ∷ [])) 64 20 0
+    ∷ unchained (imageBytes imageA) 63 19 0
+    ∷ unchained (imageBytes loop) 65 19 0
+    ∷ unchained (unbalanced 1 (0x40010000 ∷ 0x40400000 ∷ [])) 63 8 13
     ∷ []

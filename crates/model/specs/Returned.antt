@@ -6,11 +6,12 @@ use mathlib.Core.List.{List, [], _∷_, _++_}
 use Prim.Native.Nat.{ℕ, zero, suc, _+_, _*_, _/_, _%_, _^_}
 use lib.Dec.{eqb}
 use lib.ListN.{getD, set, replicate, take, drop}
-use Rattle.model.specs.Image.{judge, checkNumber}
+use Rattle.model.specs.Image.{checkNumber}
+use Rattle.model.specs.Judgement.{judge}
 use Rattle.model.specs.Line.{SESSIONS}
 use Rattle.model.specs.Run.{Call, step, returned, answered, openBy, closeBy, askBy, shortAskBy, showBy}
 use Rattle.model.specs.Ward.{imageBytes, ended, imageA, imageOfKind, opens, closes, shows, damaged, sameList}
-use Rattle.model.specs.Refusals.{bodyA, edited, assignments, exclusionWords, wide}
+use Rattle.model.specs.Refusals.{bodyA, edited, assignments, exclusionWords, wide, seniorWord}
 
 -- ---- words, by 01's table of kinds
 
@@ -22,9 +23,6 @@ assignWord user role = 2 * 2 ^ 28 + user * 2 ^ 22 + role * 2 ^ 16
 
 unfoldable pub grantWord : ℕ → ℕ → ℕ
 grantWord role permission = 3 * 2 ^ 28 + role * 2 ^ 22 + permission * 2 ^ 14
-
-unfoldable pub seniorWord : ℕ → ℕ → ℕ
-seniorWord senior junior = 4 * 2 ^ 28 + senior * 2 ^ 22 + junior * 2 ^ 16
 
 unfoldable pub exclusionWord : ℕ → ℕ → ℕ → ℕ
 exclusionWord which n m = 5 * 2 ^ 28 + which * 2 ^ 26 + n * 2 ^ 19 + m * 2 ^ 12
@@ -357,6 +355,12 @@ lastUser =
     ∷ leaves after (openBy 64) 0 10
     ∷ [])
 
+-- ---- a loop
+
+-- role 0 over 63 over 62 over 63
+unfoldable pub looping : List ℕ
+looping = imageOf (headWord 1 64 1 ∷ seniorWord 0 63 ∷ seniorWord 63 62 ∷ seniorWord 62 63 ∷ [])
+
 -- ---- all of them
 
 unfoldable pub returnedCases : List HostCase
@@ -366,6 +370,8 @@ returnedCases =
     ∷ refusedImage (imageBytes (take 12 imageA)) 2819
     ∷ refusedImage [] 1
     ∷ refusedImage (imageBytes (drop 1 imageA)) 2
+    -- a loop of the roles 62 and 63, with a role above it
+    ∷ refusedImage looping 15894
     -- tests run in number order: 9 to 13, with nothing behind them right
     ∷ under (imageBytes imageA) damaged (leaves damaged (openBy 1) 0 10 ∷ [])
     ∷ under (imageBytes imageA) (take 79 damaged) (leaves (take 79 damaged) (openBy 1) 0 9 ∷ [])
@@ -411,6 +417,8 @@ checkedCases =
     ∷ checks (imageOf (wide (assignments 17))) 4359
     ∷ checks (imageOf (0x102080A0 ∷ exclusionWords 33)) 24839
     ∷ checks (imageBytes (bodyA ++ (0xFB0B9F61 ∷ []))) 3080
+    -- 22, with 256 times the lowest role on the loop
+    ∷ checks looping 15894
     -- the last word is an assignment, a senior word or an exclusion; a grant and a senior word where a member is due
     ∷ checks (imageBytes (headWord 1 2 1 ∷ assignWord 0 0 ∷ [])) 259
     ∷ checks (imageBytes (headWord 1 2 1 ∷ seniorWord 0 1 ∷ [])) 259

@@ -9,7 +9,7 @@ use lib.ListN.{length, take, drop}
 use Rattle.model.specs.declared.Checked.{Checked}
 use Rattle.model.specs.declared.Checked.the-variants.{Accepted, Refused}
 use Rattle.model.specs.Tests.{pick}
-use Rattle.model.specs.Image.{judge}
+use Rattle.model.specs.Judgement.{judge}
 use Rattle.model.specs.Policy.{Policy, policyOf, meaning}
 use Rattle.model.specs.Line.{lineSize}
 use Rattle.model.specs.Session.{Operation, open-session, close-session, ask, short-ask, show, Reply, refuse, rule}
@@ -49,7 +49,7 @@ stepOn W p ledger c =
     pick (not (eqb (length ledger) (lineSize W * p .head .users))) (record { reply = refuse 9 0; ledger = ledger })
     (pick (not (ltb (c .user) (p .head .users))) (record { reply = refuse 10 0; ledger = ledger }) e)
 
--- under a judged image: a refused one ends the call there, with its number and place
+-- under a judged image: a refused one ends the call there, with its number and what it names
 unfoldable pub stepBy : ℕ → Checked → Policy → List ℕ → Call → Event
 stepBy W (Refused n place) p ledger c = record { reply = refuse n place; ledger = ledger }
 stepBy W (Accepted h) p ledger c = stepOn W p ledger c

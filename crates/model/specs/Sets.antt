@@ -1,7 +1,7 @@
 -- Sets of roles, permissions or sessions, as numbers: k is a member of s where binary digit k of s is 1 (01: role r counts 2 to the
 -- power r). Every definition computes on numerals.
 -- Assumes nothing.
-use mathlib.Core.Bool.{Bool, true, false}
+use mathlib.Core.Bool.{Bool, true, false, not}
 use mathlib.Core.List.{List, [], _∷_, _++_, map}
 use Prim.Native.Nat.{ℕ, zero, suc, _+_, _/_, _%_, _^_}
 use lib.Dec.{eqb}
@@ -26,6 +26,15 @@ with s k = bitOr s (2 ^ k)
 -- every member of s is one of t
 unfoldable pub within : ℕ → ℕ → Bool
 within s t = eqb (bitAnd s t) s
+
+-- some member of s is one of t
+unfoldable pub meets : ℕ → ℕ → Bool
+meets s t = not (eqb (bitAnd s t) 0)
+
+-- the numbers below d that pass the test
+unfoldable pub setOf : (ℕ → Bool) → ℕ → ℕ
+setOf f zero = 0
+setOf f (suc d) = union (setOf f d) (pick (f d) (2 ^ d) 0)
 
 -- 1 where the test holds
 abbrev pub one : Bool → ℕ

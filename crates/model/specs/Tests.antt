@@ -3,7 +3,7 @@
 use mathlib.Core.Bool.{Bool, true, false, _&&_, _||_}
 use mathlib.Core.Option.{Option, none, some}
 use mathlib.Core.List.{List, [], _∷_}
-use Prim.Native.Nat.{ℕ}
+use Prim.Native.Nat.{ℕ, zero, suc}
 use lib.Dec.{leb}
 
 -- the first where the test holds, else the second
@@ -29,3 +29,8 @@ all f (x ∷ xs) = f x && all f xs
 unfoldable pub first {ℓ} : {A : Type ℓ} → (A → Bool) → List A → Option A
 first f [] = none
 first f (x ∷ xs) = elim (f x) [ true ↦ some x | false ↦ first f xs ]
+
+-- the lowest of the d numbers from k on that passes the test, k + d where none does
+unfoldable pub lowest : (ℕ → Bool) → ℕ → ℕ → ℕ
+lowest f k zero = k
+lowest f k (suc d) = elim (f k) [ true ↦ k | false ↦ lowest f (suc k) d ]

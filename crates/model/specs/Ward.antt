@@ -166,8 +166,9 @@ settled =
     (opened 0 ∷ chose 1 0xf ∷ chose 2 0x12 ∷ chose 2 0x12 ∷ opened 1 ∷ refused 20 ∷ chose 0 0 ∷ opened 0 ∷ chose 1 0xf ∷ refused 13 ∷ [])
     -- seniority passes permissions, through every step of a chain, and no right to activate a junior
     ∷ case hierarchy (opens ∷ asks 0 0x4 0x7 1 1 ∷ asks 0 0x4 0x6 1 1 ∷ []) (opened 0 ∷ chose 1 0x7 ∷ refused 20 ∷ [])
-    -- the roles of a loop carry the same
-    ∷ case loop (opens ∷ asks 0 0x1 0x7 1 1 ∷ asks 0 0x1 0x7 0 2 ∷ []) (opened 0 ∷ chose 2 0x7 ∷ chose 6 0x7 ∷ [])
+    -- a loop is refused, before the ledger's length is looked at
+    ∷ case loop (opens ∷ asks 0 0x1 0x7 1 1 ∷ []) (refused 22 ∷ refused 22 ∷ [])
+    ∷ record { image = loop; ledger = replicate 79 0; calls = opens ∷ []; answers = refused 22 ∷ [] }
     -- another user's damaged line does not refuse this one's calls
     ∷ record {
       image = imageOfTwo;

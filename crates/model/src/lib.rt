@@ -68,7 +68,7 @@ pub struct Scan {
     pub members: u64,
 }
 
-// The answer of a check: the head's numbers, or the refusal's number and place.
+// The answer of a check: the head's numbers, or the refusal's number and what it names: a place, or a role.
 pub enum Checked {
     Accepted(Head),
     Refused(u8, u16),

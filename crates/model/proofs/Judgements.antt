@@ -1,0 +1,180 @@
+-- The judgement of an image taken apart: by its words, then by the lowest role on a loop.
+-- Assumes nothing.
+use mathlib.Core.Path.{_≡_, refl, sym, ap, _∙_, subst}
+use mathlib.Core.Bool.{Bool, true, false}
+use mathlib.Core.List.{List}
+use Prim.Native.Nat.{ℕ, zero, suc, _+_, _%_, _^_, _≤_, _<_, zero-le}
+use native.Mathlib.Decide.{decLt}
+use native.Mathlib.Omega.{arith}
+use lib.Dec.{eqb, ltb}
+use lib.ListN.{length, getD}
+use borrow.Author.Tests.{ltb-true, lt-ltb}
+use Rattle.model.specs.declared.Head.{Head}
+use Rattle.model.specs.declared.Word.{Word}
+use Rattle.model.specs.declared.Scan.{Scan}
+use Rattle.model.specs.declared.Checked.{Checked}
+use Rattle.model.specs.declared.Checked.the-variants.{Accepted, Refused}
+use Rattle.model.specs.Tests.{lowest}
+use Rattle.model.specs.Sets.{has}
+use Rattle.model.specs.Image.{wordAt, behindHead, decode, fault, entryFault, assigning, next, balanced, scan, headOf, headRight, lengthRight, emptyRows, start, judgeWords}
+use Rattle.model.specs.Policy.{Policy, policyOf, belowTable}
+use Rattle.model.specs.Judgement.{lowestOnLoop, barred, judgeMeaning, judge}
+use Rattle.model.specs.Chains.{Below, LowestOnLoop}
+use Rattle.model.specs.Ranges.{InRange}
+use Rattle.model.specs.Ordered.{WordsPass, Loopless, JudgeIs}
+use Rattle.model.proofs.Bools.{pick-case, not-both}
+use Rattle.model.proofs.Accepted.{words-head, words-in-range}
+use Rattle.model.proofs.Closure.{below, below-is}
+use Rattle.model.proofs.LowestLaws.{lowest-is, lowest-found}
+
+-- ---- the judgement by words refuses by 8 or a lower number
+abbrev pub UpTo8 : Checked → Type 0
+UpTo8 (Accepted h) = Unit {0}
+UpTo8 (Refused n place) = n ≤ 8
+
+fault-small : (h : Head) (rows : List ℕ) (t : Scan) (final : Bool) (w : Word) → fault h rows t final w ≤ 8
+unfolding fault entryFault
+fault-small h rows t final w =
+    let P : ℕ → Type 0 = λ n. n ≤ 8 in
+    pick-case P _ _ _ (λ _. omega arith)
+    (λ _. pick-case P _ _ _ (λ _. omega arith)
+    (λ _. pick-case P _ _ _ (λ _. omega arith)
+    (λ _. pick-case P _ _ _ (λ _. omega arith) (λ _. pick-case P _ _ _ (λ _. omega arith) (λ _. omega arith)))))
+
+scan-small : (s : List ℕ) (h : Head) (n place : ℕ) (rows : List ℕ) (t : Scan) (sum : ℕ) → UpTo8 (scan s h n place rows t sum)
+unfolding scan balanced
+scan-small s h zero place rows t sum = pick-case UpTo8 (eqb (sum % 2 ^ 28) 0) _ _ (λ _. tt) (λ _. omega arith)
+scan-small s h (suc n) place rows t sum =
+    let w = decode (wordAt s place) in
+    go _ (eqb (fault h rows t (eqb n 0) w) 0)
+    (scan-small s h n (place + 1) (assigning rows (w .entry)) (next t (w .entry)) ((sum + wordAt s place) % 2 ^ 32))
+  where
+    go : (v : Checked) (b : Bool) → UpTo8 v → UpTo8 (elim b [ true ↦ v | false ↦ Refused (fault h rows t (eqb n 0) (decode (wordAt s place))) place ])
+    go v true k = k
+    go v false k = fault-small h rows t (eqb n 0) (decode (wordAt s place))
+
+pub words-small : (s : List ℕ) → UpTo8 (judgeWords s)
+unfolding judgeWords
+words-small s =
+    go _ (lengthRight (length s)) (headRight (wordAt s 0)) (scan-small s (headOf (wordAt s 0)) (behindHead s) 1 emptyRows start (wordAt s 0))
+  where
+    go : (v : Checked) (a b : Bool) → UpTo8 v
+        → UpTo8 (elim a [ false ↦ Refused 1 0 | true ↦ elim b [ false ↦ Refused 2 0 | true ↦ v ] ])
+    go v false b k = omega arith
+    go v true false k = omega arith
+    go v true true k = k
+
+-- there is one lowest
+one-loop : {p : Policy} (a b : ℕ) → LowestOnLoop p a → LowestOnLoop p b → a ≡ b
+one-loop a b v w =
+    elim (decLt a b) [
+      | yes l ↦ absurd (w .lowest a l (v .loop))
+      | no l ↦ elim (decLt b a) [ yes m ↦ absurd (v .lowest b m (w .loop)) | no m ↦ omega arith ]
+    ]
+
+-- a number that bars
+module _ (n x bound : ℕ) (v : Checked) where
+  barred-in : x < bound → barred n x bound v ≡ Refused n x
+  unfolding barred
+  barred-in l = rw (lt-ltb x bound l, barred)
+
+  barred-out : ¬ (x < bound) → barred n x bound v ≡ v
+  unfolding barred
+  barred-out l = go (ltb x bound) refl
+    where
+      go : (b : Bool) → ltb x bound ≡ b → (elim b [ true ↦ Refused n x | false ↦ v ]) ≡ v
+      go true e = absurd (l (ltb-true x bound e))
+      go false e = refl
+
+-- ---- a policy in range
+module _ (p : Policy) (range : InRange p) where
+  -- a role that is found is the lowest on a loop
+  pub lowest-loop : lowestOnLoop p < p .head .roles → LowestOnLoop p (lowestOnLoop p)
+  unfolding lowestOnLoop
+  lowest-loop l =
+      let w = lowest-is (λ a. has (getD (belowTable p) a 0) a) 0 (p .head .roles) in
+      record {
+        loop = below-is p range (lowestOnLoop p) (lowestOnLoop p) .0 (w .passes (omega arith));
+        lowest = λ a q b. not-both (has (getD (belowTable p) a 0) a) (below-is p range a a .1 b) (w .before a zero-le q);
+      }
+
+  -- where one is on a loop one is found
+  pub some-loop : (a : ℕ) → Below p a a → lowestOnLoop p < p .head .roles
+  unfolding lowestOnLoop
+  some-loop a b =
+      let k = below p range a (b .junior) (b .word) .0 in
+      let f = lowest-found (λ i. has (getD (belowTable p) i 0) i) 0 (p .head .roles) a zero-le (omega arith) (below-is p range a a .1 b) .1 in
+      omega arith
+
+-- ---- how an image is judged: one of three
+data Verdict (s : List ℕ) : Type 0 where
+  words : (n place : ℕ) → n ≤ 8 → judgeWords s ≡ Refused n place → judge s ≡ Refused n place → Verdict s
+  loops : (h : Head) (r : ℕ) → judgeWords s ≡ Accepted h → LowestOnLoop (policyOf s) r → judge s ≡ Refused 22 r → Verdict s
+  passes : (h : Head) → judgeWords s ≡ Accepted h → Loopless (policyOf s) → judge s ≡ Accepted h → Verdict s
+
+module _ (s : List ℕ) where
+  -- by its meaning, where its words pass
+  by-meaning : (h : Head) → judgeWords s ≡ Accepted h → Verdict s
+  unfolding judge judgeMeaning
+  by-meaning h e =
+      let p = policyOf s in
+      let range = words-in-range s h e in
+      let on = ap (judgeMeaning p) e in
+      elim (decLt (lowestOnLoop p) (p .head .roles)) [
+        | yes l ↦ loops h (lowestOnLoop p) e (lowest-loop p range l) (on ∙ barred-in 22 (lowestOnLoop p) (p .head .roles) (Accepted h) l)
+        | no l ↦ passes h e (λ a b. l (some-loop p range a b)) (on ∙ barred-out 22 (lowestOnLoop p) (p .head .roles) (Accepted h) l)
+      ]
+
+  verdict : Verdict s
+  unfolding judge judgeMeaning
+  verdict = go (judgeWords s) refl
+    where
+      go : (v : Checked) → judgeWords s ≡ v → Verdict s
+      go (Refused n place) e = words n place (subst UpTo8 e (words-small s)) e (ap (judgeMeaning (policyOf s)) e)
+      go (Accepted h) e = by-meaning h e
+
+  -- what each answer tells
+  by-loop : (r : ℕ) → judge s ≡ Refused 22 r → Verdict s → WordsPass s × LowestOnLoop (policyOf s) r
+  by-loop r q (words n place k e t) = let z : n ≡ 22 = cc in absurd (omega arith)
+  by-loop r q (loops h a e w t) = let z : a ≡ r = cc in ((h, e), subst (LowestOnLoop (policyOf s)) z w)
+  by-loop r q (passes h e n t) = let z : _≡_ {A = ℕ} 0 1 = cc in absurd (omega arith)
+
+  by-none : (h : Head) → judge s ≡ Accepted h → Verdict s → (judgeWords s ≡ Accepted h) × Loopless (policyOf s)
+  by-none h q (words n place k e t) = let z : _≡_ {A = ℕ} 0 1 = cc in absurd (omega arith)
+  by-none h q (loops g a e w t) = let z : _≡_ {A = ℕ} 0 1 = cc in absurd (omega arith)
+  by-none h q (passes g e n t) = (e ∙ sym t ∙ q, n)
+
+  -- and what is so leads to its answer
+  loop-by : (r : ℕ) (h : Head) → judgeWords s ≡ Accepted h → LowestOnLoop (policyOf s) r → Verdict s → judge s ≡ Refused 22 r
+  loop-by r h q w (words n place k e t) = let z : _≡_ {A = ℕ} 0 1 = cc in absurd (omega arith)
+  loop-by r h q w (loops g a e v t) = t ∙ ap (Refused 22) (one-loop a r v w)
+  loop-by r h q w (passes g e n t) = absurd (n r (w .loop))
+
+  none-by : (h : Head) → judgeWords s ≡ Accepted h → Loopless (policyOf s) → Verdict s → judge s ≡ Accepted h
+  none-by h q n (words m place k e t) = let z : _≡_ {A = ℕ} 0 1 = cc in absurd (omega arith)
+  none-by h q n (loops g a e v t) = absurd (n a (v .loop))
+  none-by h q n (passes g e m t) = t ∙ sym e ∙ q
+
+  -- 22 and 0 exactly then
+  pub judge-is : JudgeIs s
+  judge-is =
+      record {
+        by-loop = λ r. (λ q. by-loop r q verdict, λ ((h, e), w). loop-by r h e w verdict);
+        accepted = λ h. (λ q. by-none h q verdict, λ (e, n). none-by h e n verdict);
+      }
+
+-- ---- an accepted image
+module _ (s : List ℕ) (h : Head) (accepted : judge s ≡ Accepted h) where
+  -- its words pass, and no role is on a loop
+  pub words-pass : judgeWords s ≡ Accepted h
+  words-pass = judge-is s .accepted h .0 accepted .0
+
+  pub loopless : Loopless (policyOf s)
+  loopless = judge-is s .accepted h .0 accepted .1
+
+  -- so its policy has the head's numbers, and is in range
+  pub accepted-head : policyOf s .head ≡ h
+  accepted-head = words-head s h words-pass
+
+  pub accepted-in-range : InRange (policyOf s)
+  accepted-in-range = words-in-range s h words-pass

@@ -1,0 +1,30 @@
+-- The judgement of an image: by its words first (specs/Image.antt), then by what they mean together.
+-- Assumes nothing.
+use mathlib.Core.Bool.{true, false}
+use mathlib.Core.List.{List}
+use Prim.Native.Nat.{ℕ}
+use lib.Dec.{ltb}
+use lib.ListN.{getD}
+use Rattle.model.specs.declared.Checked.{Checked}
+use Rattle.model.specs.declared.Checked.the-variants.{Accepted, Refused}
+use Rattle.model.specs.Tests.{lowest}
+use Rattle.model.specs.Sets.{has}
+use Rattle.model.specs.Image.{judgeWords}
+use Rattle.model.specs.Policy.{Policy, policyOf, belowTable}
+
+-- the lowest role that stands below itself, the number of roles where none does
+unfoldable pub lowestOnLoop : Policy → ℕ
+lowestOnLoop p = let rows = belowTable p in lowest (λ r. has (getD rows r 0) r) 0 (p .head .roles)
+
+-- refused by n with the number x where it is below the bound, else judged further
+unfoldable pub barred : ℕ → ℕ → ℕ → Checked → Checked
+barred n x bound v = elim (ltb x bound) [ true ↦ Refused n x | false ↦ v ]
+
+-- 22, loop: a role stands below itself; the lowest such role
+unfoldable pub judgeMeaning : Policy → Checked → Checked
+judgeMeaning p (Refused n place) = Refused n place
+judgeMeaning p (Accepted h) = barred 22 (lowestOnLoop p) (p .head .roles) (Accepted h)
+
+-- 1 to 8 with a place, then 22 with a role
+unfoldable pub judge : List ℕ → Checked
+judge s = judgeMeaning (policyOf s) (judgeWords s)
