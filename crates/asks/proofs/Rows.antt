@@ -12,7 +12,7 @@ use Rattle.model.specs.declared.Head.{Head}
 use Rattle.model.specs.declared.Line.{Line}
 use Rattle.model.specs.Tests.{pick}
 use Rattle.model.specs.Sets.{within, unionAt}
-use Rattle.model.specs.Policy.{Policy, authorized, meaning, closed, selfAndJuniors, reached, carriedTable}
+use Rattle.model.specs.Policy.{Policy, authorized, meaning, belowTable, withSelves, reached, carriedTable}
 use Rattle.model.specs.Line.{exclusionsMet}
 use Rattle.model.specs.Choice.{admissible, choose}
 use Rattle.model.proofs.Bools.{and-l}
@@ -22,9 +22,9 @@ use Rattle.model.proofs.Closure.{getD-tableOf}
 use Rattle.model.proofs.Choices.{choice}
 use Rattle.model.proofs.SoundLaws.{sound-parts}
 use Rattle.sets.specs.Words.{values}
-use Rattle.tables.specs.Carried.{rowsOf as joinedRows, carriedRows}
+use Rattle.tables.specs.Carried.{carriedRows}
 use Rattle.sets.proofs.Unions.{values-at}
-use Rattle.tables.proofs.Closing.{length-closed, length-selves, wantedRow}
+use Rattle.tables.proofs.Carrying.{length-selves, wantedRow}
 use Rattle.query.specs.Carry.{rowsOf, Carry}
 use Rattle.query.specs.Rooms.{roomy}
 use Rattle.query.specs.Reduction.{Reduces}
@@ -41,13 +41,12 @@ getD-mapped f (x ∷ l) zero h = refl
 getD-mapped f (x ∷ l) (suc i) h = getD-mapped f l i (omega arith)
 
 pub carry-rows : (p : Policy) (u wanted : ℕ) (rows : List (List ℕ)) → wanted < 2 ^ 64
-    → values rows ≡ carriedRows (p .head .roles) (p .granted) (p .juniors) wanted → Carry (meaning p u) wanted (rowsOf rows)
-unfolding meaning carriedRows joinedRows carriedTable reached pick
+    → values rows ≡ carriedRows (p .granted) (belowTable p) wanted → Carry (meaning p u) wanted (rowsOf rows)
+unfolding meaning carriedRows carriedTable reached pick
 carry-rows p u wanted rows w e r h =
-    let c : List ℕ = closed (p .head .roles) (selfAndJuniors (p .juniors)) in
+    let c : List ℕ = withSelves (belowTable p) in
     let l : r < 64 = has-below 64 wanted r w h in
-    let n : length c ≡ 64 = length-closed (p .head .roles) (selfAndJuniors (p .juniors)) ∙ length-selves (p .juniors) in
-    getD-mapped (unionAt (p .granted)) c r (omega (arith, l, n))
+    getD-mapped (unionAt (p .granted)) c r (omega (arith, l, length-selves (belowTable p)))
     ∙ ap (λ (b : Bool). pick b (unionAt (p .granted) (getD c r 0)) 0) (sym h)
     ∙ sym (getD-tableOf 64 (wantedRow (p .granted) c wanted) r l)
     ∙ ap (λ (x : List ℕ). getD x r 0) (sym e) ∙ values-at rows r
@@ -78,28 +77,26 @@ given-of p u own xs l k n masks rooms row e d g =
     }
 
 -- what the search is given, with the rows
-pub asked-of : (p : Policy) (u : ℕ) (ledger : List ℕ) (n : ℕ) (granted juniors : List ℕ) (own : ℕ) (xs : Exclusions) (rows : List (List ℕ)) (l : Line)
-    → Searched p u ledger n granted juniors own xs → own < 2 ^ 64 → values rows ≡ carriedRows n granted juniors own → l ≡ lineOf 4 ledger u
+pub asked-of : (p : Policy) (u : ℕ) (ledger granted below : List ℕ) (own : ℕ) (xs : Exclusions) (rows : List (List ℕ)) (l : Line)
+    → Searched p u ledger granted below own xs → own < 2 ^ 64 → values rows ≡ carriedRows granted below own → l ≡ lineOf 4 ledger u
     → Asked p u l own xs (rowsOf rows)
-asked-of p u ledger n granted juniors own xs rows l s w e f =
+asked-of p u ledger granted below own xs rows l s w e f =
     record {
       own-is = s .own-is;
       exclusions-are = s .exclusions-are;
       met = ap (exclusionsMet (meaning p u)) f ∙ s .met;
-      carry = carry-rows p u own rows w (e ∙ ap (λ (i : ℕ). carriedRows i granted juniors own) (s .roles-are)
-          ∙ ap₂ (λ (x y : List ℕ). carriedRows (p .head .roles) x y own) (s .granted-is) (s .juniors-are));
+      carry = carry-rows p u own rows w (e ∙ ap₂ (λ (x y : List ℕ). carriedRows x y own) (s .granted-is) (s .below-is));
     }
 
 -- the same, of what code holds of the policy and of a call that is not refused
-pub searched-of : (p : Policy) (head : Head) (assigned : List ℕ) (xs : Exclusions) (ledger granted juniors : List ℕ) (u own : ℕ)
-    → Known head assigned xs p → granted ≡ p .granted → juniors ≡ p .juniors → own ≡ getD assigned u 0 → Ready 4 p ledger u
-    → Searched p u ledger (head .roles) granted juniors own xs
+pub searched-of : (p : Policy) (head : Head) (assigned : List ℕ) (xs : Exclusions) (ledger granted below : List ℕ) (u own : ℕ)
+    → Known head assigned xs p → granted ≡ p .granted → below ≡ belowTable p → own ≡ getD assigned u 0 → Ready 4 p ledger u
+    → Searched p u ledger granted below own xs
 unfolding authorized
-searched-of p head assigned xs ledger granted juniors u own k g j o r =
+searched-of p head assigned xs ledger granted below u own k g j o r =
     record {
-      roles-are = ap (λ (h : Head). h .roles) (sym (k .head-is));
       granted-is = g;
-      juniors-are = j;
+      below-is = j;
       own-is = sym (o ∙ ap (λ (rows : List ℕ). getD rows u 0) (k .assigned-is));
       exclusions-are = sym (k .exclusions-are);
       met = sound-parts (meaning p u) (lineOf 4 ledger u) 4 (r .sound-line) .met;

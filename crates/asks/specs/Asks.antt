@@ -12,7 +12,7 @@ use Rattle.model.specs.declared.Line.{Line}
 use Rattle.model.specs.Tests.{pick}
 use Rattle.model.specs.Sets.{within}
 use Rattle.model.specs.Bytes.{number}
-use Rattle.model.specs.Policy.{Policy, authorized, meaning}
+use Rattle.model.specs.Policy.{Policy, belowTable, authorized, meaning}
 use Rattle.model.specs.Line.{SESSIONS, lineSize, isOpen, exclusionsMet}
 use Rattle.model.specs.Session.{asked}
 use Rattle.model.specs.Run.{Event, lineAt, withLine, returned, answered}
@@ -52,12 +52,11 @@ pub record Asked (p : Policy) (u : ℕ) (l : Line) (own : ℕ) (xs : Exclusions)
   pub met : exclusionsMet (meaning p u) l ≡ true
   pub carry : Carry (meaning p u) own row
 
--- what the search is given is the policy's: the number of roles, what is granted, who is senior, what the user may activate and the
--- exclusions, which the line meets
-pub record Searched (p : Policy) (u : ℕ) (ledger : List ℕ) (roles : ℕ) (granted juniors : List ℕ) (own : ℕ) (xs : Exclusions) : Type 0 where
-  pub roles-are : roles ≡ p .head .roles
+-- what the search is given is the policy's: what is granted, who is below whom, what the user may activate and the exclusions, which the
+-- line meets
+pub record Searched (p : Policy) (u : ℕ) (ledger : List ℕ) (granted below : List ℕ) (own : ℕ) (xs : Exclusions) : Type 0 where
   pub granted-is : granted ≡ p .granted
-  pub juniors-are : juniors ≡ p .juniors
+  pub below-is : below ≡ belowTable p
   pub own-is : authorized p u ≡ own
   pub exclusions-are : p .exclusions ≡ take (xs .count) (xs .list)
   pub met : exclusionsMet (meaning p u) (lineOf SESSIONS ledger u) ≡ true

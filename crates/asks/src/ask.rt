@@ -2,7 +2,7 @@
 ghost use mathlib.Core.Path.{_≡_};
 ghost use Prim.Native.Nat.{ℕ, _+_, _*_, _≤_, _<_};
 ghost use lib.ListN.{length, getD};
-ghost use Rattle.model.specs.Policy.{Policy, meaning};
+ghost use Rattle.model.specs.Policy.{Policy, belowTable, meaning};
 ghost use Rattle.model.specs.Line.{SESSIONS, lineSize};
 ghost use Rattle.model.specs.Choice.{choose};
 ghost use Rattle.model.specs.Run.{stepOn, askBy};
@@ -61,31 +61,30 @@ fn best(
 }
 
 // The best admissible role set takes the place of the active roles of the session, on a line that meets every exclusion, and fills the
-// answer; 20 where no set is admissible. The juniors' table is closed in place.
+// answer; 20 where no set is admissible.
 fn put_best(
     ledger: &mut [u8],
-    rules: Rules,
+    count: usize,
     granted: &[[u64; 4]; 64],
-    juniors: &mut [u64; 64],
+    below: &[u64; 64],
     xs: &[[u64; 2]; 32],
     authorized: u64,
     window: Window,
     wanted: Wanted,
     answer: &mut [u8],
 ) -> u64
-    requires { ⌜ (rules .head .roles ≤ 64) × (length (now juniors) ≡ 64) × (rules .count ≤ 32) × (lineSize SESSIONS * window .user + lineSize SESSIONS ≤ length (now ledger))
+    requires { ⌜ (count ≤ 32) × (lineSize SESSIONS * window .user + lineSize SESSIONS ≤ length (now ledger))
         × (window .session < SESSIONS) × (length (now answer) ≡ 40) × (length (now xs) ≡ 32) ⌝ }
-    ensures { λ r. ⌜ ((p : Policy) → Searched p (window .user) (now (ledger .entry)) (rules .head .roles) (values (now (granted .entry))) (now (juniors .entry)) authorized (exclusionsIn (now (xs .entry)) (rules .count))
+    ensures { λ r. ⌜ ((p : Policy) → Searched p (window .user) (now (ledger .entry)) (values (now (granted .entry))) (now (below .entry)) authorized (exclusionsIn (now (xs .entry)) count)
         → Answers (askedOn p (now (ledger .entry)) (window .user) (window .session)
         (choose (meaning p (window .user)) (lineOf SESSIONS (now (ledger .entry)) (window .user)) (window .session) (value (wanted .lower)) (value (wanted .upper)) (wanted .first) (wanted .second)))
         r (now (ledger .exit)) (now (answer .entry)) (now (answer .exit))) ⌝ }
 {
-    let head = rules.head;
-    let rows = tables::carried::carried(granted, juniors, head.roles as usize, authorized);
+    let rows = tables::carried::carried(granted, below, authorized);
     let u = window.user as usize;
     let k = window.session as usize;
     let l = line_of(ledger, u);
-    let choice = best(&rows, authorized, xs, rules.count, l, k, wanted);
+    let choice = best(&rows, authorized, xs, count, l, k, wanted);
     let Choice::Roles(s) = choice else {
         return 20;
     };
@@ -109,7 +108,7 @@ pub fn ask_roles(
     rules: Rules,
     assigned: &[u64; 64],
     granted: &[[u64; 4]; 64],
-    juniors: &mut [u64; 64],
+    below: &[u64; 64],
     xs: &[[u64; 2]; 32],
     window: Window,
     lower: &[u8],
@@ -118,9 +117,9 @@ pub fn ask_roles(
     second: u64,
     answer: &mut [u8],
 ) -> u64
-    requires { ⌜ (rules .head .users ≤ 64) × (rules .head .roles ≤ 64) × (rules .count ≤ 32) × (length (now juniors) ≡ 64) × (length (now xs) ≡ 32) ⌝ }
+    requires { ⌜ (rules .head .users ≤ 64) × (rules .count ≤ 32) × (length (now xs) ≡ 32) ⌝ }
     ensures { λ r. ⌜ ((p : Policy) → Known (rules .head) (now (assigned .entry)) (exclusionsIn (now (xs .entry)) (rules .count)) p → values (now (granted .entry)) ≡ p .granted
-        → now (juniors .entry) ≡ p .juniors
+        → now (below .entry) ≡ belowTable p
         → Answers (stepOn SESSIONS p (now (ledger .entry)) (askBy (window .user) (window .session) (now (lower .entry)) (now (upper .entry)) first second (length (now (answer .entry)))))
         r (now (ledger .exit)) (now (answer .entry)) (now (answer .exit))) ⌝ }
 {
@@ -152,9 +151,9 @@ pub fn ask_roles(
     };
     put_best(
         ledger,
-        rules,
+        rules.count,
         granted,
-        juniors,
+        below,
         xs,
         authorized,
         window,

@@ -7,7 +7,7 @@ use Prim.Native.Nat.{ℕ, _+_, _≤_, _<_}
 use lib.ListN.{length}
 use borrow.Author.Tests.{le-leb, lt-leb, eq-eqb, ne-eqb}
 use Rattle.model.specs.Sets.{unionAt}
-use Rattle.model.specs.Policy.{Policy, reached, carriedTable, meaning}
+use Rattle.model.specs.Policy.{Policy, belowTable, reached, carriedTable, meaning}
 use Rattle.model.specs.Bytes.{bytesOf}
 use Rattle.model.specs.Line.{sessionAt, isOpen}
 use Rattle.model.specs.Choice.{carriedBy}
@@ -18,11 +18,11 @@ use Rattle.calls.specs.Calls.{lineOf, Shows}
 use Rattle.calls.proofs.FirstSteps.{Ready, shows-refusal, refuses, performs, holds, fails, ends}
 
 -- what the active roles carry by the tables is what the policy says that they carry
-pub set-carries : (p : Policy) (u roles active : ℕ) (granted juniors : List ℕ) → p .head .roles ≡ roles → granted ≡ p .granted
-    → juniors ≡ p .juniors → unionAt (carriedOf roles granted juniors) active ≡ carriedBy (meaning p u) active
+pub set-carries : (p : Policy) (u active : ℕ) (granted below : List ℕ) → granted ≡ p .granted → below ≡ belowTable p
+    → unionAt (carriedOf granted below) active ≡ carriedBy (meaning p u) active
 unfolding carriedBy meaning carriedOf carriedTable reached
-set-carries p u roles active granted juniors eh eg ej =
-    let q : carriedOf roles granted juniors ≡ carriedOf (p .head .roles) (p .granted) (p .juniors) = cc in
+set-carries p u active granted below eg eb =
+    let q : carriedOf granted below ≡ carriedOf (p .granted) (belowTable p) = cc in
     ap (λ (x : List ℕ). unionAt x active) q
 
 module _ (W : ℕ) (p : Policy) (ledger : List ℕ) (u k : ℕ) (room : List ℕ) (r : Ready W p ledger u) where

@@ -3,7 +3,7 @@ ghost use mathlib.Core.Path.{_≡_};
 ghost use Prim.Native.Nat.{_≤_};
 ghost use lib.ListN.{length};
 ghost use Rattle.model.specs.Line.{SESSIONS};
-ghost use Rattle.model.specs.Policy.{Policy};
+ghost use Rattle.model.specs.Policy.{Policy, belowTable};
 ghost use Rattle.model.specs.Run.{stepOn, showBy};
 ghost use Rattle.sets.specs.Words.{values};
 ghost use Rattle.rows.specs.Rows.{exclusionsIn};
@@ -17,21 +17,20 @@ use ledger::change::is_open;
 use model::SESSIONS;
 use tables::carried::carried_by;
 
-// The active roles of the user's session and the permissions that they carry fill the answer buffer. The juniors' table is closed in
-// place.
+// The active roles of the user's session and the permissions that they carry fill the answer buffer.
 pub fn show_session(
     ledger: &[u8],
     rules: Rules,
     assigned: &[u64; 64],
     granted: &[[u64; 4]; 64],
-    juniors: &mut [u64; 64],
+    below: &[u64; 64],
     xs: &[[u64; 2]; 32],
     window: Window,
     answer: &mut [u8],
 ) -> u64
-    requires { ⌜ (rules .head .users ≤ 64) × (rules .head .roles ≤ 64) × (rules .count ≤ 32) × (length (now juniors) ≡ 64) × (length (now xs) ≡ 32) ⌝ }
+    requires { ⌜ (rules .head .users ≤ 64) × (rules .count ≤ 32) × (length (now xs) ≡ 32) ⌝ }
     ensures { λ r. ⌜ ((p : Policy) → Known (rules .head) (now (assigned .entry)) (exclusionsIn (now (xs .entry)) (rules .count)) p → values (now (granted .entry)) ≡ p .granted
-        → now (juniors .entry) ≡ p .juniors
+        → now (below .entry) ≡ belowTable p
         → Shows (stepOn SESSIONS p (now (ledger .entry)) (showBy (window .user) (window .session) (length (now (answer .entry))))) r (now (answer .entry))
         (now (answer .exit))) ⌝ }
 {
@@ -55,8 +54,7 @@ pub fn show_session(
     }
     let shown = l.sessions[k];
     let active = shown.active;
-    let head = rules.head;
-    let permissions = carried_by(granted, juniors, head.roles as usize, active);
+    let permissions = carried_by(granted, below, active);
     fill(answer, active, permissions);
     0
 }

@@ -11,7 +11,7 @@ use borrow.Author.Tests.{eq-eqb, ne-eqb, le-leb, lt-leb}
 use Rattle.model.specs.declared.Head.{Head}
 use Rattle.model.specs.declared.Checked.{Checked}
 use Rattle.model.specs.declared.Checked.the-variants.{Accepted, Refused}
-use Rattle.model.specs.Image.{wordAt, behindHead, scan, headOf, headRight, lengthRight, emptyRows, start, judge}
+use Rattle.model.specs.Image.{wordAt, behindHead, scan, headOf, headRight, lengthRight, emptyRows, start, judgeWords}
 
 -- a refusal is no acceptance
 pub never : {X : Type 0} (n place : ℕ) (g : Head) → Refused n place ≡ Accepted g → X
@@ -56,25 +56,25 @@ module _ (s : List ℕ) where
         ]
       ]
 
-  wrong-length : lengthRight (length s) ≡ false → judge s ≡ Refused 1 0
-  unfolding judge
+  wrong-length : lengthRight (length s) ≡ false → judgeWords s ≡ Refused 1 0
+  unfolding judgeWords
   wrong-length e = ap (λ (b : Bool). judging b (headRight (wordAt s 0))) e
 
-  pub odd-length : (length s % 4 ≡ 0 → ⊥) → judge s ≡ Refused 1 0
+  pub odd-length : (length s % 4 ≡ 0 → ⊥) → judgeWords s ≡ Refused 1 0
   odd-length e = wrong-length (odd (length s) e)
 
-  pub short-length : length s % 4 ≡ 0 → length s < 8 → judge s ≡ Refused 1 0
+  pub short-length : length s % 4 ≡ 0 → length s < 8 → judgeWords s ≡ Refused 1 0
   short-length e l = wrong-length (short (length s) e l)
 
-  pub long-length : length s % 4 ≡ 0 → 8 ≤ length s → 16384 < length s → judge s ≡ Refused 1 0
+  pub long-length : length s % 4 ≡ 0 → 8 ≤ length s → 16384 < length s → judgeWords s ≡ Refused 1 0
   long-length e l g = wrong-length (long (length s) e l g)
 
   module _ (e : length s % 4 ≡ 0) (l : 8 ≤ length s) (g : length s ≤ 16384) where
-    pub wrong-head : headRight (wordAt s 0) ≡ false → judge s ≡ Refused 2 0
-    unfolding judge
+    pub wrong-head : headRight (wordAt s 0) ≡ false → judgeWords s ≡ Refused 2 0
+    unfolding judgeWords
     wrong-head w = ap₂ judging (fitting (length s) e l g) w
 
     pub right-head : headRight (wordAt s 0) ≡ true
-        → judge s ≡ scan s (headOf (wordAt s 0)) (length s / 4 - 1) 1 emptyRows start (wordAt s 0)
-    unfolding judge behindHead
+        → judgeWords s ≡ scan s (headOf (wordAt s 0)) (length s / 4 - 1) 1 emptyRows start (wordAt s 0)
+    unfolding judgeWords behindHead
     right-head w = ap₂ judging (fitting (length s) e l g) w

@@ -2,10 +2,11 @@
 -- Assumes nothing.
 use mathlib.Core.Path.{_≡_, refl, sym, ap, _∙_}
 use mathlib.Core.Bool.{Bool, true, false, not, _||_, false≢true}
-use mathlib.Core.List.{List}
-use Prim.Native.Nat.{ℕ, suc, _+_, _-_, _%_, _^_, _≤_, _<_}
+use mathlib.Core.List.{List, [], _∷_}
+use Prim.Native.Nat.{ℕ, suc, _+_, _-_, _/_, _%_, _^_, _≤_, _<_}
 use native.Mathlib.Omega.{arith}
 use lib.Dec.{eqb, leb}
+use lib.ListN.{length}
 use borrow.Author.Tests.{eq-eqb, ne-eqb, eqb-true, eqb-false, leb-false}
 use Rattle.model.specs.declared.Head.{Head}
 use Rattle.model.specs.declared.Exclusion.{Exclusion}
@@ -16,7 +17,9 @@ use Rattle.model.specs.declared.Entry.the-variants.{Assignment, Grant, Senior, 
 use Rattle.model.specs.declared.Checked.{Checked}
 use Rattle.model.specs.declared.Checked.the-variants.{Accepted, Refused}
 use Rattle.model.specs.Tests.{pick}
-use Rattle.model.specs.Image.{wordAt, decode, wrongKind, inRange, repeats, crowds, entryFault, sparing, fault, assigning, next, scan, balanced}
+use Rattle.model.specs.Image.{wordAt, decode, wrongKind, inRange, repeats, crowds, entryFault, sparing, fault, assigning, next, scan, balanced, behindHead, emptyRows}
+use Rattle.model.specs.Policy.{entryAt, entriesFrom, entriesOf, fold, ordering, policyOf}
+use Rattle.model.proofs.Tables.{ordering-length}
 use Rattle.image.specs.Bounds.{Due, Taken}
 
 -- ---- a word without fault is due
@@ -77,15 +80,20 @@ unfolding fault pick
 wrong-kind h rows t final w ek = ap (λ (b : Bool). pick b 3 (sparing (w .spare) (entryFault h rows t (w .entry)))) (sym ek)
 
 -- and so taken
-pub took : {h : Head} {rows₀ : List ℕ} {t : Scan} {final : Bool} {w : Word} {n : ℕ} {rows : List ℕ} (e : Entry) → w .entry ≡ e
-    → wrongKind final (t .due) (w .entry) ≡ false → n ≡ sparing (w .spare) (entryFault h rows₀ t e) → (n ≡ 0 → rows ≡ assigning rows₀ e)
-    → Taken h rows₀ t final w n rows
-took {h} {rows₀} {t} {final} {w} {n} e ee ek en ea =
-    record { faulty = right-kind h rows₀ t final w n e ee ek en; assigned-is = λ z. ea z ∙ ap (assigning rows₀) (sym ee) }
+pub took : {h : Head} {a₀ j₀ : List ℕ} {t : Scan} {final : Bool} {w : Word} {n : ℕ} {a j : List ℕ} (e : Entry) → w .entry ≡ e
+    → wrongKind final (t .due) (w .entry) ≡ false → n ≡ sparing (w .spare) (entryFault h a₀ t e) → (n ≡ 0 → a ≡ assigning a₀ e)
+    → (n ≡ 0 → j ≡ ordering j₀ e) → Taken h a₀ j₀ t final w n a j
+took {h} {a₀} {j₀} {t} {final} {w} {n} e ee ek en fa fj =
+    record {
+      faulty = right-kind h a₀ t final w n e ee ek en;
+      assigned-is = λ z. fa z ∙ ap (assigning a₀) (sym ee);
+      juniors-is = λ z. fj z ∙ ap (ordering j₀) (sym ee);
+    }
 
-pub mistook : {h : Head} {rows₀ : List ℕ} {t : Scan} {final : Bool} {w : Word} {rows : List ℕ} → wrongKind final (t .due) (w .entry) ≡ true
-    → Taken h rows₀ t final w 3 rows
-mistook {h} {rows₀} {t} {final} {w} ek = record { faulty = wrong-kind h rows₀ t final w ek; assigned-is = λ z. absurd (omega arith) }
+pub mistook : {h : Head} {a₀ j₀ : List ℕ} {t : Scan} {final : Bool} {w : Word} {a j : List ℕ} → wrongKind final (t .due) (w .entry) ≡ true
+    → Taken h a₀ j₀ t final w 3 a j
+mistook {h} {a₀} {j₀} {t} {final} {w} ek =
+    record { faulty = wrong-kind h a₀ t final w ek; assigned-is = λ z. absurd (omega arith); juniors-is = λ z. absurd (omega arith) }
 
 -- ---- one turn
 
@@ -140,3 +148,30 @@ sum-right h n sum e = rw (eq-eqb _ _ e)
 pub sum-wrong : (h : Head) (n sum : ℕ) → (sum % 2 ^ 28 ≡ 0 → ⊥) → balanced h n sum ≡ Refused 8 (n - 1)
 unfolding balanced pick
 sum-wrong h n sum e = rw (ne-eqb _ _ e)
+
+-- ---- a table, by any step: the fold of the rest from here
+
+module _ {A : Type 0} (step : A → Entry → A) (s : List ℕ) (n p : ℕ) (a : A) where
+  pub fold-next : (w : ℕ) (d : Word) (a′ : A) → p < n → w ≡ wordAt s p → d ≡ decode w → a′ ≡ step a (d .entry)
+      → fold step a′ (entriesFrom s (n - (p + 1)) (p + 1)) ≡ fold step a (entriesFrom s (n - p) p)
+  unfolding fold entriesFrom entryAt
+  fold-next w d a′ l ew ed ea = let k : n - p ≡ suc (n - (p + 1)) = omega arith in rw (k, ea, ed, ew)
+
+  pub fold-end : n ≤ p → a ≡ fold step a (entriesFrom s (n - p) p)
+  unfolding fold entriesFrom
+  fold-end l = let k : n - p ≡ 0 = omega arith in rw k
+
+-- the table of juniors has 64 rows
+ordering-keeps : (es : List Entry) (rows : List ℕ) → length (fold ordering rows es) ≡ length rows
+unfolding fold
+ordering-keeps [] rows = refl
+ordering-keeps (e ∷ es) rows = ordering-keeps es (ordering rows e) ∙ ordering-length rows e
+
+pub length-juniors : (s : List ℕ) → length (policyOf s .juniors) ≡ 64
+unfolding policyOf emptyRows
+length-juniors s = ordering-keeps (entriesOf s) emptyRows
+
+-- what is gathered from an empty table is the policy's
+pub juniors-of : (s juniors₀ : List ℕ) → juniors₀ ≡ emptyRows → fold ordering juniors₀ (entriesFrom s (length s / 4 - 1) 1) ≡ policyOf s .juniors
+unfolding policyOf entriesOf behindHead
+juniors-of s juniors₀ e = ap (λ (x : List ℕ). fold ordering x (entriesFrom s (length s / 4 - 1) 1)) e

@@ -10,6 +10,7 @@ use Rattle.model.specs.declared.Word.{Word}
 use Rattle.model.specs.declared.Entry.{Entry}
 use Rattle.model.specs.declared.Entry.the-variants.{Assignment, Grant, Senior, Exclude, Member, End, Unknown}
 use Rattle.model.specs.Image.{fault, assigning}
+use Rattle.model.specs.Policy.{ordering}
 
 -- the numbers of an entry are as small as their fields
 unfoldable pub Small : Entry → Type 0
@@ -31,7 +32,9 @@ Due t (Member r) = 0 < t .due
 Due t End = 0 < 1
 Due t Unknown = 0 < 1
 
--- a word judged, n its fault, and where it has none taken into the roles assigned so far
-pub record Taken (h : Head) (assigned₀ : List ℕ) (t : Scan) (final : Bool) (w : Word) (n : ℕ) (assigned : List ℕ) : Type 0 where
+-- a word judged, n its fault, and where it has none taken into the roles assigned and the direct juniors so far
+pub record Taken
+    (h : Head) (assigned₀ juniors₀ : List ℕ) (t : Scan) (final : Bool) (w : Word) (n : ℕ) (assigned juniors : List ℕ) : Type 0 where
   pub faulty : n ≡ fault h assigned₀ t final w
   pub assigned-is : n ≡ 0 → assigned ≡ assigning assigned₀ (w .entry)
+  pub juniors-is : n ≡ 0 → juniors ≡ ordering juniors₀ (w .entry)

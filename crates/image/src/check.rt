@@ -3,7 +3,9 @@ ghost use mathlib.Core.Path.{_≡_};
 ghost use mathlib.Core.List.{List};
 ghost use Prim.Native.Nat.{ℕ, _+_, _-_, _*_, _≤_, _<_};
 ghost use lib.ListN.{length};
-ghost use Rattle.model.specs.Image.{wrongKind, sparing, entryFault, assigning, next as nextOf, scan, emptyRows, start, judge};
+ghost use Rattle.model.specs.declared.Head.{Head as HeadOf};
+ghost use Rattle.model.specs.Image.{wrongKind, sparing, entryFault, assigning, next as nextOf, scan, emptyRows, start, judgeWords};
+ghost use Rattle.model.specs.Policy.{entriesFrom, fold, ordering, policyOf};
 ghost use Rattle.image.specs.Bounds.{Small, Due, Taken};
 use crate::word::decode;
 use crate::word::head_of;
@@ -146,11 +148,34 @@ pub fn take_assignment(h: Head, assigned: &mut [u64; 64], spare: u32, u: User, r
     n
 }
 
-// 3 to 7, or 0. One match a word, so that one jump goes to the arm: each tests the spare bits and judges, and that of an assignment
-// stores.
-fn taken(h: Head, assigned: &mut [u64; 64], t: Scan, last: bool, w: Word) -> u8
+// A senior word without fault goes into the direct juniors so far.
+pub fn take_senior(h: Head, juniors: &mut [u64; 64], spare: u32, a: Role, b: Role) -> u8
+    requires { ⌜ (a .0 < 64) × (b .0 < 64) ⌝ }
+    ensures { λ n. ⌜ ((rows : List ℕ) (t : Scan) → n ≡ sparing spare (entryFault h rows t (Entry.Senior a b)))
+        × (n ≡ 0 → now (juniors .exit) ≡ ordering (now (juniors .entry)) (Entry.Senior a b)) ⌝ }
+{
+    let n = spared(spare, senior_fault(h, a, b));
+    if n != 0 {
+        return n;
+    }
+    let who = a.0 as usize;
+    let row = sets::with(juniors[who], b);
+    juniors[who] = row;
+    n
+}
+
+// 3 to 7, or 0. One match a word, so that one jump goes to the arm: each tests the spare bits and judges, and those of an assignment
+// and of a senior word store.
+fn taken(
+    h: Head,
+    assigned: &mut [u64; 64],
+    juniors: &mut [u64; 64],
+    t: Scan,
+    last: bool,
+    w: Word,
+) -> u8
     requires { ⌜ Small (w .entry) ⌝ }
-    ensures { λ n. ⌜ Taken h (now (assigned .entry)) t last w n (now (assigned .exit)) ⌝ }
+    ensures { λ n. ⌜ Taken h (now (assigned .entry)) (now (juniors .entry)) t last w n (now (assigned .exit)) (now (juniors .exit)) ⌝ }
 {
     let e = w.entry;
     let spare = w.spare;
@@ -160,7 +185,7 @@ fn taken(h: Head, assigned: &mut [u64; 64], t: Scan, last: bool, w: Word) -> u8
     match e {
         Entry::Assignment(u, r) => take_assignment(h, assigned, spare, u, r),
         Entry::Grant(r, p) => spared(spare, grant_fault(h, r, p)),
-        Entry::Senior(a, b) => spared(spare, senior_fault(h, a, b)),
+        Entry::Senior(a, b) => take_senior(h, juniors, spare, a, b),
         Entry::Exclude(x, m) => spared(spare, exclusion_fault(h, t, x, m)),
         Entry::Member(r) => spared(spare, member_fault(h, t, r)),
         Entry::End => spared(spare, 0),
@@ -194,9 +219,10 @@ pub fn next(t: Scan, e: Entry) -> Scan
 
 // ---- the words behind the head, and the whole
 
-fn check_words(image: &[u8], words: usize, h: Head, first: u32) -> Checked
+fn check_words(image: &[u8], words: usize, h: Head, first: u32, juniors: &mut [u64; 64]) -> Checked
     requires { ⌜ (4 * words ≤ length (now image)) × (1 ≤ words) × (words ≤ 4096) ⌝ }
-    ensures { λ r. ⌜ r ≡ scan (now (image .entry)) h (words - 1) 1 emptyRows start first ⌝ }
+    ensures { λ r. ⌜ (r ≡ scan (now (image .entry)) h (words - 1) 1 emptyRows start first)
+        × ((g : HeadOf) → r ≡ Checked.Accepted g → now (juniors .exit) ≡ fold ordering (now (juniors .entry)) (entriesFrom (now (image .entry)) (words - 1) 1)) ⌝ }
 {
     let mut assigned = [0u64; 64];
     let mut t = Scan {
@@ -208,7 +234,7 @@ fn check_words(image: &[u8], words: usize, h: Head, first: u32) -> Checked
     for place in 1..words {
         let w = octets::word_at(image, place);
         let word = decode(w);
-        let number = taken(h, &mut assigned, t, place + 1 == words, word);
+        let number = taken(h, &mut assigned, juniors, t, place + 1 == words, word);
         if number != 0 {
             return Checked::Refused(number, place as u16);
         }
@@ -223,9 +249,12 @@ fn check_words(image: &[u8], words: usize, h: Head, first: u32) -> Checked
     }
 }
 
-// Judges an image: accepted with the head's numbers, or refused with a number and a place.
-pub fn check(image: &[u8]) -> Checked
-    ensures { λ r. ⌜ r ≡ judge (now (image .entry)) ⌝ }
+// Judges an image by its words: accepted with the head's numbers, or refused by 1 to 8 with a place. Of an accepted image the table has
+// the direct juniors of each role.
+pub fn check(image: &[u8], juniors: &mut [u64; 64]) -> Checked
+    requires { ⌜ now juniors ≡ emptyRows ⌝ }
+    ensures { λ r. ⌜ (r ≡ judgeWords (now (image .entry)))
+        × ((g : HeadOf) → r ≡ Checked.Accepted g → now (juniors .exit) ≡ policyOf (now (image .entry)) .juniors) ⌝ }
 {
     let len = image.len();
     if len % 4 != 0 {
@@ -239,7 +268,7 @@ pub fn check(image: &[u8]) -> Checked
     }
     let w = octets::word_at(image, 0);
     if head_right(w) {
-        check_words(image, len / 4, head_of(w), w)
+        check_words(image, len / 4, head_of(w), w, juniors)
     } else {
         Checked::Refused(2, 0)
     }

@@ -1,18 +1,17 @@
 -- A call by its image: the tables that a pass over it fills, and the call under a refused and under an accepted one.
 -- Assumes nothing.
 use mathlib.Core.Path.{_≡_, refl, sym, ap, subst, _∙_}
-use mathlib.Core.List.{List, [], _∷_}
+use mathlib.Core.List.{List}
 use Prim.Native.Nat.{ℕ, _≤_}
-use lib.ListN.{length, replicate}
+use lib.ListN.{replicate}
 use Rattle.model.specs.declared.Head.{Head}
-use Rattle.model.specs.declared.Entry.{Entry}
 use Rattle.model.specs.declared.Checked.the-variants.{Accepted, Refused}
-use Rattle.model.specs.Image.{emptyRows, judge, checkNumber}
-use Rattle.model.specs.Policy.{entriesOf, fold, ordering, policyOf}
+use Rattle.model.specs.Image.{emptyRows, checkNumber}
+use Rattle.model.specs.Judgement.{judge}
+use Rattle.model.specs.Policy.{policyOf}
 use Rattle.model.specs.Session.{refuse}
 use Rattle.model.specs.Run.{Call, Event, stepOn, stepBy, step, returned, filledWith, answered}
-use Rattle.model.proofs.Accepted.{accepted-head, accepted-in-range}
-use Rattle.model.proofs.Tables.{ordering-length}
+use Rattle.model.proofs.Judgements.{accepted-head, accepted-in-range}
 use Rattle.sets.specs.Words.{value, values}
 use Rattle.rows.specs.Rows.{exclusionsIn}
 use Rattle.tables.specs.Tables.{Fresh, Tables}
@@ -28,25 +27,11 @@ fresh = record { assigned-none = refl; granted-none = refl; juniors-none = refl 
 pub accepted-users : (s : List ℕ) (h : Head) → judge s ≡ Accepted h → h .users ≤ 64
 accepted-users s h e = subst (λ (x : Head). x .users ≤ 64) (accepted-head s h e) (accepted-in-range s h e .users .1)
 
--- and at most 64 roles
-pub accepted-roles : (s : List ℕ) (h : Head) → judge s ≡ Accepted h → h .roles ≤ 64
-accepted-roles s h e = subst (λ (x : Head). x .roles ≤ 64) (accepted-head s h e) (accepted-in-range s h e .roles .1)
-
--- the table of juniors has 64 rows
-ordering-keeps : (es : List Entry) (rows : List ℕ) → length (fold ordering rows es) ≡ length rows
-unfolding fold
-ordering-keeps [] rows = refl
-ordering-keeps (e ∷ es) rows = ordering-keeps es (ordering rows e) ∙ ordering-length rows e
-
-pub length-juniors : (s : List ℕ) → length (policyOf s .juniors) ≡ 64
-unfolding policyOf emptyRows
-length-juniors s = ordering-keeps (entriesOf s) emptyRows
-
 -- an accepted image's tables are known
-pub known-of : (s : List ℕ) (h : Head) (assigned granted juniors : List ℕ) (rows : List (List ℕ)) (count : ℕ) → judge s ≡ Accepted h
-    → Tables (policyOf s) assigned granted juniors rows count → Known h assigned (exclusionsIn rows count) (policyOf s)
+pub known-of : (s : List ℕ) (h : Head) (assigned granted below : List ℕ) (rows : List (List ℕ)) (count : ℕ) → judge s ≡ Accepted h
+    → Tables (policyOf s) assigned granted below rows count → Known h assigned (exclusionsIn rows count) (policyOf s)
 unfolding exclusionsIn
-known-of s h assigned granted juniors rows count e t =
+known-of s h assigned granted below rows count e t =
     record { head-is = accepted-head s h e; assigned-is = t .assigned-is; exclusions-are = t .exclusions-are }
 
 module _ (W : ℕ) (s ledger : List ℕ) (c : Call) where

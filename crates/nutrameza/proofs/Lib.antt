@@ -1,3 +1,4 @@
 -- The laws that the proofs of the exported calls cite.
 pub mod Images
+pub mod Loops
 pub mod ShortAsks

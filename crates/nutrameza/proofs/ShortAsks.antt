@@ -6,7 +6,7 @@ use Prim.Native.Nat.{ℕ}
 use Rattle.model.specs.declared.Checked.{Checked}
 use Rattle.model.specs.declared.Checked.the-variants.{Accepted, Refused}
 use Rattle.model.specs.Tests.{first}
-use Rattle.model.specs.Image.{judge}
+use Rattle.model.specs.Judgement.{judge}
 use Rattle.model.specs.Policy.{Meaning, policyOf, meaning}
 use Rattle.model.specs.Line.{lineSize}
 use Rattle.model.specs.Session.{shortAim, ask, short-ask, sessionOf, queryOf, canGive, applies, perform, unless, rule}

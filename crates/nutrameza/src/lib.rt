@@ -3,7 +3,9 @@
 ghost use mathlib.Core.Path.{_≡_};
 ghost use lib.ListN.{length};
 ghost use Rattle.model.specs.Line.{SESSIONS};
-ghost use Rattle.model.specs.Image.{judge, checkNumber};
+ghost use Rattle.model.specs.Image.{checkNumber};
+ghost use Rattle.model.specs.Judgement.{judge};
+ghost use Rattle.model.specs.Loop.{loopCall};
 ghost use Rattle.model.specs.Run.{step, openBy, closeBy, showBy, askBy, shortAskBy, returned, answered};
 use calls::given::Rules;
 use calls::given::Window;
@@ -19,12 +21,27 @@ fn refusal_of(c: Checked) -> u64
     (number as u64) + 256 * (place as u64)
 }
 
-// Judges an image: 0, or the refusal's number plus 256 times the place of the refused word.
+// Judges an image: 0, or the refusal's number plus 256 times the place of the refused word or, by 22, the lowest role on a loop.
 #[no_mangle]
 pub extern "C" fn nutrameza_check(image: &[u8]) -> u64
     ensures { λ r. ⌜ r ≡ checkNumber (judge (now (image .entry))) ⌝ }
 {
-    refusal_of(image::check::check(image))
+    refusal_of(tables::judge::judge(image))
+}
+
+// Shows the shortest loop of the lowest role on one: its roles from that role down and back to it, a byte each, and zeros after them. The
+// extra is their number; 20 where no role is on a loop. An image is judged by its words alone.
+#[no_mangle]
+pub extern "C" fn nutrameza_loop(image: &[u8], chain: &mut [u8]) -> u64
+    ensures { λ r. ⌜ (r ≡ returned (loopCall (now (image .entry)) (length (now (chain .entry)))))
+        × (now (chain .exit) ≡ answered (now (chain .entry)) (loopCall (now (image .entry)) (length (now (chain .entry))))) ⌝ }
+{
+    let mut juniors = [0u64; 64];
+    let c = image::check::check(image, &mut juniors);
+    let Checked::Accepted(head) = c else {
+        return refusal_of(c);
+    };
+    hierarchy::chain::show_loop(&juniors, head.roles, chain)
 }
 
 // Opens the user's lowest closed session, and returns it as the extra.
@@ -35,9 +52,9 @@ pub extern "C" fn nutrameza_open(image: &[u8], ledger: &mut [u8], user: u64) -> 
 {
     let mut assigned = [0u64; 64];
     let mut granted = [[0u64; 4]; 64];
-    let mut juniors = [0u64; 64];
+    let mut below = [0u64; 64];
     let mut xs = [[0u64; 2]; 32];
-    let all = tables::read::read(image, &mut assigned, &mut granted, &mut juniors, &mut xs);
+    let all = tables::read::read(image, &mut assigned, &mut granted, &mut below, &mut xs);
     let c = all.checked;
     let Checked::Accepted(head) = c else {
         return refusal_of(c);
@@ -55,9 +72,9 @@ pub extern "C" fn nutrameza_close(image: &[u8], ledger: &mut [u8], user: u64, se
 {
     let mut assigned = [0u64; 64];
     let mut granted = [[0u64; 4]; 64];
-    let mut juniors = [0u64; 64];
+    let mut below = [0u64; 64];
     let mut xs = [[0u64; 2]; 32];
-    let all = tables::read::read(image, &mut assigned, &mut granted, &mut juniors, &mut xs);
+    let all = tables::read::read(image, &mut assigned, &mut granted, &mut below, &mut xs);
     let c = all.checked;
     let Checked::Accepted(head) = c else {
         return refusal_of(c);
@@ -83,9 +100,9 @@ pub extern "C" fn nutrameza_show(
 {
     let mut assigned = [0u64; 64];
     let mut granted = [[0u64; 4]; 64];
-    let mut juniors = [0u64; 64];
+    let mut below = [0u64; 64];
     let mut xs = [[0u64; 2]; 32];
-    let all = tables::read::read(image, &mut assigned, &mut granted, &mut juniors, &mut xs);
+    let all = tables::read::read(image, &mut assigned, &mut granted, &mut below, &mut xs);
     let c = all.checked;
     let Checked::Accepted(head) = c else {
         return refusal_of(c);
@@ -98,7 +115,7 @@ pub extern "C" fn nutrameza_show(
         rules,
         &assigned,
         &granted,
-        &mut juniors,
+        &below,
         &xs,
         window,
         answer,
@@ -124,9 +141,9 @@ pub extern "C" fn nutrameza_ask(
 {
     let mut assigned = [0u64; 64];
     let mut granted = [[0u64; 4]; 64];
-    let mut juniors = [0u64; 64];
+    let mut below = [0u64; 64];
     let mut xs = [[0u64; 2]; 32];
-    let all = tables::read::read(image, &mut assigned, &mut granted, &mut juniors, &mut xs);
+    let all = tables::read::read(image, &mut assigned, &mut granted, &mut below, &mut xs);
     let c = all.checked;
     let Checked::Accepted(head) = c else {
         return refusal_of(c);
@@ -139,7 +156,7 @@ pub extern "C" fn nutrameza_ask(
         rules,
         &assigned,
         &granted,
-        &mut juniors,
+        &below,
         &xs,
         window,
         lower,

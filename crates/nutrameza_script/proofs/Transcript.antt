@@ -9,7 +9,7 @@ use lib.Dec.{eqb, ltb}
 use lib.ListN.{length, take, length-append}
 use lib.Seq.{length-take-le, take-all, take-append-le, append-snoc}
 use borrow.Author.Tests.{ltb-true, ltb-false, eqb-true, eqb-false}
-use Rattle.model.specs.Image.{judge}
+use Rattle.model.specs.Judgement.{judge}
 use Rattle.script.specs.Script.{begun, linesOf, parse, answerBy, answerTo, printed, printedFor, firstLedger, transcript}
 use Rattle.script.proofs.LengthLaws.{first-bytes-parse}
 use Rattle.nutrameza_script.specs.Progress.{Progress, keeping, extended, answered, afterByte, after, endedBy, ended, first}

@@ -2,7 +2,7 @@
 ghost use mathlib.Core.Path.{_≡_};
 ghost use Prim.Native.Nat.{_+_, _≤_, _<_};
 ghost use lib.ListN.{length};
-ghost use Rattle.model.specs.Image.{judge};
+ghost use Rattle.model.specs.Judgement.{judge};
 ghost use Rattle.script.specs.Script.{firstLedger};
 ghost use Rattle.io.specs.Counts.{Counts};
 use crate::lines::Place;

@@ -3,7 +3,7 @@ ghost use mathlib.Core.Path.{_≡_};
 ghost use mathlib.Core.List.{[]};
 ghost use Prim.Native.Nat.{_+_, _≤_, _<_};
 ghost use lib.ListN.{length, take};
-ghost use Rattle.model.specs.Image.{judge};
+ghost use Rattle.model.specs.Judgement.{judge};
 ghost use Rattle.script.specs.Script.{firstLedger};
 ghost use Rattle.nutrameza_script.specs.Progress.{keeping, ended};
 ghost use Rattle.nutrameza_script.specs.Buffers.{during, Gathers, Ready, AnswersLines};
@@ -27,7 +27,7 @@ pub struct Place {
 pub fn ledger_length(image: &[u8]) -> usize
     ensures { λ r. ⌜ (r ≡ length (firstLedger (judge (now (image .entry))))) × (r ≤ 5120) ⌝ }
 {
-    let checked = image::check::check(image);
+    let checked = tables::judge::judge(image);
     let Checked::Accepted(h) = checked else {
         return 0;
     };

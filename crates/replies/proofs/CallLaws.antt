@@ -7,7 +7,7 @@ use Prim.Native.Nat.{ℕ}
 use lib.ListN.{length}
 use Rattle.model.specs.declared.Checked.{Checked}
 use Rattle.model.specs.declared.Checked.the-variants.{Accepted, Refused}
-use Rattle.model.specs.Image.{judge}
+use Rattle.model.specs.Judgement.{judge}
 use Rattle.model.specs.Policy.{Policy, Meaning, policyOf}
 use Rattle.model.specs.Session.{Refusal, Result, Reply, refuse, done, perform, unless, rule}
 use Rattle.model.specs.Run.{Call, Event, ruled, stepOn, stepBy, step, openBy, closeBy, showBy, shortAskBy, askBy, returned, filledWith, answered}

@@ -14,7 +14,7 @@ use Rattle.model.specs.declared.Checked.{Checked}
 use Rattle.model.specs.declared.Checked.the-variants.{Accepted, Refused}
 use Rattle.model.specs.Tests.{pick, between, all}
 use Rattle.model.specs.Bytes.{number, bytesOf}
-use Rattle.model.specs.Image.{judge}
+use Rattle.model.specs.Judgement.{judge}
 use Rattle.model.specs.Line.{SESSIONS, lineSize}
 use Rattle.model.specs.Session.{Reply, refuse}
 use Rattle.model.specs.Run.{Call, Event, step, openBy, closeBy, askBy, shortAskBy, showBy}

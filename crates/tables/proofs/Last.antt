@@ -15,9 +15,8 @@ use Rattle.model.specs.declared.Entry.{Entry}
 use Rattle.model.specs.declared.Entry.the-variants.{End}
 use Rattle.model.specs.Image.{wordAt, decode, fault, assigning, next, scan, balanced}
 use Rattle.model.specs.Policy.{entriesFrom, fold}
-use Rattle.image.proofs.Turns.{due-of, goes, ends}
+use Rattle.image.proofs.Turns.{due-of, goes, ends, fold-next, fold-end}
 use Rattle.tables.specs.Tables.{noting}
-use Rattle.tables.proofs.Fills.{fold-next, fold-end}
 use Rattle.tables.proofs.Places.{placesFrom, places-next, places-end}
 
 -- the word at p of n is not the last, or is it

@@ -3,4 +3,4 @@ pub mod Steps
 pub mod Fills
 pub mod Places
 pub mod Last
-pub mod Closing
+pub mod Carrying

@@ -13,7 +13,7 @@ use Rattle.model.specs.declared.Word.{Word}
 use Rattle.model.specs.declared.Entry.{Entry}
 use Rattle.model.specs.declared.Entry.the-variants.{Assignment, Grant, Senior, Exclude, Member, End, Unknown}
 use Rattle.model.specs.Image.{fault, assigning, emptyRows}
-use Rattle.model.specs.Policy.{Policy, entryAt, entriesFrom, fold, granting, ordering, withMembers, exclusionsOf}
+use Rattle.model.specs.Policy.{Policy, entryAt, entriesFrom, fold, granting, ordering, withMembers, exclusionsOf, belowTable}
 use Rattle.rows.specs.Rows.{exclusionOf}
 
 -- ---- exclusions, by the places of their words
@@ -76,11 +76,20 @@ pub record Fresh (assigned granted juniors : List ℕ) : Type 0 where
   pub granted-none : granted ≡ emptyRows
   pub juniors-none : juniors ≡ emptyRows
 
--- the tables and the exclusions are those of the policy
-pub record Tables (p : Policy) (assigned granted juniors : List ℕ) (rows : List (List ℕ)) (count : ℕ) : Type 0 where
+-- the tables and the exclusions are those of the policy, with the direct juniors of each role
+pub record Read (p : Policy) (assigned granted juniors : List ℕ) (rows : List (List ℕ)) (count : ℕ) : Type 0 where
   pub assigned-is : assigned ≡ p .assigned
   pub granted-is : granted ≡ p .granted
   pub juniors-is : juniors ≡ p .juniors
+  pub exclusions-are : take count (map exclusionOf rows) ≡ p .exclusions
+  pub few : count ≤ 32
+  pub full : length rows ≡ 32
+
+-- the same with the closed table, of the roles below each role
+pub record Tables (p : Policy) (assigned granted below : List ℕ) (rows : List (List ℕ)) (count : ℕ) : Type 0 where
+  pub assigned-is : assigned ≡ p .assigned
+  pub granted-is : granted ≡ p .granted
+  pub below-is : below ≡ belowTable p
   pub exclusions-are : take count (map exclusionOf rows) ≡ p .exclusions
   pub few : count ≤ 32
   pub full : length rows ≡ 32

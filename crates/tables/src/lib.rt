@@ -1,4 +1,5 @@
 // The tables of an accepted policy image: filled in the pass that judges it, and what roles carry by them.
 pub mod carried; // carried.rt: seniority closed, and what roles carry
 pub mod exclusions; // exclusions.rt: the exclusions at the places of their words
+pub mod judge; // judge.rt: an image judged, with no table kept
 pub mod read; // read.rt: one pass that judges an image and fills its tables

@@ -5,19 +5,21 @@ ghost use mathlib.Core.List.{List};
 ghost use Prim.Native.Nat.{ℕ, _+_, _-_, _*_, _≤_, _<_};
 ghost use lib.ListN.{length};
 ghost use Rattle.model.specs.declared.Head.{Head as HeadOf};
-ghost use Rattle.model.specs.Image.{sparing, entryFault, fault, scan, start, judge};
-ghost use Rattle.model.specs.Policy.{granting, ordering, policyOf};
+ghost use Rattle.model.specs.Image.{sparing, entryFault, fault, scan, start, judgeWords};
+ghost use Rattle.model.specs.Judgement.{judge};
+ghost use Rattle.model.specs.Policy.{granting, policyOf};
 ghost use Rattle.sets.specs.Words.{values};
 ghost use Rattle.image.specs.Bounds.{Small};
-ghost use Rattle.tables.specs.Tables.{noting, Step, Fresh, Gathered, Tables};
+ghost use Rattle.tables.specs.Tables.{noting, Step, Fresh, Gathered, Read, Tables};
 use crate::exclusions::exclusions_at;
+use hierarchy::loops::judged;
 use image::check::exclusion_fault;
 use image::check::grant_fault;
 use image::check::member_fault;
 use image::check::next;
-use image::check::senior_fault;
 use image::check::spared;
 use image::check::take_assignment;
+use image::check::take_senior;
 use image::check::wrong_kind;
 use image::word::decode;
 use image::word::head_of;
@@ -49,21 +51,6 @@ fn take_grant(h: Head, granted: &mut [[u64; 4]; 64], spare: u32, r: Role, p: Per
         return n;
     }
     sets::perm_put(granted, r, p);
-    n
-}
-
-fn take_senior(h: Head, juniors: &mut [u64; 64], spare: u32, a: Role, b: Role) -> u8
-    requires { ⌜ (a .0 < 64) × (b .0 < 64) ⌝ }
-    ensures { λ n. ⌜ ((rows : List ℕ) (t : Scan) → n ≡ sparing spare (entryFault h rows t (Entry.Senior a b)))
-        × (n ≡ 0 → now (juniors .exit) ≡ ordering (now (juniors .entry)) (Entry.Senior a b)) ⌝ }
-{
-    let n = spared(spare, senior_fault(h, a, b));
-    if n != 0 {
-        return n;
-    }
-    let who = a.0 as usize;
-    let row = sets::with(juniors[who], b);
-    juniors[who] = row;
     n
 }
 
@@ -195,9 +182,9 @@ fn read_words(
     }
 }
 
-// Judges an image and, where it is accepted, leaves in the tables the roles assigned to each user, the permissions granted to each role,
-// the direct juniors of each role and the exclusions.
-pub fn read(
+// Judges an image by its words and, where they pass, leaves in the tables the roles assigned to each user, the permissions granted to each
+// role, the direct juniors of each role and the exclusions.
+fn gather(
     image: &[u8],
     assigned: &mut [u64; 64],
     granted: &mut [[u64; 4]; 64],
@@ -205,9 +192,9 @@ pub fn read(
     xs: &mut [[u64; 2]; 32],
 ) -> Reading
     requires { ⌜ (Fresh (now assigned) (values (now granted)) (now juniors)) × (length (now xs) ≡ 32) ⌝ }
-    ensures { λ r. ⌜ (r .checked ≡ judge (now (image .entry)))
+    ensures { λ r. ⌜ (r .checked ≡ judgeWords (now (image .entry)))
         × ((g : HeadOf) → r .checked ≡ Checked.Accepted g
-        → Tables (policyOf (now (image .entry))) (now (assigned .exit)) (values (now (granted .exit))) (now (juniors .exit)) (now (xs .exit)) (r .count)) ⌝ }
+        → Read (policyOf (now (image .entry))) (now (assigned .exit)) (values (now (granted .exit))) (now (juniors .exit)) (now (xs .exit)) (r .count)) ⌝ }
 {
     let len = image.len();
     if len % 4 != 0 {
@@ -233,4 +220,27 @@ pub fn read(
         );
     }
     refused(2, 0)
+}
+
+// Judges an image and, where it is accepted, leaves in the tables the roles assigned to each user, the permissions granted to each role,
+// the roles below each role and the exclusions.
+pub fn read(
+    image: &[u8],
+    assigned: &mut [u64; 64],
+    granted: &mut [[u64; 4]; 64],
+    below: &mut [u64; 64],
+    xs: &mut [[u64; 2]; 32],
+) -> Reading
+    requires { ⌜ (Fresh (now assigned) (values (now granted)) (now below)) × (length (now xs) ≡ 32) ⌝ }
+    ensures { λ r. ⌜ (r .checked ≡ judge (now (image .entry)))
+        × ((g : HeadOf) → r .checked ≡ Checked.Accepted g
+        → Tables (policyOf (now (image .entry))) (now (assigned .exit)) (values (now (granted .exit))) (now (below .exit)) (now (xs .exit)) (r .count)) ⌝ }
+{
+    let all = gather(image, assigned, granted, below, xs);
+    let c = all.checked;
+    let checked = judged(c, below);
+    Reading {
+        checked,
+        count: all.count,
+    }
 }

@@ -6,7 +6,7 @@ use borrow.Author.Needs.{needs}
 use Rattle.model.specs.Image.{checkNumber}
 use Rattle.model.specs.Policy.{policyOf}
 use Rattle.model.specs.Run.{askBy}
-use Rattle.nutrameza.proofs.Images.{fresh, accepted-users, accepted-roles, length-juniors, known-of, answers-judged, answers-accepted}
+use Rattle.nutrameza.proofs.Images.{fresh, accepted-users, known-of, answers-judged, answers-accepted}
 use Rattle.nutrameza.proofs.nutrameza_ask.Statement.{statement}
 use Rattle.nutrameza.proofs.nutrameza_ask.Tie as tie
 
@@ -27,7 +27,7 @@ ask-roles-requires c κs =
     let g = c .before .before .before .before .before .before .before .c .given .1 in
     let k = c .before .before .before .before .before .before .before .before .before .read .ensures in
     let j = sym (k .0) ∙ g in
-    (accepted-users _ _ j, accepted-roles _ _ j, k .1 _ g .few, ap length (k .1 _ g .juniors-is) ∙ length-juniors _, k .1 _ g .full)
+    (accepted-users _ _ j, k .1 _ g .few, k .1 _ g .full)
 
 returns-2 : tie.Need-returns-2
 returns-2 c =
@@ -37,7 +37,7 @@ returns-2 c =
     let j = sym (k .0) ∙ g in
     let t = k .1 _ g in
     let e = answers-accepted 4 (a .image .now) (a .ledger .now) (askBy (a .user) (a .session) (a .lower .now) (a .upper .now) (a .permission-aim) (a .role-aim) (length (a .answer .now)))
-    _ _ _ (a .answer .now) _ j (c .before .before .before .before .ask-roles .ensures (policyOf (a .image .now)) (known-of (a .image .now) _ _ _ _ _ _ j t) (t .granted-is) (t .juniors-is)) in
+    _ _ _ (a .answer .now) _ j (c .before .before .before .before .ask-roles .ensures (policyOf (a .image .now)) (known-of (a .image .now) _ _ _ _ _ _ j t) (t .granted-is) (t .below-is)) in
     (e .number, e .bytes, e .buffer)
 
 pub nutrameza-ask-spec : {M : Type 1} → statement M

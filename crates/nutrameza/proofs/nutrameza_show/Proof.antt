@@ -6,7 +6,7 @@ use borrow.Author.Needs.{needs}
 use Rattle.model.specs.Image.{checkNumber}
 use Rattle.model.specs.Policy.{policyOf}
 use Rattle.model.specs.Run.{showBy}
-use Rattle.nutrameza.proofs.Images.{fresh, accepted-users, accepted-roles, length-juniors, known-of, shows-judged, shows-accepted}
+use Rattle.nutrameza.proofs.Images.{fresh, accepted-users, known-of, shows-judged, shows-accepted}
 use Rattle.nutrameza.proofs.nutrameza_show.Statement.{statement}
 use Rattle.nutrameza.proofs.nutrameza_show.Tie as tie
 
@@ -26,7 +26,7 @@ show-requires : tie.Need-show-session-requires
 show-requires c κs =
     let g = c .before .before .before .before .before .before .c .given .1 in
     let k = c .before .before .before .before .before .before .before .before .read .ensures in
-    (accepted-users _ _ (sym (k .0) ∙ g), accepted-roles _ _ (sym (k .0) ∙ g), k .1 _ g .few, ap length (k .1 _ g .juniors-is) ∙ length-juniors _, k .1 _ g .full)
+    (accepted-users _ _ (sym (k .0) ∙ g), k .1 _ g .few, k .1 _ g .full)
 
 returns-2 : tie.Need-returns-2
 returns-2 c =
@@ -37,7 +37,7 @@ returns-2 c =
     let j = sym (k .0) ∙ g in
     let t = k .1 _ g in
     let e = shows-accepted 4 (a .image .now) (a .ledger .now) (showBy (a .user) (a .session) (length (a .answer .now))) _ _ _ _ j
-    (o .show-session .ensures (policyOf (a .image .now)) (known-of (a .image .now) _ _ _ _ _ _ j t) (t .granted-is) (t .juniors-is)) in
+    (o .show-session .ensures (policyOf (a .image .now)) (known-of (a .image .now) _ _ _ _ _ _ j t) (t .granted-is) (t .below-is)) in
     (e .number, e .buffer)
 
 pub nutrameza-show-spec : {M : Type 1} → statement M

@@ -51,29 +51,27 @@ cast-second c =
 
 put-best-requires : tie.Need-put-best-requires
 put-best-requires c κs =
-    let s = c .before .before .before .before .before .before .before .before .before .before .before .before .before in
+    let s = c .before .before .before .before .before .before .before .before .before .before .before .before in
     let a = s .args in (
       s .pre .1,
-      s .pre .3,
-      s .pre .2,
       line-room 4 (a .rules .head) (a .assigned .now) (exclusionsIn (a .xs .now) (a .rules .count)) (a .ledger .now) (a .window .user) (a .window .session) (a .lower .now) (a .upper .now) (a .first) (a .second) _ _
-          (c .before .before .before .before .before .before .before .ask-refusal .ensures) (c .before .before .before .before .before .before .if1 .left),
+          (c .before .before .before .before .before .before .ask-refusal .ensures) (c .before .before .before .before .before .if1 .left),
       ask-by 4 (a .rules .head) (a .assigned .now) (exclusionsIn (a .xs .now) (a .rules .count)) (a .ledger .now) (a .window .user) (a .window .session) (a .lower .now) (a .upper .now) (a .first) (a .second) _ _
-          (c .before .before .before .before .before .before .before .ask-refusal .ensures) (c .before .before .before .before .before .before .if1 .left) .session .below,
+          (c .before .before .before .before .before .before .ask-refusal .ensures) (c .before .before .before .before .before .if1 .left) .session .below,
       room-40 4 (a .rules .head) (a .assigned .now) (exclusionsIn (a .xs .now) (a .rules .count)) (a .ledger .now) (a .window .user) (a .window .session) (a .lower .now) (a .upper .now) (a .first) (a .second) _ _
-          (c .before .before .before .before .before .before .before .ask-refusal .ensures) (c .before .before .before .before .before .before .if1 .left),
-      s .pre .4,
+          (c .before .before .before .before .before .before .ask-refusal .ensures) (c .before .before .before .before .before .if1 .left),
+      s .pre .2,
     )
 
 returns-2 : tie.Need-returns-2
 returns-2 c p h g j =
-    let a = c .before .before .before .before .before .before .before .before .before .before .before .before .before .before .before .before .before .before .args in
+    let a = c .before .before .before .before .before .before .before .before .before .before .before .before .before .before .before .before .before .args in
     let r = ask-for 4 (a .rules .head) (a .assigned .now) (exclusionsIn (a .xs .now) (a .rules .count)) (a .ledger .now) (a .window .user) (a .window .session) (a .lower .now) (a .upper .now) (a .first) (a .second) _ _
-    (c .before .before .before .before .before .before .before .before .before .before .before .before .ask-refusal .ensures) (c .before .before .before .before .before .before .before .before .before .before .before .if1 .left) p h in
+    (c .before .before .before .before .before .before .before .before .before .before .before .ask-refusal .ensures) (c .before .before .before .before .before .before .before .before .before .before .if1 .left) p h in
     answers-searched p (a .ledger .now) (a .window .user) (a .window .session) (a .lower .now) (a .upper .now) (a .first) (a .second) _ _ _ _ _ (a .answer .now) _ r
-    (c .before .before .before .before .before .before .before .before .before .bound .ensures) (c .before .before .before .before .before .before .before .before .bound2 .ensures)
+    (c .before .before .before .before .before .before .before .before .bound .ensures) (c .before .before .before .before .before .before .before .bound2 .ensures)
     (c .before .before .before .before .put-best .ensures p
-    (searched-of p (a .rules .head) (a .assigned .now) (exclusionsIn (a .xs .now) (a .rules .count)) (a .ledger .now) (values (a .granted .now)) (a .juniors .now) (a .window .user) _ h g j (c .before .before .before .before .before .before .before .before .before .before .roles-of .ensures) (r .first)))
+    (searched-of p (a .rules .head) (a .assigned .now) (exclusionsIn (a .xs .now) (a .rules .count)) (a .ledger .now) (values (a .granted .now)) (a .below .now) (a .window .user) _ h g j (c .before .before .before .before .before .before .before .before .before .roles-of .ensures) (r .first)))
 
 pub ask-roles-spec : {M : Type 1} → statement M
 ask-roles-spec =

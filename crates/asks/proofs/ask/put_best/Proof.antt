@@ -17,10 +17,10 @@ use Rattle.asks.proofs.ask.put_best.Tie as tie
 returns : tie.Need-returns
 unfolding lineOf
 returns c p g =
-    let s = c .before .before .before .before .before .before .before .before .before .before .before .before in
+    let s = c .before .before .before .before .before .before .before .before .before in
     let a = s .args in
     let l = c .before .before .before .before .line-of .ensures in
-    let q = asked-of p (a .window .user) (a .ledger .now) (a .rules .head .roles) (values (a .granted .now)) (a .juniors .now) (a .authorized) (exclusionsIn (a .xs .now) (a .rules .count)) _ _ g
+    let q = asked-of p (a .window .user) (a .ledger .now) (values (a .granted .now)) (a .below .now) (a .authorized) (exclusionsIn (a .xs .now) (a .count)) _ _ g
     (s .fits .authorized .fits) (c .before .before .before .before .before .before .carried .ensures) l in
     answers-none p (a .ledger .now) (a .window .user) (a .window .session) _ _
     (chosen-none p (a .window .user) (a .ledger .now) _ l _ (a .window .session) (value (a .wanted .lower)) (value (a .wanted .upper)) (a .wanted .first) (a .wanted .second)
@@ -29,10 +29,10 @@ returns c p g =
 returns-2 : tie.Need-returns-2
 unfolding lineOf
 returns-2 c p g =
-    let s = c .before .before .before .before .before .before .before .before .before .before .before .before .before .before .before .before .before .before .before .before .before .before .before .before in
+    let s = c .before .before .before .before .before .before .before .before .before .before .before .before .before .before .before .before .before .before .before .before .before in
     let a = s .args in
     let l = c .before .before .before .before .before .before .before .before .before .before .before .before .before .before .before .before .line-of .ensures in
-    let q = asked-of p (a .window .user) (a .ledger .now) (a .rules .head .roles) (values (a .granted .now)) (a .juniors .now) (a .authorized) (exclusionsIn (a .xs .now) (a .rules .count)) _ _ g
+    let q = asked-of p (a .window .user) (a .ledger .now) (values (a .granted .now)) (a .below .now) (a .authorized) (exclusionsIn (a .xs .now) (a .count)) _ _ g
     (s .fits .authorized .fits) (c .before .before .before .before .before .before .before .before .before .before .before .before .before .before .before .before .before .before .carried .ensures) l in
     let o = chosen-some p (a .window .user) (a .ledger .now) _ l _ (a .window .session) (value (a .wanted .lower)) (value (a .wanted .upper)) (a .wanted .first) (a .wanted .second)
     (c .before .before .before .before .before .before .before .before .before .before .before .before .before .before .best .ensures p (a .window .user) q) _ (c .before .before .before .before .before .before .before .before .before .before .before .before .choice .given .1) in
@@ -44,13 +44,12 @@ returns-2 c p g =
     (c .before .before .fill .ensures)
 
 fill-requires : tie.Need-fill-requires
-fill-requires c κs = c .before .before .before .before .before .before .before .before .before .before .before .before .before .before .before .before .before .before .before .before .before .pre .5
+fill-requires c κs = c .before .before .before .before .before .before .before .before .before .before .before .before .before .before .before .before .before .before .pre .3
 
 pub put-best-spec : {M : Type 1} → statement M
 put-best-spec =
     tie.close
     (tie.spec
-    (λ c. search needs)
     (λ c κs. search needs)
     (λ c κs. search needs)
     (λ c κs. search needs)

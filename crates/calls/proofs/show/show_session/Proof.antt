@@ -6,7 +6,6 @@ use Prim.Native.Nat.{ℕ}
 use lib.ListN.{length}
 use borrow.Author.Needs.{needs}
 use borrow.Author.Tests.{not-true, not-false}
-use Rattle.model.specs.declared.Head.{Head}
 use Rattle.model.specs.declared.Line.{Line}
 use Rattle.model.specs.Bytes.{bytesOf}
 use Rattle.model.specs.Policy.{meaning}
@@ -65,7 +64,7 @@ returns-5 : tie.Need-returns-5
 unfolding lineOf sessionAt emptySession
 returns-5 c p h eg ej =
     let k = c .before .before .before .before in
-    let t = k .before .before .before .before .before in
+    let t = k .before .before in
     let o = t .before .before in
     let n = o .before in
     let f = n .before .before .before in
@@ -75,7 +74,7 @@ returns-5 c p h eg ej =
     let g = show0 4 p (a .ledger .now) (a .window .user) (a .window .session) (a .answer .now) r (n .before .if2 .left)
     (ap (λ (x : Line). isOpen x (a .window .session)) (sym l) ∙ sym (o .is-open .ensures) ∙ not-false _ (t .before .if3 .left)) (t .if4 .left) in
     let s = ap (λ (x : Line). sessionAt x (a .window .session) .active) l in
-    let e = k .carried-by .ensures ∙ set-carries p (a .window .user) _ _ _ _ (ap (λ (x : Head). x .roles) (h .head-is)) eg ej in
+    let e = k .carried-by .ensures ∙ set-carries p (a .window .user) _ _ _ eg ej in
     record {
       number = g .number;
       buffer = c .before .before .fill .ensures ∙ ap₂ (λ (x y : ℕ). bytesOf 8 x ++ bytesOf 32 y) s (e ∙ ap (carriedBy (meaning p (a .window .user))) s) ∙ g .buffer;
@@ -84,4 +83,4 @@ returns-5 c p h eg ej =
 pub show-session-spec : {M : Type 1} → statement M
 show-session-spec =
     tie.close
-    (tie.spec (λ c κs. search needs) returns returns-2 line-of-requires (λ c κs. search needs) returns-3 returns-4 (λ c. search needs) (λ c. search needs) (λ c. search needs) (λ c κs. search needs) (λ c κs. search needs) (λ c. search needs) returns-5)
+    (tie.spec (λ c κs. search needs) returns returns-2 line-of-requires (λ c κs. search needs) returns-3 returns-4 (λ c. search needs) (λ c. search needs) (λ c κs. search needs) (λ c κs. search needs) (λ c. search needs) returns-5)

@@ -4,6 +4,7 @@ use mathlib.Core.Path.{refl, sym, ap, _∙_}
 use borrow.Author.Needs.{needs}
 use Rattle.model.specs.Tests.{pick}
 use Rattle.model.specs.Image.{sparing, assigning, entryFault, inRange, repeats, crowds}
+use Rattle.model.specs.Policy.{ordering}
 use Rattle.image.specs.Bounds.{Small}
 use Rattle.image.proofs.Turns.{took, mistook}
 use Rattle.image.proofs.check.taken.Statement.{statement}
@@ -16,56 +17,60 @@ take-assignment-requires : tie.Need-take-assignment-requires
 unfolding Small
 take-assignment-requires c κs = rw (c .before .before .e .given .1) at (c .before .before .before .before .before .before .pre)
 
+take-senior-requires : tie.Need-take-senior-requires
+unfolding Small
+take-senior-requires c κs = rw (c .before .before .e3 .given .1) at (c .before .before .before .before .before .before .pre)
+
 member-fault-requires : tie.Need-member-fault-requires
 unfolding Small
 member-fault-requires c κs = rw (c .before .e5 .given .1) at (c .before .before .before .before .before .pre)
 
 returns-2 : tie.Need-returns-2
-unfolding assigning
+unfolding assigning ordering
 returns-2 c =
     let k = c .before .before .before .before .before .before in
     took _ (c .before .before .before .e .given .1) (sym (k .wrong-kind .ensures) ∙ c .before .before .before .before .before .if1 .left)
-    (c .take-assignment .ensures .0 (k .before .args .t)) (λ z. c .take-assignment .ensures .1 z)
+    (c .take-assignment .ensures .0 (k .before .args .t)) (λ z. c .take-assignment .ensures .1 z) (λ z. refl)
 
 returns-3 : tie.Need-returns-3
-unfolding assigning
+unfolding assigning ordering
 returns-3 c =
     let k = c .before .before .before .before .before .before in
     took _ (c .before .before .before .e2 .given .1) (sym (k .wrong-kind .ensures) ∙ c .before .before .before .before .before .if1 .left)
-    (c .spared .ensures ∙ ap (sparing (k .before .args .w .spare)) (c .before .grant-fault .ensures (k .before .args .assigned .now) (k .before .args .t))) (λ z. refl)
+    (c .spared .ensures ∙ ap (sparing (k .before .args .w .spare)) (c .before .grant-fault .ensures (k .before .args .assigned .now) (k .before .args .t))) (λ z. refl) (λ z. refl)
 
 returns-4 : tie.Need-returns-4
-unfolding assigning
+unfolding assigning ordering
 returns-4 c =
     let k = c .before .before .before .before .before .before in
     took _ (c .before .before .before .e3 .given .1) (sym (k .wrong-kind .ensures) ∙ c .before .before .before .before .before .if1 .left)
-    (c .spared2 .ensures ∙ ap (sparing (k .before .args .w .spare)) (c .before .senior-fault .ensures (k .before .args .assigned .now) (k .before .args .t))) (λ z. refl)
+    (c .take-senior .ensures .0 (k .before .args .assigned .now) (k .before .args .t)) (λ z. refl) (λ z. c .take-senior .ensures .1 z)
 
 returns-5 : tie.Need-returns-5
-unfolding assigning
+unfolding assigning ordering
 returns-5 c =
     let k = c .before .before .before .before .before .before in
     took _ (c .before .before .before .e4 .given .1) (sym (k .wrong-kind .ensures) ∙ c .before .before .before .before .before .if1 .left)
-    (c .spared3 .ensures ∙ ap (sparing (k .before .args .w .spare)) (c .before .exclusion-fault .ensures (k .before .args .assigned .now))) (λ z. refl)
+    (c .spared2 .ensures ∙ ap (sparing (k .before .args .w .spare)) (c .before .exclusion-fault .ensures (k .before .args .assigned .now))) (λ z. refl) (λ z. refl)
 
 returns-6 : tie.Need-returns-6
-unfolding assigning
+unfolding assigning ordering
 returns-6 c =
     let k = c .before .before .before .before .before .before in
     took _ (c .before .before .before .e5 .given .1) (sym (k .wrong-kind .ensures) ∙ c .before .before .before .before .before .if1 .left)
-    (c .spared4 .ensures ∙ ap (sparing (k .before .args .w .spare)) (c .before .member-fault .ensures (k .before .args .assigned .now))) (λ z. refl)
+    (c .spared3 .ensures ∙ ap (sparing (k .before .args .w .spare)) (c .before .member-fault .ensures (k .before .args .assigned .now))) (λ z. refl) (λ z. refl)
 
 returns-7 : tie.Need-returns-7
-unfolding assigning entryFault inRange repeats crowds pick
+unfolding assigning ordering entryFault inRange repeats crowds pick
 returns-7 c =
     let k = c .before .before .before .before in
-    took _ (c .before .enum-told .given .1) (sym (k .wrong-kind .ensures) ∙ c .before .before .before .if1 .left) (c .spared5 .ensures) (λ z. refl)
+    took _ (c .before .enum-told .given .1) (sym (k .wrong-kind .ensures) ∙ c .before .before .before .if1 .left) (c .spared4 .ensures) (λ z. refl) (λ z. refl)
 
 returns-8 : tie.Need-returns-8
-unfolding assigning entryFault inRange repeats crowds pick
+unfolding assigning ordering entryFault inRange repeats crowds pick
 returns-8 c =
     let k = c .before .before .before .before in
-    took _ (c .before .enum-told2 .given .1) (sym (k .wrong-kind .ensures) ∙ c .before .before .before .if1 .left) (c .spared6 .ensures) (λ z. refl)
+    took _ (c .before .enum-told2 .given .1) (sym (k .wrong-kind .ensures) ∙ c .before .before .before .if1 .left) (c .spared5 .ensures) (λ z. refl) (λ z. refl)
 
 pub taken-spec : {M : Type 1} → statement M
 taken-spec =
@@ -79,8 +84,7 @@ taken-spec =
     (λ c κs. search needs)
     (λ c κs. search needs)
     (λ c. search needs)
-    (λ c κs. search needs)
-    (λ c κs. search needs)
+    take-senior-requires
     (λ c. search needs)
     (λ c κs. search needs)
     (λ c κs. search needs)

@@ -7,11 +7,11 @@ use Rattle.nutrameza_script.proofs.lines.ledger_length.Statement.{state
 use Rattle.nutrameza_script.proofs.lines.ledger_length.Tie as tie
 
 returns : tie.Need-returns
-returns c = (refused-length _ _ _ (sym (c .before .before .check .ensures) ∙ c .enum-told .given .1), search needs)
+returns c = (refused-length _ _ _ (sym (c .before .before .judge .ensures) ∙ c .enum-told .given .1), search needs)
 
 returns-2 : tie.Need-returns-2
 returns-2 c =
-    let j = sym (c .before .before .before .before .check .ensures) ∙ c .before .before .checked .given .1 in
+    let j = sym (c .before .before .before .before .judge .ensures) ∙ c .before .before .checked .given .1 in
     (accepted-length _ _ j, accepted-most _ _ j)
 
 pub ledger-length-spec : {M : Type 1} → statement M

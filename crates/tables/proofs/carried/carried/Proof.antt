@@ -1,24 +1,36 @@
--- `tables::carried::carried` meets its contract.
+-- `tables::carried::carried` meets its contract. The loop's invariant: the rows of the roles before those to come are made.
 -- Assumes nothing.
-use mathlib.Core.Path.{sym, ap, _∙_}
-use mathlib.Core.List.{List}
-use Prim.Native.Nat.{ℕ}
+use mathlib.Core.Path.{ap, _∙_}
 use borrow.Author.Needs.{needs}
+use Rattle.model.specs.Sets.{count, unionAt}
+use Rattle.model.specs.Policy.{withSelves}
 use Rattle.sets.specs.Words.{values}
-use Rattle.model.specs.Policy.{selfAndJuniors}
-use Rattle.tables.specs.Carried.{rowsOf, carriedRows}
-use Rattle.tables.proofs.Closing.{closed-selves}
+use Rattle.tables.proofs.Carrying.{Made, made-start, made-next, made-less, made-all}
 use Rattle.tables.proofs.carried.carried.Statement.{statement}
 use Rattle.tables.proofs.carried.carried.Tie as tie
 
-returns : tie.Need-returns
-unfolding carriedRows
-returns c =
-    let k = c .before .before in
-    let a = k .before .before .args in
-    c .rows-of .ensures
-    ∙ ap (λ (x : List ℕ). rowsOf (values (a .granted .now)) x (a .wanted))
-    (ap selfAndJuniors (k .close .ensures) ∙ sym (closed-selves _ _ (k .before .before .pre .0)))
+abbrev Inv-loop : tie.InvT-loop
+Inv-loop granted below wanted left₀ out₀ left out = Made (values granted) (withSelves below) wanted left out
+
+abbrev μ-loop : tie.MeasureT-loop
+μ-loop granted below wanted left₀ out₀ left out = count 64 left
+
+loop-holds : tie.Need-loop-holds Inv-loop μ-loop
+loop-holds c = made-start _ _ _ (c .fits .wanted .fits)
+
+loop-less : tie.Need-loop-less Inv-loop μ-loop
+loop-less c = search (needs, made-less)
+
+loop-again : tie.Need-loop-again Inv-loop μ-loop
+loop-again c =
+    let j = c .before .before in
+    let w = j .before .before in
+    let l = w .before .before in
+    made-next _ _ _ _ _ _ _ (l .loop .inv) (w .lowest .ensures) (c .without .ensures) _
+    (j .perm-union-at .ensures ∙ ap (unionAt (values (l .before .args .granted .now))) (j .before .reach .ensures))
+
+returns : tie.Need-returns Inv-loop μ-loop
+returns c = search (needs, made-all)
 
 pub carried-spec : {M : Type 1} → statement M
-carried-spec = tie.close (tie.spec (λ c κs. search needs) (λ c κs. search needs) returns)
+carried-spec = tie.close (tie.spec Inv-loop μ-loop loop-holds (λ c κs. search needs) (λ c κs. search needs) (λ c κs. search needs) (λ c. search needs) (λ c. search needs) (λ c. search needs) (λ c κs. search needs) loop-less loop-again returns)

@@ -2,7 +2,7 @@
 -- Assumes nothing.
 use mathlib.Core.Path.{sym, _∙_}
 use borrow.Author.Needs.{needs}
-use Rattle.tables.proofs.Closing.{selves-at}
+use Rattle.tables.proofs.Carrying.{selves-at}
 use Rattle.tables.proofs.carried.reach.Statement.{statement}
 use Rattle.tables.proofs.carried.reach.Tie as tie
 

@@ -4,13 +4,13 @@ use mathlib.Core.Path.{refl, ap, _∙_}
 use lib.ListN.{getD}
 use borrow.Author.Needs.{needs}
 use Rattle.model.specs.Sets.{union, count, unionAt}
-use Rattle.model.specs.Policy.{selfAndJuniors}
+use Rattle.model.specs.Policy.{withSelves}
 use Rattle.sets.proofs.Unions.{Joins, joins-start, joins-next, joins-less, joins-end}
 use Rattle.tables.proofs.carried.reached_by.Statement.{statement}
 use Rattle.tables.proofs.carried.reached_by.Tie as tie
 
 abbrev Inv-loop : tie.InvT-loop
-Inv-loop rows set left₀ all₀ left all = Joins (λ r. getD (selfAndJuniors rows) r 0) set left all
+Inv-loop rows set left₀ all₀ left all = Joins (λ r. getD (withSelves rows) r 0) set left all
 
 abbrev μ-loop : tie.MeasureT-loop
 μ-loop rows set left₀ all₀ left all = count 64 left

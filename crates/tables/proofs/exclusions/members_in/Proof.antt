@@ -6,7 +6,7 @@ use Prim.Native.Nat.{_≤_, _-_}
 use native.Mathlib.Omega.{arith}
 use borrow.Author.Needs.{needs}
 use Rattle.model.specs.Policy.{fold, joining, entriesFrom}
-use Rattle.tables.proofs.Fills.{fold-next, fold-end}
+use Rattle.image.proofs.Turns.{fold-next, fold-end}
 use Rattle.tables.proofs.exclusions.members_in.Statement.{statement}
 use Rattle.tables.proofs.exclusions.members_in.Tie as tie
 

@@ -13,9 +13,8 @@ use Rattle.model.specs.declared.Checked.the-variants.{Refused}
 use Rattle.model.specs.Image.{wordAt, assigning, scan, start}
 use Rattle.model.specs.Policy.{entriesFrom, fold, granting, ordering}
 use Rattle.tables.specs.Tables.{exclusionAt}
-use Rattle.image.proofs.Turns.{due-of, stops, goes, sum-right, sum-wrong}
+use Rattle.image.proofs.Turns.{due-of, stops, goes, sum-right, sum-wrong, fold-next}
 use Rattle.image.proofs.Judged.{never}
-use Rattle.tables.proofs.Fills.{fold-next}
 use Rattle.tables.proofs.Places.{placesFrom, exclusions-placed, places-next, length-noted, noted-below, none-noted, next-few}
 use Rattle.tables.proofs.Last.{before-last, at-last, fold-last, places-last, scan-last}
 use Rattle.tables.proofs.read.read_words.Statement.{statement}

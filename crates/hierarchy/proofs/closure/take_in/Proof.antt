@@ -1,11 +1,11 @@
--- `tables::carried::take_in` meets its contract.
+-- `hierarchy::closure::take_in` meets its contract.
 -- Assumes nothing.
 use Rattle.model.specs.Tests.{pick}
 use Rattle.model.specs.Policy.{taking}
 use mathlib.Core.Path.{sym, _∙_}
 use borrow.Author.Needs.{needs}
-use Rattle.tables.proofs.carried.take_in.Statement.{statement}
-use Rattle.tables.proofs.carried.take_in.Tie as tie
+use Rattle.hierarchy.proofs.closure.take_in.Statement.{statement}
+use Rattle.hierarchy.proofs.closure.take_in.Tie as tie
 
 returns : tie.Need-returns
 unfolding taking pick

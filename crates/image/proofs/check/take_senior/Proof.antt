@@ -1,11 +1,11 @@
--- `tables::read::take_senior` meets its contract.
+-- `image::check::take_senior` meets its contract.
 -- Assumes nothing.
 use mathlib.Core.Path.{ap, _∙_}
 use borrow.Author.Needs.{needs}
 use Rattle.model.specs.Image.{sparing}
 use Rattle.model.specs.Policy.{ordering}
-use Rattle.tables.proofs.read.take_senior.Statement.{statement}
-use Rattle.tables.proofs.read.take_senior.Tie as tie
+use Rattle.image.proofs.check.take_senior.Statement.{statement}
+use Rattle.image.proofs.check.take_senior.Tie as tie
 
 returns : tie.Need-returns
 returns c =

@@ -1,4 +1,4 @@
--- `tables::carried::close` meets its contract.
+-- `hierarchy::closure::close` meets its contract.
 -- Assumes nothing.
 use mathlib.Core.Path.{_≡_}
 use Prim.Native.Nat.{ℕ, _≤_, _-_}
@@ -7,10 +7,10 @@ use mathlib.Core.Path.{ap, _∙_}
 use lib.ListN.{length}
 use native.Mathlib.Nat.{le-antisymm}
 use Rattle.model.specs.Policy.{closed}
-use Rattle.tables.proofs.Closing.{closed-none, length-closed, closed-next}
+use Rattle.hierarchy.proofs.Closing.{closed-none, length-closed, closed-next}
 use borrow.Author.Needs.{needs}
-use Rattle.tables.proofs.carried.close.Statement.{statement}
-use Rattle.tables.proofs.carried.close.Tie as tie
+use Rattle.hierarchy.proofs.closure.close.Statement.{statement}
+use Rattle.hierarchy.proofs.closure.close.Tie as tie
 
 abbrev Inv-loop : tie.InvT-loop
 Inv-loop rows₀ n k₀ rows k = (k ≤ n) × (rows ≡ closed k rows₀)

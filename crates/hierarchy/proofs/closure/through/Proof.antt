@@ -1,13 +1,13 @@
--- `tables::carried::through` meets its contract.
+-- `hierarchy::closure::through` meets its contract.
 -- Assumes nothing.
 use mathlib.Core.Path.{_≡_, refl}
 use Prim.Native.Nat.{_≤_, _-_}
 use native.Mathlib.Omega.{arith}
 use Rattle.model.specs.Policy.{taking}
-use Rattle.tables.proofs.Closing.{mapTo, mapTo-none, row-taken, all-taken, passed-over}
+use Rattle.hierarchy.proofs.Closing.{mapTo, mapTo-none, row-taken, all-taken, passed-over}
 use borrow.Author.Needs.{needs}
-use Rattle.tables.proofs.carried.through.Statement.{statement}
-use Rattle.tables.proofs.carried.through.Tie as tie
+use Rattle.hierarchy.proofs.closure.through.Statement.{statement}
+use Rattle.hierarchy.proofs.closure.through.Tie as tie
 
 abbrev Inv-loop : tie.InvT-loop
 Inv-loop rows₀ k other i₀ rows i = (i ≤ 64) × (rows ≡ mapTo (taking k other) i rows₀)

@@ -1,0 +1,5 @@
+-- The laws that the proofs of seniority's code use.
+pub mod Closing
+pub mod Looping
+pub mod Judging
+pub mod Showing

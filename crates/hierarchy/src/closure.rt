@@ -1,0 +1,42 @@
+// The table of direct juniors closed by Warshall's rule, in place.
+ghost use mathlib.Core.Path.{_≡_};
+ghost use lib.ListN.{length};
+ghost use Prim.Native.Nat.{_≤_, _<_};
+ghost use Rattle.model.specs.Policy.{taking, through as throughOf, closed};
+use model::Role;
+
+// The row, and the other too where the row has k.
+fn take_in(row: u64, other: u64, k: usize) -> u64
+    requires { ⌜ k < 64 ⌝ }
+    ensures { λ r. ⌜ r ≡ taking k other row ⌝ }
+{
+    if sets::has(row, Role(k as u8)) {
+        return row | other;
+    }
+    row
+}
+
+// Each row that has k takes in row k. An empty row k changes none.
+fn through(rows: &mut [u64; 64], k: usize)
+    requires { ⌜ (k < 64) × (length (now rows) ≡ 64) ⌝ }
+    ensures { λ r. ⌜ now (rows .exit) ≡ throughOf k (now (rows .entry)) ⌝ }
+{
+    let other = rows[k];
+    if other == 0 {
+        return;
+    }
+    for i in 0..64usize {
+        let row = take_in(rows[i], other, k);
+        rows[i] = row;
+    }
+}
+
+// Warshall's closure, by the roles below n.
+pub fn close(rows: &mut [u64; 64], n: usize)
+    requires { ⌜ (n ≤ 64) × (length (now rows) ≡ 64) ⌝ }
+    ensures { λ r. ⌜ now (rows .exit) ≡ closed n (now (rows .entry)) ⌝ }
+{
+    for k in 0..n {
+        through(rows, k);
+    }
+}

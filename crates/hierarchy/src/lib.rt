@@ -1,0 +1,4 @@
+// Seniority by the table of direct juniors: the table closed, the loops that it has judged, and a loop shown.
+pub mod chain; // chain.rt: the shortest loop of the lowest role on one, shown
+pub mod closure; // closure.rt: the table closed by Warshall's rule
+pub mod loops; // loops.rt: the lowest role on a loop, and an image judged by it
