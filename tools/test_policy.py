@@ -48,18 +48,33 @@ def errors_of(text):
 
 
 def refusal_of(data):
-    """Number and place of an image's refusal; None if it is accepted."""
+    """Number and extra of an image's refusal; None if it is accepted."""
     try:
         policy.check(data)
     except policy.Refused as refused:
-        return refused.number, refused.place
+        return refused.number, refused.extra
     return None
+
+
+def looped(*pairs):
+    """The bytes of a policy of 64 roles with these senior pairs."""
+    return image(policy.encode(1, 1, 64, 1), *(policy.encode(4, *pair) for pair in pairs))
+
+
+def chains_of(juniors, role):
+    """All shortest chains from a role on a loop back to it, by their length."""
+    chains = [[role]]
+    while True:
+        chains = [[*chain, junior] for chain in chains for junior in juniors.get(chain[-1], ())]
+        back = [chain for chain in chains if chain[-1] == role]
+        if back:
+            return back
 
 
 def random_policy(dice):
     """A policy with entries in any order, with repeats, that an image accepts."""
     counts = [dice.choice([1, 2, 64]), dice.choice([1, 2, 5, 64]), dice.choice([1, 3, 256])]
-    entries, roles_of, exclusions = [], {}, 0
+    entries, roles_of, exclusions, rank = [], {}, 0, dice.sample(range(64), 64)
     for _ in range(dice.choice([0, 1, 40])):
         kind = dice.randrange(2, 6)
         user, role, other, permission = (dice.randrange(counts[k]) for k in (0, 1, 1, 2))
@@ -68,7 +83,7 @@ def random_policy(dice):
             entries.append((kind, user, role))
         elif kind == policy.GRANT:
             entries.append((kind, role, permission))
-        elif kind == policy.SENIOR and role != other:
+        elif kind == policy.SENIOR and rank[role] < rank[other]:
             entries.append((kind, role, other))
         elif kind == policy.EXCLUSION and exclusions < 32:
             members = dice.sample(range(counts[1]), dice.randrange(1, counts[1] + 1))
@@ -128,6 +143,10 @@ class Errors(unittest.TestCase):
         for part in parts:
             self.assertIn(part, found)
 
+    def is_told(self, lines, expected):
+        """The text START with these lines has this error and no other."""
+        self.assertEqual(errors_of(START + lines), expected)
+
     def test_refuses_an_unknown_name_and_hints_at_a_known_one(self):
         self.refuses("assign ANA Doctor", "unknown user ANA", "did you mean ANNA?")
         self.refuses("assign ANNA Surgeon", "unknown role Surgeon")
@@ -150,6 +169,18 @@ class Errors(unittest.TestCase):
 
     def test_refuses_a_role_senior_over_itself(self):
         self.refuses("senior Nurse Nurse", "Nurse", "itself")
+
+    def test_refuses_a_loop_at_the_line_that_closes_it_and_names_it(self):
+        self.is_told("senior Doctor Nurse\nsenior Nurse Clerk\nsenior Clerk Doctor\nsenior Clerk Doctor",
+                     "t:6: loop: Doctor over Nurse over Clerk over Doctor")
+        self.is_told("senior Nurse Doctor Clerk\nsenior Clerk Nurse", "t:5: loop: Nurse over Clerk over Nurse")
+        self.is_told("senior Clerk Nurse Doctor\nsenior Nurse Clerk\nsenior Doctor Clerk",
+                     "t:6: loop: Doctor over Clerk over Doctor")
+
+    def test_tells_a_loop_beside_other_errors_in_the_order_of_the_lines(self):
+        found = errors_of(START + "assign ANNA X\nsenior Doctor Nurse\nsenior Nurse Doctor\nfoo")
+        self.assertEqual([line.split(":")[1] for line in found.split("\n")], ["4", "6", "7"])
+        self.assertIn("t:6: loop: Doctor over Nurse over Doctor", found)
 
     def test_refuses_a_member_twice(self):
         self.refuses("exclude ss-dmer 1 Doctor Nurse Doctor", "Doctor is a member twice")
@@ -261,6 +292,38 @@ class Checking(unittest.TestCase):
         for bit in range(28):
             self.assertEqual(refusal_of(policy.to_bytes([*A[:-1], A[-1] ^ 1 << bit])), (8, 12))
 
+    def test_refuses_a_loop_by_22_and_its_lowest_role(self):
+        self.assertEqual(refusal_of(looped((0, 1), (1, 0))), (22, 0))
+        self.assertEqual(refusal_of(looped((0, 2), (2, 63), (63, 2))), (22, 2))
+        self.assertIsNone(refusal_of(looped((0, 1), (0, 2), (1, 3), (2, 3), (0, 3), (0, 1))))
+
+    def test_refuses_a_loop_after_a_word_out_of_order_and_a_sum_out_of_balance(self):
+        words = policy.to_words(looped((0, 1), (1, 0)))
+        self.assertEqual(refusal_of(policy.to_bytes([*words[:-1], words[-1] ^ 1])), (8, 3))
+        self.assertEqual(refusal_of(image(words[0], *words[1:3], 0x40410000)), (6, 3))
+
+    def test_names_the_lowest_of_all_shortest_chains(self):
+        for seed in range(300):
+            dice = random.Random(seed)
+            roles = dice.choice([2, 3, 5, 7])
+            pairs = [dice.sample(range(roles), 2) for _ in range(dice.randrange(1, 2 * roles))]
+            juniors = {}
+            for senior, junior in pairs:
+                juniors.setdefault(senior, []).append(junior)
+            found = policy.find_loop(pairs)
+            if found is None:
+                self.assertIsNone(refusal_of(looped(*pairs)), f"seed {seed}")
+            else:
+                self.assertEqual(found, min(chains_of(juniors, found[0])), f"seed {seed}")
+                self.assertEqual(refusal_of(looped(*pairs)), (22, found[0]), f"seed {seed}")
+
+    def test_finds_loops_of_two_up_to_sixty_four_roles(self):
+        for size in range(2, 65):
+            roles = random.Random(size).sample(range(64), size)
+            pairs = list(zip(roles, [*roles[1:], roles[0]]))
+            first = roles.index(min(roles))
+            self.assertEqual(policy.find_loop(pairs), [*roles[first:], *roles[:first], min(roles)])
+
     def test_the_earliest_bad_word_decides_then_the_lower_number(self):
         self.refuses((5, 1), 0x20030000, 0x70000000)
         self.refuses((4, 1), 0x20030001)
@@ -343,6 +406,20 @@ class Commands(unittest.TestCase):
         status, out, _ = self.run_tool("check", bad)
         self.assertEqual((status, out), (1, "5 range at place 3: role 2 is not below 2 (30800000)\n"))
 
+    def test_check_names_a_loop_by_numbers_and_by_the_names_of_a_text(self):
+        bad = self.path("bad", looped((5, 7), (7, 9), (9, 5)))
+        told = "22 loop at role 5: role5 over role7 over role9 over role5\n"
+        self.assertEqual(self.run_tool("check", bad), (1, told, ""))
+        names = self.path("names", b"role A B C # and\nfoo\nrole D E Doctor F Consultant\nsenior Doctor Doctor\n")
+        told = "22 loop at role 5: Doctor over Consultant over role9 over Doctor\n"
+        self.assertEqual(self.run_tool("check", bad, names), (1, told, ""))
+
+    def test_build_writes_nothing_for_a_loop(self):
+        lines = b"user A\nrole Doctor Consultant\npermission P\nsenior Doctor Consultant\nsenior Consultant Doctor\n"
+        text = self.path("p.txt", lines)
+        self.assertEqual(self.run_tool("build", text), (1, "", f"{text}:5: loop: Doctor over Consultant over Doctor\n"))
+        self.assertEqual(os.listdir(self.folder.name), ["p.txt"])
+
     def test_list_then_build_gives_the_same_file(self):
         first, text, second = self.path("a.img", policy.to_bytes(A)), self.path("a.txt"), self.path("b.img")
         with open(text, "w", encoding="utf-8") as file:
@@ -370,7 +447,7 @@ class Commands(unittest.TestCase):
     def test_help_describes_the_text_form(self):
         with contextlib.redirect_stdout(io.StringIO()) as out, self.assertRaises(SystemExit):
             policy.main(["--help"])
-        for word in [*policy.SORTS, *policy.ENTRIES, *policy.EXCLUSION_KINDS]:
+        for word in [*policy.SORTS, *policy.ENTRIES, *policy.EXCLUSION_KINDS, "loop", "22"]:
             self.assertIn(word, out.getvalue())
 
 

@@ -1,4 +1,5 @@
-//! The check on the largest image, and open, close and show on a small and on the largest one.
+//! The check on the largest image; open, close and show on a small and on the largest one; check, open and ask over a deep
+//! hierarchy; the loop call.
 
 use crate::{plain, timing};
 use nutrameza_tests::gen::{policy, Rng};
@@ -30,12 +31,42 @@ pub fn largest(in_order: bool) -> Vec<u8> {
     words::bytes(&draft.words())
 }
 
+/// An image of 4,096 words over a deep hierarchy: the 64 roles stand one below the other, and some 2,000 more senior words lead
+/// further down. The last role alone carries half of the permissions. Where `back` is set, the lowest role closes a loop of them all.
+fn deep(back: bool) -> Vec<u8> {
+    let mut rng = Rng::new(64);
+    let mut draft = policy::Draft::blank(64, 64, 256);
+    let roles = draft.some_roles(&mut rng, 64);
+    for user in 0..64 {
+        draft.assign(&mut rng, user, 16);
+    }
+    draft.entries.extend(roles.windows(2).map(|pair| vec![words::senior(pair[0], pair[1])]));
+    if back {
+        draft.entries.push(vec![words::senior(roles[63], roles[0])]);
+    } else {
+        for _ in 0..2_000 {
+            let (one, other) = (rng.place(64), rng.place(64));
+            if one != other {
+                draft.entries.push(vec![words::senior(roles[one.min(other)], roles[one.max(other)])]);
+            }
+        }
+    }
+    draft.entries.extend((0..128).map(|permission| vec![words::grant(roles[63], permission)]));
+    while draft.length() < words::MOST_WORDS {
+        let role = rng.pick(&roles[..8]);
+        draft.grant(&mut rng, role);
+    }
+    rng.shuffle(&mut draft.entries);
+    words::bytes(&draft.words())
+}
+
 /// Times the check.
 pub fn check() {
     for (name, image) in [
         ("check, 13 words", ward::image_a()),
         ("check, 4,096 words, by kind", largest(true)),
         ("check, 4,096 words, in any order", largest(false)),
+        ("check, 4,096 words, deep hierarchy", deep(false)),
     ] {
         assert_eq!(kit::check(Empty::Null, &image), plain::check(&image));
         assert_eq!(plain::check(&image), 0);
@@ -44,6 +75,26 @@ pub fn check() {
         };
         let mut plain = || {
             black_box(plain::check(black_box(&image)));
+        };
+        timing::row(name, &mut kit, &mut plain);
+    }
+}
+
+/// Times the loop call.
+pub fn find_loop() {
+    let small = words::bytes(&words::closed(vec![words::head(1, 2, 1), words::senior(0, 1), words::senior(1, 0)]));
+    for (name, image, length) in [("loop of 2 roles, 4 words", small, 2), ("loop of 64 roles, 4,096 words", deep(true), 64)] {
+        let (mut first, mut second) = ([7; 64], [9; 64]);
+        let (by_kit, by_plain) = (kit::find_loop(Empty::Null, &image, &mut first), plain::find_loop(&image, &mut second));
+        assert_eq!((by_kit, first), (by_plain, second));
+        assert_eq!(by_plain, 256 * length);
+        assert_eq!(kit::check(Empty::Null, &image), plain::check(&image));
+        assert_eq!(plain::check(&image) % 256, 22);
+        let mut kit = || {
+            black_box(kit::find_loop(Empty::Null, black_box(&image), &mut first));
+        };
+        let mut plain = || {
+            black_box(plain::find_loop(black_box(&image), &mut second));
         };
         timing::row(name, &mut kit, &mut plain);
     }
@@ -82,6 +133,16 @@ impl Desk {
             (Call::Close, false) => plain::close(image, ledger, user, 0),
             (Call::Show, true) => kit::show(Empty::Somewhere, image, ledger, user, 0, answer),
             (Call::Show, false) => plain::show(image, ledger, user, 0, answer),
+            #[cfg(feature = "asks")]
+            (Call::Ask, true) => {
+                let wish = kit::Wish { user, session: 0, lower: &LOWER, upper: &UPPER };
+                kit::ask(Empty::Somewhere, image, ledger, &wish, AIMS, answer)
+            }
+            #[cfg(feature = "asks")]
+            (Call::Ask, false) => {
+                let wish = plain::Wish { user, session: 0, lower: &LOWER, upper: &UPPER, objectives: AIMS };
+                plain::ask(image, ledger, &wish, answer, plain::Method::Kit)
+            }
         }
     }
 }
@@ -92,7 +153,21 @@ enum Call {
     Open,
     Close,
     Show,
+    #[cfg(feature = "asks")]
+    Ask,
 }
+
+/// What is asked over the deep hierarchy: a permission that the last role carries and all the others with it, as few roles as can be.
+#[cfg(feature = "asks")]
+const LOWER: [u8; 32] = {
+    let mut lower = [0; 32];
+    lower[3] = 0x80;
+    lower
+};
+#[cfg(feature = "asks")]
+const UPPER: [u8; 32] = [0xFF; 32];
+#[cfg(feature = "asks")]
+const AIMS: (u64, u64) = (1, 1);
 
 /// A line with session 0 open and these roles active in it.
 #[cfg(feature = "calls")]
@@ -112,18 +187,29 @@ fn some_own_roles(image: &[u8], user: usize) -> u64 {
     policy.assigned[user].iter().take(3).map(|role| 1 << role).sum()
 }
 
-/// Times open, close and show.
+/// Times open, close and show, and open and ask over a deep hierarchy.
 #[cfg(feature = "calls")]
 pub fn calls() {
+    let deep = deep(false);
     let large = |name, in_order| {
         let image = largest(in_order);
         let roles = some_own_roles(&image, 63);
         (name, image, 64, roles)
     };
-    let images =
-        [("13 words", ward::image_a(), 1, 1), large("4,096 words, by kind", true), large("4,096 words, in any order", false)];
-    for (size, image, users, roles) in images {
-        for call in [Call::Open, Call::Close, Call::Show] {
+    let over_deep = [
+        Call::Open,
+        #[cfg(feature = "asks")]
+        Call::Ask,
+    ];
+    let each = [Call::Open, Call::Close, Call::Show];
+    let images = [
+        (("13 words", ward::image_a(), 1, 1), &each[..]),
+        (large("4,096 words, by kind", true), &each),
+        (large("4,096 words, in any order", false), &each),
+        (("4,096 words, deep hierarchy", deep.clone(), 64, some_own_roles(&deep, 63)), &over_deep),
+    ];
+    for ((size, image, users, roles), calls) in images {
+        for call in calls.iter().copied() {
             let (mut first, mut second) = (Desk::new(&image, users, line(roles)), Desk::new(&image, users, line(roles)));
             let (by_kit, by_plain) = (first.do_by(call, true), second.do_by(call, false));
             assert_eq!((by_kit, &first.ledger, first.answer), (by_plain, &second.ledger, second.answer), "{call:?}");

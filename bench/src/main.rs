@@ -21,6 +21,7 @@ fn main() {
     println!();
     println!("{:<44} {:>12} {:>12} {:>7}", "job", "kit ns", "plain ns", "ratio");
     jobs::check();
+    jobs::find_loop();
     #[cfg(feature = "calls")]
     jobs::calls();
     #[cfg(feature = "asks")]

@@ -1,7 +1,7 @@
 #!/usr/bin/env python3
 """Writes accepted and damaged images into a folder, and a file 'expected' with the policy tool's refusal of each.
 
-images.py FOLDER COUNT: the images are FOLDER/00000 and so on; a line of 'expected' is number, word and place.
+images.py FOLDER COUNT: the images are FOLDER/00000 and so on; a line of 'expected' is number, word and extra.
 """
 
 import importlib.machinery
@@ -61,6 +61,16 @@ def sample(dice):
     return policy.to_bytes(damaged(dice, words))
 
 
+def looped(dice):
+    """An image with one or more loops of senior words, mostly."""
+    words = [policy.encode(1, 1, 64, 1)]
+    for _ in range(dice.randrange(1, 4)):
+        roles = dice.sample(range(dice.choice([4, 64])), dice.randrange(2, 5))
+        words += [policy.encode(4, senior, junior) for senior, junior in zip(roles, [*roles[1:], dice.choice([roles[0], 0, 63])])
+                  if senior != junior]
+    return policy.to_bytes([*words, policy.end_word(words)])
+
+
 def crowded(dice):
     """An image with about as many roles of a user and exclusions as may be."""
     words = [policy.encode(1, 2, 20, 3)]
@@ -74,14 +84,14 @@ def main(folder, count):
     dice = random.Random(1)
     with open(os.path.join(folder, "expected"), "w", encoding="ascii") as expected:
         for number in range(count):
-            data = crowded(dice) if number % 20 == 0 else sample(dice)
+            data = {0: crowded, 10: looped}.get(number % 20, sample)(dice)
             with open(os.path.join(folder, f"{number:05}"), "wb") as file:
                 file.write(data)
             try:
                 policy.check(data)
                 expected.write("0 done 0\n")
             except policy.Refused as refused:
-                expected.write(f"{refused.number} {policy.REFUSALS[refused.number]} {refused.place}\n")
+                expected.write(f"{refused.number} {policy.REFUSALS[refused.number]} {refused.extra}\n")
 
 
 if __name__ == "__main__":

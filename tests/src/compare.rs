@@ -4,6 +4,7 @@ use crate::gen::Rng;
 use crate::kit::{self, Empty};
 use crate::solver::calls::{self, Call, Reply};
 use crate::solver::image::{judge, Judged};
+use crate::solver::loops::{self, Found};
 use crate::words;
 use std::collections::BTreeMap;
 use std::io::Write;
@@ -36,9 +37,9 @@ impl Tally {
 
     /// Sees an answer number.
     pub fn see_number(&mut self, number: u64) {
-        const NAMES: [&str; 22] = [
+        const NAMES: [&str; 23] = [
             "0", "1", "2", "3", "4", "5", "6", "7", "8", "9", "10", "11", "12", "13", "14", "15", "16", "17", "18", "19", "20",
-            "21",
+            "21", "22",
         ];
         self.see(NAMES.get(number as usize).copied().unwrap_or("other"));
     }
@@ -95,7 +96,7 @@ pub fn spread(name: &str, cases: u64, case: impl Fn(&mut Rng, &mut Tally) + Sync
 pub fn judged_number(judged: &Judged) -> u64 {
     match judged {
         Ok(_) => 0,
-        Err(refused) => refused.number + 256 * refused.place as u64,
+        Err(refused) => refused.number + 256 * refused.extra as u64,
     }
 }
 
@@ -171,6 +172,38 @@ pub fn check(image: &[u8], tally: &mut Tally) -> Judged {
     judged
 }
 
+/// The loop call by both on a chain buffer of this length: what it found, or what differs.
+fn found(image: &[u8], room: usize, empty: Empty, guard: u8) -> Result<Found, String> {
+    let before = image.to_vec();
+    let filler = filler(room, guard);
+    let mut kit_chain = Guarded::new(&filler, guard);
+    let returned = kit::find_loop(empty, image, kit_chain.inner());
+    let found = loops::find(image, room);
+    let chain = found.chain.map_or(filler, |bytes| bytes.to_vec());
+    if returned != found.returned() {
+        let (number, extra) = (returned % 256, returned / 256);
+        return Err(format!("returned {number} + 256 * {extra}, the solver {} + 256 * {}", found.number, found.extra));
+    }
+    if kit_chain.inner() != chain.as_slice() {
+        return Err(format!("after answer {} the chain is {:?}, the solver's {chain:?}", found.number, kit_chain.inner()));
+    }
+    if !kit_chain.guards_stand() || before != image {
+        return Err(format!("after answer {} bytes outside the chain changed", found.number));
+    }
+    Ok(found)
+}
+
+/// The loop call by both; panics with a shrunk image if they differ.
+pub fn find_loop(image: &[u8], room: usize, empty: Empty, guard: u8) -> Found {
+    let differs = |image: &[u8]| found(image, room, empty, guard).is_err();
+    found(image, room, empty, guard).unwrap_or_else(|_| {
+        let mut small = image.to_vec();
+        shrink_image(&mut small, differs);
+        let text = found(&small, room, empty, guard).expect_err("the shrunk image still fails");
+        panic!("seed {}: the loop call on {room} bytes: {text}, on {}", seed(), image_text(&small));
+    })
+}
+
 /// Calls one after another under one image, from a first ledger.
 #[derive(Clone, Debug)]
 pub struct Run {
@@ -208,10 +241,15 @@ impl Guarded {
     }
 }
 
+/// What an answer buffer of this length holds before a call: bytes that are not zero.
+fn filler(room: usize, guard: u8) -> Vec<u8> {
+    (0..room).map(|place| guard.wrapping_mul(31).wrapping_add(place as u8) | 1).collect()
+}
+
 /// One call by both on the same ledger: the reply, or what differs. The ledger moves on.
 pub fn step(judged: &Judged, image: &[u8], ledger: &mut Vec<u8>, call: &Call, empty: Empty, guard: u8) -> Result<Reply, String> {
     let before = image.to_vec();
-    let filler: Vec<u8> = (0..call.room()).map(|place| guard.wrapping_mul(31).wrapping_add(place as u8) | 1).collect();
+    let filler = filler(call.room(), guard);
     let (mut kit_ledger, mut kit_answer) = (Guarded::new(ledger, guard), Guarded::new(&filler, !guard));
     let returned = kit::play(empty, image, kit_ledger.inner(), call, kit_answer.inner());
     let reply = calls::play(judged, ledger, call);

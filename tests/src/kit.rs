@@ -5,6 +5,7 @@ use crate::solver::calls::Call;
 mod raw {
     extern "C" {
         pub fn nutrameza_check(image: *const u8, image_len: usize) -> u64;
+        pub fn nutrameza_loop(image: *const u8, image_len: usize, chain: *mut u8, chain_len: usize) -> u64;
     }
 
     #[cfg(feature = "calls")]
@@ -80,7 +81,6 @@ impl Empty {
         slice.as_ptr()
     }
 
-    #[cfg(feature = "calls")]
     fn write(self, slice: &mut [u8]) -> *mut u8 {
         if slice.is_empty() && self == Empty::Null {
             return std::ptr::null_mut();
@@ -93,6 +93,12 @@ impl Empty {
 pub fn check(empty: Empty, image: &[u8]) -> u64 {
     // SAFETY: pointer and length are those of a slice, or NULL and 0.
     unsafe { raw::nutrameza_check(empty.read(image), image.len()) }
+}
+
+/// The loop call.
+pub fn find_loop(empty: Empty, image: &[u8], chain: &mut [u8]) -> u64 {
+    // SAFETY: each pointer and length are those of a slice, or NULL and 0; the slices do not overlap.
+    unsafe { raw::nutrameza_loop(empty.read(image), image.len(), empty.write(chain), chain.len()) }
 }
 
 #[cfg(feature = "calls")]

@@ -10,8 +10,8 @@ use nutrameza_tests::solver::policy::Policy;
 use nutrameza_tests::{ward, words};
 
 /// The numbers that an ask can give.
-const NUMBERS: [&str; 20] =
-    ["0", "1", "2", "3", "4", "5", "6", "7", "8", "9", "10", "11", "12", "13", "15", "16", "17", "18", "19", "20"];
+const NUMBERS: [&str; 21] =
+    ["0", "1", "2", "3", "4", "5", "6", "7", "8", "9", "10", "11", "12", "13", "15", "16", "17", "18", "19", "20", "22"];
 
 fn open(user: u64) -> Call {
     Call::Open { user }

@@ -10,7 +10,7 @@ use nutrameza_tests::solver::policy::Policy;
 use nutrameza_tests::{ward, words};
 
 /// The numbers that open, close and show can give.
-const NUMBERS: [&str; 16] = ["0", "1", "2", "3", "4", "5", "6", "7", "8", "9", "10", "11", "12", "13", "14", "19"];
+const NUMBERS: [&str; 17] = ["0", "1", "2", "3", "4", "5", "6", "7", "8", "9", "10", "11", "12", "13", "14", "19", "22"];
 
 /// The answers of calls under image A, from this line.
 fn answers(line: [u8; 80], calls: &[Call]) -> Vec<(u64, u64)> {

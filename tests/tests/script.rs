@@ -84,6 +84,9 @@ fn a_refused_image_answers_each_readable_line() {
     let mut unbalanced = ward::image_a();
     unbalanced[48] ^= 1;
     assert_eq!(text(Some(&unbalanced), b"open 0\nopen\nshow 9 9\n"), "1 8 12 0 0\n2 21 0 0 0\n3 8 12 0 0\n");
+    let mut looped = vec![words::head(1, 3, 1), words::senior(1, 2), words::senior(2, 1)];
+    looped = words::closed(looped);
+    assert_eq!(text(Some(&words::bytes(&looped)), b"open 0\nopen\nshow 9 9\n"), "1 22 1 0 0\n2 21 0 0 0\n3 22 1 0 0\n");
     for image in [
         None,
         Some(&[][..]),
@@ -352,7 +355,7 @@ fn prints_what_the_golden_files_say() {
     let mut names: Vec<PathBuf> =
         std::fs::read_dir(&golden).expect("the golden files").map(|entry| entry.expect("a folder").path()).collect();
     names.sort();
-    assert!(names.len() >= 11, "{} golden folders", names.len());
+    assert!(names.len() >= 12, "{} golden folders", names.len());
     for case in names {
         let image = std::fs::read(case.join("policy.img")).ok();
         let script = std::fs::read(case.join("script")).expect("the script");

@@ -1,8 +1,11 @@
-//! The separate solver by itself: the ward examples of 01, so that what the kit is held against is held against the paper.
+//! The separate solver by itself: the ward examples of 01 and loops worked out by hand, so that what the kit is held against is held
+//! against the paper.
 
 use nutrameza_tests::solver::calls::{play, Call, Reply};
 use nutrameza_tests::solver::image::{judge, Refused};
+use nutrameza_tests::solver::loops::find;
 use nutrameza_tests::ward::{self, Case};
+use nutrameza_tests::words;
 
 /// Plays a case's calls on the zero ledger.
 fn replies(case: &Case) -> Vec<Reply> {
@@ -22,13 +25,13 @@ fn answers_every_ward_example_as_the_paper_says() {
 #[test]
 fn accepts_sixteen_roles_and_refuses_the_seventeenth() {
     assert!(judge(&ward::roles_of_one_user(16)).is_ok());
-    assert_eq!(judge(&ward::roles_of_one_user(17)).err(), Some(Refused { number: 7, place: 17 }));
+    assert_eq!(judge(&ward::roles_of_one_user(17)).err(), Some(Refused { number: 7, extra: 17 }));
 }
 
 #[test]
 fn accepts_a_limit_of_all_members_and_refuses_one_above() {
     assert!(judge(&ward::image_a_with(1, 2)).is_ok());
-    assert_eq!(judge(&ward::image_a_with(1, 3)).err(), Some(Refused { number: 5, place: 9 }));
+    assert_eq!(judge(&ward::image_a_with(1, 3)).err(), Some(Refused { number: 5, extra: 9 }));
 }
 
 #[test]
@@ -36,7 +39,59 @@ fn refuses_in_image_order_then_by_the_lower_number() {
     let mut image = ward::image_a();
     image[4 * 3] = 1;
     image[4 * 6 + 3] = 0;
-    assert_eq!(judge(&image).err(), Some(Refused { number: 4, place: 3 }));
+    assert_eq!(judge(&image).err(), Some(Refused { number: 4, extra: 3 }));
+}
+
+/// A policy of so many roles with these senior pairs.
+fn hierarchy(roles: u32, pairs: &[(u32, u32)]) -> Vec<u8> {
+    let mut image = vec![words::head(1, roles, 1)];
+    image.extend(pairs.iter().map(|(senior, junior)| words::senior(*senior, *junior)));
+    words::bytes(&words::closed(image))
+}
+
+/// What the loop call fills a buffer of 64 bytes with, up to its extra; all after that is zero.
+fn chain(roles: u32, pairs: &[(u32, u32)]) -> Vec<u8> {
+    let found = find(&hierarchy(roles, pairs), 64);
+    let chain = found.chain.expect("there is a loop");
+    let (chain, rest) = chain.split_at(found.extra as usize);
+    assert!(rest.iter().all(|byte| *byte == 0));
+    chain.to_vec()
+}
+
+#[test]
+fn refuses_a_loop_by_its_lowest_role_and_accepts_a_hierarchy_without_one() {
+    let refused = |roles, pairs| judge(&hierarchy(roles, pairs)).err();
+    assert_eq!(refused(2, &[(0, 1), (1, 0)]), Some(Refused { number: 22, extra: 0 }));
+    assert_eq!(refused(5, &[(0, 1), (1, 2), (2, 4), (4, 3), (3, 2)]), Some(Refused { number: 22, extra: 2 }));
+    assert_eq!(refused(4, &[(0, 1), (0, 2), (1, 3), (2, 3), (0, 3)]), None);
+    assert_eq!(refused(2, &[]), None);
+}
+
+#[test]
+fn a_word_out_of_order_comes_before_a_loop() {
+    let mut image = hierarchy(2, &[(0, 1), (1, 0)]);
+    image[4 * 2] = 1;
+    assert_eq!(judge(&image).err(), Some(Refused { number: 4, extra: 2 }));
+    image[4 * 2] = 0;
+    image[4 * 3] ^= 1;
+    assert_eq!(judge(&image).err(), Some(Refused { number: 8, extra: 3 }));
+}
+
+#[test]
+fn gives_a_shortest_chain_and_of_those_the_lowest() {
+    assert_eq!(chain(2, &[(0, 1), (1, 0)]), [1, 0]);
+    assert_eq!(chain(5, &[(0, 1), (1, 2), (2, 4), (4, 3), (3, 2)]), [4, 3, 2]);
+    assert_eq!(chain(10, &[(0, 1), (1, 2), (2, 0), (0, 9), (9, 0)]), [9, 0]);
+    assert_eq!(chain(7, &[(0, 2), (2, 6), (6, 0), (0, 3), (3, 1), (1, 0)]), [2, 6, 0]);
+    assert_eq!(chain(7, &[(0, 2), (2, 6), (6, 0), (2, 5), (5, 0), (3, 0), (0, 4), (4, 3)]), [2, 5, 0]);
+}
+
+#[test]
+fn the_loop_call_refuses_another_buffer_before_a_hierarchy_without_a_loop() {
+    let (looped, straight) = (hierarchy(2, &[(0, 1), (1, 0)]), hierarchy(2, &[(0, 1)]));
+    assert_eq!((find(&looped, 63).number, find(&looped, 65).number, find(&looped, 64).number), (19, 19, 0));
+    assert_eq!((find(&straight, 0).number, find(&straight, 64).number), (19, 20));
+    assert_eq!(find(&looped[..7], 3).number, 1);
 }
 
 #[test]

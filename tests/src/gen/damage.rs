@@ -7,7 +7,7 @@ use crate::words;
 /// An image for the check: in good order, damaged towards one refusal, or damaged at random.
 pub fn image(rng: &mut Rng) -> Vec<u8> {
     let draft = any(rng);
-    let words = match rng.below(16) {
+    let words = match rng.below(17) {
         0..=1 => return words::bytes(&draft.words()),
         2 => return length(rng, draft),
         3 => head(rng, draft),
@@ -18,6 +18,7 @@ pub fn image(rng: &mut Rng) -> Vec<u8> {
         10 => crowd(rng, draft),
         11 => return balance(rng, draft),
         12 => soup(rng),
+        13 => tied(rng, draft),
         _ => return at_random(rng, draft),
     };
     balanced(rng, words)
@@ -186,6 +187,16 @@ fn balance(rng: &mut Rng, draft: Draft) -> Vec<u8> {
         words[at] ^= 1 << rng.from_to(14, 27);
     }
     words::bytes(&words)
+}
+
+/// Towards 22: one or more loops of senior words.
+fn tied(rng: &mut Rng, mut draft: Draft) -> Vec<u32> {
+    for _ in 0..rng.from_to(1, 3) {
+        let count = rng.from_to(2, draft.roles.max(2).into()) as usize;
+        draft.tie(rng, count);
+    }
+    rng.shuffle(&mut draft.entries);
+    draft.words()
 }
 
 /// Words at random, most of kinds that may stand, under a small head.

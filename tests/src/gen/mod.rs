@@ -2,6 +2,7 @@
 
 pub mod call;
 pub mod damage;
+pub mod hierarchy;
 pub mod ledger;
 pub mod policy;
 pub mod script;

@@ -1,4 +1,4 @@
-//! Images that say something in good order: policies of all sizes, entries in any order, repeats, loops of seniority.
+//! Images that say something in good order: policies of all sizes, entries in any order, repeats, hierarchies without a loop.
 
 use super::Rng;
 use crate::words;
@@ -74,10 +74,35 @@ impl Draft {
         self.entries.push(vec![words::grant(role, permission)]);
     }
 
-    /// A senior word between two different roles, where there are two.
+    /// A senior word between two different roles, where there are two, and the way round that closes no loop.
     pub fn order(&mut self, rng: &mut Rng) {
-        if let [senior, junior] = self.some_roles(rng, 2)[..] {
+        if let [one, other] = self.some_roles(rng, 2)[..] {
+            let (senior, junior) = if self.reaches(other, one) { (other, one) } else { (one, other) };
             self.entries.push(vec![words::senior(senior, junior)]);
+        }
+    }
+
+    /// A chain of senior words leads from one role to another.
+    fn reaches(&self, from: u32, to: u32) -> bool {
+        let mut juniors = [0u64; 64];
+        for entry in self.entries.iter().filter(|entry| entry[0] >> 28 == 4) {
+            juniors[(entry[0] >> 22 & 63) as usize] |= 1 << (entry[0] >> 16 & 63);
+        }
+        let (mut found, mut waiting) = (1u64 << from, vec![from]);
+        while let Some(senior) = waiting.pop() {
+            let new = juniors[senior as usize] & !found;
+            found |= new;
+            waiting.extend((0..64).filter(|role| new >> role & 1 == 1));
+        }
+        found >> to & 1 == 1
+    }
+
+    /// A loop of senior words through some roles, in any order, where there are two roles.
+    pub fn tie(&mut self, rng: &mut Rng, count: usize) {
+        let roles = self.some_roles(rng, count.max(2));
+        if roles.len() > 1 {
+            let next = roles.iter().cycle().skip(1);
+            self.entries.extend(roles.iter().zip(next).map(|(senior, junior)| vec![words::senior(*senior, *junior)]));
         }
     }
 
@@ -110,7 +135,7 @@ impl Draft {
     }
 
     /// Repeats an entry that is no exclusion, one with few words.
-    fn repeat(&mut self, rng: &mut Rng) {
+    pub fn repeat(&mut self, rng: &mut Rng) {
         if !self.entries.is_empty() {
             let entry = rng.pick(&self.entries);
             if entry.len() == 1 {

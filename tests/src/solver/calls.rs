@@ -68,7 +68,7 @@ impl Call {
 pub fn play(image: &Judged, ledger: &mut [u8], call: &Call) -> Reply {
     let policy = match image {
         Ok(policy) => policy,
-        Err(refused) => return Reply::refused(refused.number, refused.place as u64),
+        Err(refused) => return Reply::refused(refused.number, refused.extra as u64),
     };
     if ledger.len() != LINE * policy.users {
         return Reply::refused(9, 0);

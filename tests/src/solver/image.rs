@@ -1,12 +1,12 @@
-//! The judgement of a policy image: refusals 1 to 8 with their place, or the policy that it says.
+//! The judgement of a policy image: refusals 1 to 8 with their place, 22 with a role, or the policy that it says.
 
 use super::policy::{Exclusion, Kind, Policy, Roles};
 
-/// Why and where an image is refused.
+/// Why an image is refused; the extra is the place of the refused word, for 22 the lowest role on a loop.
 #[derive(Clone, Copy, Debug, PartialEq, Eq)]
 pub struct Refused {
     pub number: u64,
-    pub place: usize,
+    pub extra: usize,
 }
 
 /// The answer of the check.
@@ -41,9 +41,18 @@ struct Reading {
     due: usize,
 }
 
-/// Judges an image.
+/// Judges an image: by 1 to 8, then by 22.
 pub fn judge(bytes: &[u8]) -> Judged {
-    let refused = |number, place| Err(Refused { number, place });
+    let policy = read(bytes)?;
+    match policy.lowest_on_loop() {
+        Some(role) => Err(Refused { number: 22, extra: role }),
+        None => Ok(policy),
+    }
+}
+
+/// Judges an image by 1 to 8 alone.
+pub fn read(bytes: &[u8]) -> Judged {
+    let refused = |number, extra| Err(Refused { number, extra });
     if bytes.len() % 4 != 0 || bytes.len() < 8 || bytes.len() > 16384 {
         return refused(1, 0);
     }

@@ -1,9 +1,10 @@
-//! A separate solver of the session kit, written from the paper (01) alone in plain sets and loops.
-//! The tests hold the kit against it: the answer, the extra, every byte of ledger and answer.
+//! A separate solver of the session kit, written from the papers (01 and 02) alone in plain sets and loops.
+//! The tests hold the kit against it: the answer, the extra, every byte of ledger, answer and chain.
 
 pub mod calls;
 pub mod choice;
 pub mod image;
 pub mod line;
+pub mod loops;
 pub mod policy;
 pub mod script;

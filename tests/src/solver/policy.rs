@@ -72,6 +72,16 @@ impl Policy {
         found
     }
 
+    /// A chain of at least one senior word leads from the role back to it.
+    pub fn on_loop(&self, role: usize) -> bool {
+        self.juniors[role].iter().any(|junior| self.reached(*junior).contains(&role))
+    }
+
+    /// The lowest role on a loop, if there is a loop.
+    pub fn lowest_on_loop(&self) -> Option<usize> {
+        (0..self.roles).find(|role| self.on_loop(*role))
+    }
+
     /// The permissions that a role carries.
     pub fn carried_by(&self, role: usize) -> Permissions {
         let mut carried = Permissions::new();
