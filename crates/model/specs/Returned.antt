@@ -321,8 +321,8 @@ unfoldable pub shortObjectives : List HostCase
 shortObjectives =
     ranks fiveRoles (asksFor 0 (0 ∷ 1 ∷ []) (0 ∷ 1 ∷ 2 ∷ []) 0 0) (0 ∷ 1 ∷ []) (0 ∷ 1 ∷ 2 ∷ [])
     ∷ ranks fiveRoles (asksFor 0 (0 ∷ 1 ∷ []) (0 ∷ 1 ∷ 2 ∷ []) 1 1) (4 ∷ []) (0 ∷ 1 ∷ [])
-    -- a short ask is answered as 0, 0 is
-    ∷ ranks fiveRoles (asksBriefly 0 (0 ∷ 1 ∷ []) (0 ∷ 1 ∷ 2 ∷ [])) (0 ∷ 1 ∷ []) (0 ∷ 1 ∷ 2 ∷ [])
+    -- a short ask is answered as 1, 1 is
+    ∷ ranks fiveRoles (asksBriefly 0 (0 ∷ 1 ∷ []) (0 ∷ 1 ∷ 2 ∷ [])) (4 ∷ []) (0 ∷ 1 ∷ [])
     ∷ []
 
 -- ---- the highest user, roles, permissions and session

@@ -32,9 +32,9 @@ pub data Operation : Type 0 where
   short-ask : ℕ → List ℕ → List ℕ → ℕ → Operation
   show : ℕ → ℕ → Operation
 
--- the objectives of a short ask
+-- both objectives of a short ask: fewest permissions, then fewest roles
 unfoldable pub shortAim : ℕ
-shortAim = 0
+shortAim = 1
 
 -- the session that a call names
 unfoldable pub sessionOf : Operation → ℕ

@@ -51,6 +51,16 @@ threeRoles =
     ended
     (0x1020C080 ∷ 0x20000000 ∷ 0x20010000 ∷ 0x20020000 ∷ 0x30000000 ∷ 0x30008000 ∷ 0x30404000 ∷ 0x3040C000 ∷ 0x30804000 ∷ 0x30808000 ∷ [])
 
+-- three roles, which carry 0, 1, and both
+unfoldable pub twoAndBoth : List ℕ
+twoAndBoth = ended (0x1020C040 ∷ 0x20000000 ∷ 0x20010000 ∷ 0x20020000 ∷ 0x30000000 ∷ 0x30404000 ∷ 0x30800000 ∷ 0x30804000 ∷ [])
+
+-- three roles, which carry all of 0 to 2, 0, and 1
+unfoldable pub threeOrTwo : List ℕ
+threeOrTwo =
+    ended
+    (0x1020C060 ∷ 0x20000000 ∷ 0x20010000 ∷ 0x20020000 ∷ 0x30000000 ∷ 0x30004000 ∷ 0x30008000 ∷ 0x30400000 ∷ 0x30804000 ∷ [])
+
 -- role 0 over 1 over 2, role r granted permission r; the user has role 0 alone
 unfoldable pub hierarchy : List ℕ
 hierarchy = ended (0x1020C060 ∷ 0x20000000 ∷ 0x30000000 ∷ 0x30404000 ∷ 0x30808000 ∷ 0x40010000 ∷ 0x40420000 ∷ [])
@@ -122,7 +132,7 @@ refused n = n ∷ 0 ∷ 0 ∷ 0 ∷ []
 
 -- two asks of one session: lower 3, then lower 12
 unfoldable pub twoAsks : List Call
-twoAsks = opens ∷ asksShort 0 0x3 0x1f ∷ asksShort 0 0x12 0x1f ∷ []
+twoAsks = opens ∷ asks 0 0x3 0x1f 0 0 ∷ asks 0 0x12 0x1f 0 0 ∷ []
 
 unfoldable pub starred : List Case
 starred =
@@ -132,11 +142,11 @@ starred =
     ∷ case imageA lines (opened 0 ∷ chose 1 0xf ∷ opened 1 ∷ refused 20 ∷ opened 0 ∷ chose 2 0x12 ∷ [])
     ∷ case (imageOfKind 3) lines (opened 0 ∷ chose 1 0xf ∷ opened 1 ∷ refused 20 ∷ opened 0 ∷ refused 20 ∷ [])
     ∷ case (imageOfKind 2) twoAsks (opened 0 ∷ chose 1 0xf ∷ refused 20 ∷ [])
-    ∷ case (imageOfKind 2) (twoAsks ++ (opens ∷ asksShort 1 0x12 0x1f ∷ [])) (opened 0 ∷ chose 1 0xf ∷ refused 20 ∷ opened 1 ∷ chose 2 0x12 ∷ [])
-    ∷ case imageA (opens ∷ asksShort 0 0x3 0x3 ∷ []) (opened 0 ∷ refused 20 ∷ [])
+    ∷ case (imageOfKind 2) (twoAsks ++ (opens ∷ asks 1 0x12 0x1f 0 0 ∷ [])) (opened 0 ∷ chose 1 0xf ∷ refused 20 ∷ opened 1 ∷ chose 2 0x12 ∷ [])
+    ∷ case imageA (opens ∷ asks 0 0x3 0x3 0 0 ∷ []) (opened 0 ∷ refused 20 ∷ [])
     ∷ case imageA (opens ∷ asks 0 0 0 1 0 ∷ []) (opened 0 ∷ chose 0 0 ∷ [])
-    ∷ case imageOfOne (opens ∷ asksShort 0 0x3 0x1f ∷ []) (opened 0 ∷ refused 20 ∷ [])
-    ∷ case imageOfOne (opens ∷ asksShort 0 0 0 ∷ []) (opened 0 ∷ chose 0 0 ∷ [])
+    ∷ case imageOfOne (opens ∷ asks 0 0x3 0x1f 0 0 ∷ []) (opened 0 ∷ refused 20 ∷ [])
+    ∷ case imageOfOne (opens ∷ asks 0 0 0 0 0 ∷ []) (opened 0 ∷ chose 0 0 ∷ [])
     ∷ case imageA (opens ∷ opens ∷ opens ∷ opens ∷ opens ∷ []) (opened 0 ∷ opened 1 ∷ opened 2 ∷ opened 3 ∷ refused 14 ∷ [])
     ∷ case threeRoles (opens ∷ asks 0 0x1 0xf 2 0 ∷ []) (opened 0 ∷ chose 3 0xf ∷ [])
     ∷ case threeRoles (opens ∷ asks 0 0x1 0xf 2 2 ∷ []) (opened 0 ∷ chose 7 0xf ∷ [])
@@ -155,25 +165,31 @@ settled =
     -- kind 0 counts this session alone
     ∷ case (imageOfKind 0) (take 4 lines) (opened 0 ∷ chose 1 0xf ∷ opened 1 ∷ chose 2 0x12 ∷ [])
     -- a closed session's roles still count in kind 3, and no longer in kind 2, where a session begins anew
-    ∷ case (imageOfKind 3) (opens ∷ asksShort 0 0x3 0x1f ∷ closes 0 ∷ opens ∷ asksShort 0 0x12 0x1f ∷ [])
+    ∷ case (imageOfKind 3) (opens ∷ asks 0 0x3 0x1f 0 0 ∷ closes 0 ∷ opens ∷ asks 0 0x12 0x1f 0 0 ∷ [])
     (opened 0 ∷ chose 1 0xf ∷ opened 0 ∷ opened 0 ∷ refused 20 ∷ [])
-    ∷ case (imageOfKind 2) (opens ∷ asksShort 0 0x3 0x1f ∷ closes 0 ∷ opens ∷ asksShort 0 0x12 0x1f ∷ [])
+    ∷ case (imageOfKind 2) (opens ∷ asks 0 0x3 0x1f 0 0 ∷ closes 0 ∷ opens ∷ asks 0 0x12 0x1f 0 0 ∷ [])
     (opened 0 ∷ chose 1 0xf ∷ opened 0 ∷ opened 0 ∷ chose 2 0x12 ∷ [])
     -- a member that two sessions hold counts once
-    ∷ case imageA (opens ∷ asksShort 0 0x3 0x1f ∷ opens ∷ asksShort 1 0x3 0x1f ∷ []) (opened 0 ∷ chose 1 0xf ∷ opened 1 ∷ chose 1 0xf ∷ [])
+    ∷ case imageA (opens ∷ asks 0 0x3 0x1f 0 0 ∷ opens ∷ asks 1 0x3 0x1f 0 0 ∷ []) (opened 0 ∷ chose 1 0xf ∷ opened 1 ∷ chose 1 0xf ∷ [])
     -- a replaced set stays in the session's history and in the user's, and the session goes on
-    ∷ case imageA (twoAsks ++ (shows 0 ∷ opens ∷ asksShort 1 0x3 0x1f ∷ shows 1 ∷ closes 0 ∷ asksShort 1 0x3 0x1f ∷ shows 0 ∷ []))
+    ∷ case imageA (twoAsks ++ (shows 0 ∷ opens ∷ asks 1 0x3 0x1f 0 0 ∷ shows 1 ∷ closes 0 ∷ asks 1 0x3 0x1f 0 0 ∷ shows 0 ∷ []))
     (opened 0 ∷ chose 1 0xf ∷ chose 2 0x12 ∷ chose 2 0x12 ∷ opened 1 ∷ refused 20 ∷ chose 0 0 ∷ opened 0 ∷ chose 1 0xf ∷ refused 13 ∷ [])
     -- seniority passes permissions, through every step of a chain, and no right to activate a junior
     ∷ case hierarchy (opens ∷ asks 0 0x4 0x7 1 1 ∷ asks 0 0x4 0x6 1 1 ∷ []) (opened 0 ∷ chose 1 0x7 ∷ refused 20 ∷ [])
     -- a loop is refused, before the ledger's length is looked at
     ∷ case loop (opens ∷ asks 0 0x1 0x7 1 1 ∷ []) (refused 22 ∷ refused 22 ∷ [])
     ∷ record { image = loop; ledger = replicate 79 0; calls = opens ∷ []; answers = refused 22 ∷ [] }
+    -- a short ask takes the fewest permissions, and of sets with as many the fewest roles, where the objectives 0, 0 take the lowest number
+    ∷ case threeRoles (opens ∷ asks 0 0x6 0xf 0 0 ∷ asksShort 0 0x6 0xf ∷ []) (opened 0 ∷ chose 3 0xf ∷ chose 4 0x6 ∷ [])
+    ∷ case twoAndBoth (opens ∷ asks 0 0x3 0x3 0 0 ∷ asks 0 0x3 0x3 1 0 ∷ asksShort 0 0x3 0x3 ∷ [])
+    (opened 0 ∷ chose 3 0x3 ∷ chose 3 0x3 ∷ chose 4 0x3 ∷ [])
+    -- permissions come first: two roles that carry 0 and 1 rank before one that carries 2 also
+    ∷ case threeOrTwo (opens ∷ asks 0 0x3 0x7 0 1 ∷ asksShort 0 0x3 0x7 ∷ []) (opened 0 ∷ chose 1 0x7 ∷ chose 6 0x3 ∷ [])
     -- another user's damaged line does not refuse this one's calls
     ∷ record {
       image = imageOfTwo;
       ledger = replicate 80 0 ++ damaged;
-      calls = opens ∷ asksShort 0 0x3 0x1f ∷ openBy 1 ∷ openBy 2 ∷ shows 0 ∷ [];
+      calls = opens ∷ asks 0 0x3 0x1f 0 0 ∷ openBy 1 ∷ openBy 2 ∷ shows 0 ∷ [];
       answers = opened 0 ∷ chose 1 0xf ∷ refused 11 ∷ refused 10 ∷ chose 1 0xf ∷ [];
     }
     ∷ record {

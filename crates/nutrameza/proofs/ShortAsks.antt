@@ -1,4 +1,4 @@
--- A short ask is an ask with no objectives.
+-- A short ask is the ask with `shortAim` for both objectives.
 -- Assumes nothing.
 use mathlib.Core.Path.{_≡_, refl, sym, subst}
 use mathlib.Core.List.{List}
@@ -16,23 +16,23 @@ module _ (W k : ℕ) (lower upper : List ℕ) (room : ℕ) where
   -- the session rules take a short ask as the ask
   short-rule : (m : Meaning) (bs : List ℕ)
       → rule W m bs (short-ask k lower upper room)
-      ≡ rule W m bs (ask k (record { lower = lower; upper = upper; permissionAim = 0; roleAim = 0; room = room }))
+      ≡ rule W m bs (ask k (record { lower = lower; upper = upper; permissionAim = shortAim; roleAim = shortAim; room = room }))
   unfolding rule unless shortAim sessionOf queryOf canGive applies first perform
   short-rule m bs = refl
 
   -- and so does the call
-  short-step : (u : ℕ) (image ledger : List ℕ) → step W image ledger (shortAskBy u k lower upper room) ≡ step W image ledger (askBy u k lower upper 0 0 room)
+  short-step : (u : ℕ) (image ledger : List ℕ) → step W image ledger (shortAskBy u k lower upper room) ≡ step W image ledger (askBy u k lower upper shortAim shortAim room)
   unfolding step stepBy stepOn ruled shortAskBy askBy
   short-step u image ledger = go (judge image)
     where
-      go : (c : Checked) → stepBy W c (policyOf image) ledger (shortAskBy u k lower upper room) ≡ stepBy W c (policyOf image) ledger (askBy u k lower upper 0 0 room)
+      go : (c : Checked) → stepBy W c (policyOf image) ledger (shortAskBy u k lower upper room) ≡ stepBy W c (policyOf image) ledger (askBy u k lower upper shortAim shortAim room)
       go (Refused n place) = refl
       go (Accepted h) = rw (short-rule (meaning (policyOf image) u) (lineAt (lineSize W) u ledger))
 
   -- what a host gets of the ask is what it gets of the short ask
   pub short-given : (u : ℕ) (image ledger : List ℕ) (n : ℕ) (after buffer answer : List ℕ)
-      → (n ≡ returned (step W image ledger (askBy u k lower upper 0 0 room) .reply)) × (after ≡ step W image ledger (askBy u k lower upper 0 0 room) .ledger)
-      × (answer ≡ answered buffer (step W image ledger (askBy u k lower upper 0 0 room) .reply))
+      → (n ≡ returned (step W image ledger (askBy u k lower upper shortAim shortAim room) .reply)) × (after ≡ step W image ledger (askBy u k lower upper shortAim shortAim room) .ledger)
+      × (answer ≡ answered buffer (step W image ledger (askBy u k lower upper shortAim shortAim room) .reply))
       → (n ≡ returned (step W image ledger (shortAskBy u k lower upper room) .reply)) × (after ≡ step W image ledger (shortAskBy u k lower upper room) .ledger)
       × (answer ≡ answered buffer (step W image ledger (shortAskBy u k lower upper room) .reply))
   short-given u image ledger n after buffer answer h =

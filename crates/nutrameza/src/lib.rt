@@ -167,7 +167,7 @@ pub extern "C" fn nutrameza_ask(
     )
 }
 
-// An ask with no objectives.
+// An ask for the fewest permissions, then the fewest roles.
 #[no_mangle]
 pub extern "C" fn nutrameza_short_ask(
     image: &[u8],
@@ -182,5 +182,5 @@ pub extern "C" fn nutrameza_short_ask(
         × (now (ledger .exit) ≡ step SESSIONS (now (image .entry)) (now (ledger .entry)) (shortAskBy user session (now (lower .entry)) (now (upper .entry)) (length (now (answer .entry)))) .ledger)
         × (now (answer .exit) ≡ answered (now (answer .entry)) (step SESSIONS (now (image .entry)) (now (ledger .entry)) (shortAskBy user session (now (lower .entry)) (now (upper .entry)) (length (now (answer .entry)))) .reply)) ⌝ }
 {
-    nutrameza_ask(image, ledger, user, session, lower, upper, 0, 0, answer)
+    nutrameza_ask(image, ledger, user, session, lower, upper, 1, 1, answer)
 }

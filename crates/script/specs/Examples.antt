@@ -5,7 +5,7 @@ use mathlib.Core.List.{List, [], _∷_}
 use Prim.Native.String.{String}
 use Prim.Native.Nat.{ℕ}
 use lib.ListN.{take}
-use Rattle.model.specs.Ward.{sameList, imageBytes, imageA, imageOfTwo, threeRoles}
+use Rattle.model.specs.Ward.{sameList, imageBytes, imageA, imageOfTwo, threeRoles, twoAndBoth}
 use Rattle.model.specs.Returned.{ranked}
 use Rattle.script.specs.Script.{ascii, parse, transcript, isUnreadable}
 
@@ -48,6 +48,9 @@ examples =
     -- the first objective is that on permissions; a capital digit and a small one mean the same
     ∷ under (imageBytes threeRoles) "open 0\nask 0 0 1 f 2 0\nask 0 0 1 F 1 2\nask 0 0 A E 0 0\nask 0 0 a e 0 0\n"
     "1 0 0 0 0\n2 0 0 3 f\n3 0 0 1 5\n4 0 0 2 a\n5 0 0 2 a\n"
+    -- an ask without objectives takes the fewest permissions, then the fewest roles
+    ∷ under (imageBytes threeRoles) "open 0\nask 0 0 6 f 0 0\nask 0 0 6 f\n" "1 0 0 0 0\n2 0 0 3 f\n3 0 0 4 6\n"
+    ∷ under (imageBytes twoAndBoth) "open 0\nask 0 0 3 3 0 0\nask 0 0 3 3\n" "1 0 0 0 0\n2 0 0 3 3\n3 0 0 4 3\n"
     -- the first ledger has a line for each user
     ∷ under (imageBytes imageOfTwo) "open 1\nopen 2\n" "1 0 0 0 0\n2 10 0 0 0\n"
     -- call numbers are decimals
