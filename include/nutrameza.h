@@ -222,7 +222,8 @@ uint64_t nutrameza_ask(const uint8_t *image, size_t image_len, uint8_t *ledger, 
                        uint64_t session, const uint8_t *lower, size_t lower_len, const uint8_t *upper, size_t upper_len,
                        uint64_t permission_aim, uint64_t role_aim, uint8_t *answer, size_t answer_len);
 
-/* A short ask is an ask whose aims are both any. Refusals as of ask, never 18. */
+/* A short ask is an ask whose aims are both fewest: the fewest permissions, then the fewest roles. Refusals as of ask,
+ * never 18. */
 uint64_t nutrameza_short_ask(const uint8_t *image, size_t image_len, uint8_t *ledger, size_t ledger_len, uint64_t user,
                              uint64_t session, const uint8_t *lower, size_t lower_len, const uint8_t *upper,
                              size_t upper_len, uint8_t *answer, size_t answer_len);

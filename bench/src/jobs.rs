@@ -1,5 +1,5 @@
-//! The check on the largest image; open, close and show on a small and on the largest one; check, open and ask over a deep
-//! hierarchy; the loop call.
+//! The check on the largest image; open, close and show on a small and on the largest one; check, open, ask and short ask over
+//! a deep hierarchy; the loop call.
 
 use crate::{plain, timing};
 use nutrameza_tests::gen::{policy, Rng};
@@ -139,7 +139,12 @@ impl Desk {
                 kit::ask(Empty::Somewhere, image, ledger, &wish, AIMS, answer)
             }
             #[cfg(feature = "asks")]
-            (Call::Ask, false) => {
+            (Call::ShortAsk, true) => {
+                let wish = kit::Wish { user, session: 0, lower: &LOWER, upper: &UPPER };
+                kit::short_ask(Empty::Somewhere, image, ledger, &wish, answer)
+            }
+            #[cfg(feature = "asks")]
+            (Call::Ask | Call::ShortAsk, false) => {
                 let wish = plain::Wish { user, session: 0, lower: &LOWER, upper: &UPPER, objectives: AIMS };
                 plain::ask(image, ledger, &wish, answer, plain::Method::Kit)
             }
@@ -155,6 +160,23 @@ enum Call {
     Show,
     #[cfg(feature = "asks")]
     Ask,
+    #[cfg(feature = "asks")]
+    ShortAsk,
+}
+
+#[cfg(feature = "calls")]
+impl Call {
+    fn name(self) -> &'static str {
+        match self {
+            Call::Open => "open",
+            Call::Close => "close",
+            Call::Show => "show",
+            #[cfg(feature = "asks")]
+            Call::Ask => "ask",
+            #[cfg(feature = "asks")]
+            Call::ShortAsk => "short ask",
+        }
+    }
 }
 
 /// What is asked over the deep hierarchy: a permission that the last role carries and all the others with it, as few roles as can be.
@@ -166,8 +188,9 @@ const LOWER: [u8; 32] = {
 };
 #[cfg(feature = "asks")]
 const UPPER: [u8; 32] = [0xFF; 32];
+/// The objectives, those of a short ask too.
 #[cfg(feature = "asks")]
-const AIMS: (u64, u64) = (1, 1);
+const AIMS: (u64, u64) = nutrameza_tests::solver::calls::SHORT_OBJECTIVES;
 
 /// A line with session 0 open and these roles active in it.
 #[cfg(feature = "calls")]
@@ -187,7 +210,7 @@ fn some_own_roles(image: &[u8], user: usize) -> u64 {
     policy.assigned[user].iter().take(3).map(|role| 1 << role).sum()
 }
 
-/// Times open, close and show, and open and ask over a deep hierarchy.
+/// Times open, close and show; open, ask and short ask over a deep hierarchy.
 #[cfg(feature = "calls")]
 pub fn calls() {
     let deep = deep(false);
@@ -200,6 +223,8 @@ pub fn calls() {
         Call::Open,
         #[cfg(feature = "asks")]
         Call::Ask,
+        #[cfg(feature = "asks")]
+        Call::ShortAsk,
     ];
     let each = [Call::Open, Call::Close, Call::Show];
     let images = [
@@ -220,7 +245,7 @@ pub fn calls() {
             let mut plain = || {
                 black_box(second.do_by(call, false));
             };
-            timing::row(&format!("{}, {size}", format!("{call:?}").to_lowercase()), &mut kit, &mut plain);
+            timing::row(&format!("{}, {size}", call.name()), &mut kit, &mut plain);
         }
     }
 }

@@ -1,4 +1,4 @@
-//! The ward examples of 01: image A and its variants, 003's three roles, and bounds as one hex number.
+//! The ward examples of 01: image A and its variants, 003's three roles, a few more, and bounds as one hex number.
 
 use crate::solver::calls::{Call, Reply};
 use crate::words;
@@ -23,10 +23,15 @@ pub fn image_a_with(kind: u32, limit: u32) -> Vec<u8> {
 
 /// 003's three roles, carrying {0,2}, {1,3} and {1,2}, no exclusion.
 pub fn three_roles() -> Vec<u8> {
-    let mut image = vec![words::head(1, 3, 4)];
-    image.extend((0..3).map(|role| words::assignment(0, role)));
-    for (role, permission) in [(0, 0), (0, 2), (1, 1), (1, 3), (2, 1), (2, 2)] {
-        image.push(words::grant(role, permission));
+    roles_carrying(&[&[0, 2], &[1, 3], &[1, 2]])
+}
+
+/// One user with a role for each of these lists of permissions below 4, no exclusion.
+fn roles_carrying(rows: &[&[u32]]) -> Vec<u8> {
+    let mut image = vec![words::head(1, rows.len() as u32, 4)];
+    image.extend((0..rows.len() as u32).map(|role| words::assignment(0, role)));
+    for (role, row) in (0..).zip(rows) {
+        image.extend(row.iter().map(|permission| words::grant(role, *permission)));
     }
     words::bytes(&words::closed(image))
 }
@@ -108,17 +113,17 @@ pub fn cases() -> Vec<Case> {
             vec![open(), ask(0, 0x3, 0x1f, (0, 0)), ask(0, 0x12, 0x1f, (0, 0)), open(), ask(1, 0x12, 0x1f, (0, 0))],
             vec![opened, (0, 0, 1, 0xf), none, (0, 1, 0, 0), (0, 0, 2, 0x12)],
         ),
-        case("lower 3 and upper 3: Doctor carries more", image_a(), vec![open(), short(0, 3, 3)], vec![opened, none]),
+        case("lower 3 and upper 3: Doctor carries more", image_a(), vec![open(), ask(0, 3, 3, (0, 0))], vec![opened, none]),
         case("both bounds empty", image_a(), vec![open(), ask(0, 0, 0, (1, 0))], vec![opened, opened]),
-        case("n 1, lower 3", image_a_with(1, 1), vec![open(), short(0, 3, 0x1f)], vec![opened, none]),
-        case("n 1, both bounds empty", image_a_with(1, 1), vec![open(), short(0, 0, 0)], vec![opened, opened]),
+        case("n 1, lower 3", image_a_with(1, 1), vec![open(), ask(0, 3, 0x1f, (0, 0))], vec![opened, none]),
+        case("n 1, both bounds empty", image_a_with(1, 1), vec![open(), ask(0, 0, 0, (0, 0))], vec![opened, opened]),
         case(
             "fifth open",
             image_a(),
             vec![open(), open(), open(), open(), open()],
             vec![opened, (0, 1, 0, 0), (0, 2, 0, 0), (0, 3, 0, 0), (14, 0, 0, 0)],
         ),
-        case("lower outside upper", image_a(), vec![open(), short(0, 0x3, 0x1d)], vec![opened, (17, 0, 0, 0)]),
+        case("lower outside upper", image_a(), vec![open(), ask(0, 0x3, 0x1d, (0, 0))], vec![opened, (17, 0, 0, 0)]),
         case("person 1 of A", image_a(), vec![Call::Open { user: 1 }], vec![(10, 0, 0, 0)]),
         case(
             "show after an ask, after a close",
@@ -132,9 +137,20 @@ pub fn cases() -> Vec<Case> {
         cases.push(case("003's three roles", three_roles(), calls, vec![opened, (0, 0, roles, carried)]));
     }
     for kind in [0, 1] {
-        let calls = vec![open(), short(0, 0x3, 0x1f), short(0, 0x12, 0x1f)];
+        let calls = vec![open(), ask(0, 0x3, 0x1f, (0, 0)), ask(0, 0x12, 0x1f, (0, 0))];
         let expected = vec![opened, (0, 0, 1, 0xf), (0, 0, 2, 0x12)];
         cases.push(case("a replaced set does not count in kinds 0 and 1", image_a_with(kind, 2), calls, expected));
+    }
+    // roles carrying, lower bound, then (roles, permissions) by the objectives 0, 0 and by a short ask
+    let by_short_asks: [(&str, Vec<u8>, u64, (u64, u64), (u64, u64)); 3] = [
+        ("a short ask takes fewest permissions", three_roles(), 0x6, (0x3, 0xf), (0x4, 0x6)),
+        ("then fewest roles", roles_carrying(&[&[0], &[1], &[0, 1]]), 0x3, (0x3, 0x3), (0x4, 0x3)),
+        ("permissions before roles", roles_carrying(&[&[0, 1, 2], &[0], &[1]]), 0x3, (0x1, 0x7), (0x6, 0x3)),
+    ];
+    for (name, image, lower, any, fewest) in by_short_asks {
+        let calls = vec![open(), ask(0, lower, 0xf, (0, 0)), short(0, lower, 0xf), ask(0, lower, 0xf, (1, 1))];
+        let expected = vec![opened, (0, 0, any.0, any.1), (0, 0, fewest.0, fewest.1), (0, 0, fewest.0, fewest.1)];
+        cases.push(case(name, image, calls, expected));
     }
     cases
 }

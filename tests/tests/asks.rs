@@ -4,7 +4,7 @@
 use nutrameza_tests::compare::{play, say, spread, Played, Run, Tally};
 use nutrameza_tests::gen::{call, damage, ledger, policy, Rng};
 use nutrameza_tests::kit::{self, Empty};
-use nutrameza_tests::solver::calls::{read_permissions, Call};
+use nutrameza_tests::solver::calls::{read_permissions, Call, SHORT_OBJECTIVES};
 use nutrameza_tests::solver::image::judge;
 use nutrameza_tests::solver::policy::Policy;
 use nutrameza_tests::{ward, words};
@@ -143,7 +143,7 @@ fn refuses_null_bounds() {
 fn see_search(tally: &mut Tally, policy: &Policy, call: &Call, played: &Played) {
     let (lower, upper, objectives, user) = match call {
         Call::Ask { lower, upper, objectives, user, .. } => (lower, upper, *objectives, *user),
-        Call::ShortAsk { lower, upper, user, .. } => (lower, upper, (0, 0), *user),
+        Call::ShortAsk { lower, upper, user, .. } => (lower, upper, SHORT_OBJECTIVES, *user),
         _ => return,
     };
     tally.see("asks");
@@ -218,6 +218,62 @@ fn answers_a_hundred_thousand_asks_as_the_solver_does() {
             tally.expect(2_000, &[&format!("aims {first} {second}")]);
         }
     }
+}
+
+/// A drawn ask as a short one.
+fn short_ask(rng: &mut Rng, policy: &Policy, ledger: &[u8]) -> Call {
+    match call::ask(rng, policy, ledger) {
+        Call::Ask { user, session, lower, upper, room, .. } => Call::ShortAsk { user, session, lower, upper, room },
+        short => short,
+    }
+}
+
+/// A short ask as the full ask with these objectives.
+fn full_ask(short: &Call, objectives: (u64, u64)) -> Call {
+    match short.clone() {
+        Call::ShortAsk { user, session, lower, upper, room } => Call::Ask { user, session, lower, upper, objectives, room },
+        other => panic!("{other:?} is no short ask"),
+    }
+}
+
+/// What the kit makes of a call on a copy of a ledger: the number returned, the ledger and the answer buffer.
+fn made(image: &[u8], ledger: &[u8], call: &Call) -> (u64, Vec<u8>, Vec<u8>) {
+    let (mut ledger, mut answer) = (ledger.to_vec(), vec![0xA5; call.room()]);
+    let returned = kit::play(Empty::Somewhere, image, &mut ledger, call, &mut answer);
+    (returned, ledger, answer)
+}
+
+#[test]
+fn a_short_ask_is_the_ask_for_the_fewest_of_both() {
+    let tally = spread("short asks", 20_000, |rng, tally| {
+        let draft = if rng.one_in(8) { policy::policy(rng, policy::MIDDLE) } else { policy::overlapping(rng) };
+        let image = words::bytes(&draft.words());
+        let policy = judge(&image).expect("a policy in good order is accepted");
+        let mut ledger = ledger::ledger(rng, &policy, 0);
+        for _ in 0..8 {
+            let short = short_ask(rng, &policy, &ledger);
+            let of = |call: Call| {
+                let run = Run { image: image.clone(), ledger: ledger.clone(), calls: vec![call], empty: Empty::Somewhere };
+                play(&run).remove(0)
+            };
+            let [fewest, any, permissions_alone, roles_alone] =
+                [(1, 1), (0, 0), (1, 0), (0, 1)].map(|objectives| of(full_ask(&short, objectives)));
+            assert_eq!(of(short.clone()), fewest, "{short:?}");
+            let after = made(&image, &ledger, &short);
+            assert_eq!(after, made(&image, &ledger, &full_ask(&short, (1, 1))), "{short:?}");
+            assert_eq!(any.reply.number, fewest.reply.number, "{short:?}");
+            tally.see_number(fewest.reply.number);
+            for (name, other) in [("0, 0", any), ("1, 0", permissions_alone), ("0, 1", roles_alone)] {
+                if other.reply.answer != fewest.reply.answer {
+                    assert_ne!(other.line, fewest.line, "{short:?}");
+                    tally.see(&format!("another choice by {name}"));
+                }
+            }
+            ledger = after.1;
+        }
+    });
+    tally.expect(10_000, &["another choice by 0, 0"]);
+    tally.expect(1_000, &["another choice by 1, 0", "another choice by 0, 1", "20"]);
 }
 
 /// A user of 16 roles, some sessions open, asked for what some of the roles carry.

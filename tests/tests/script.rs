@@ -355,7 +355,7 @@ fn prints_what_the_golden_files_say() {
     let mut names: Vec<PathBuf> =
         std::fs::read_dir(&golden).expect("the golden files").map(|entry| entry.expect("a folder").path()).collect();
     names.sort();
-    assert!(names.len() >= 12, "{} golden folders", names.len());
+    assert!(names.len() >= 13, "{} golden folders", names.len());
     for case in names {
         let image = std::fs::read(case.join("policy.img")).ok();
         let script = std::fs::read(case.join("script")).expect("the script");

@@ -224,6 +224,25 @@ pub fn crowded(rng: &mut Rng, exclusions: u64) -> Draft {
     draft
 }
 
+/// Users whose roles carry much the same: few permissions, each carried by several roles.
+pub fn overlapping(rng: &mut Rng) -> Draft {
+    let mut draft = Draft::blank(rng.from_to(1, 3) as u32, rng.from_to(5, 9) as u32, rng.from_to(4, 8) as u32);
+    for user in 0..draft.users {
+        let count = rng.from_to(5, draft.roles.into()) as usize;
+        draft.assign(rng, user, count);
+    }
+    for role in 0..draft.roles {
+        for _ in 0..rng.from_to(1, 4) {
+            draft.grant(rng, role);
+        }
+    }
+    for _ in 0..rng.below(3) {
+        draft.exclude(rng);
+    }
+    rng.shuffle(&mut draft.entries);
+    draft
+}
+
 /// A policy of exactly `length` words, at least 4,000: filled up with repeats and grants.
 pub fn filled(rng: &mut Rng, length: usize) -> Draft {
     let mut draft = policy(rng, LARGE);

@@ -8,6 +8,9 @@ use super::policy::Policy;
 /// The bytes of an answer: 8 of roles, 32 of permissions.
 pub const ANSWER: usize = 40;
 
+/// The objectives of a short ask: fewest permissions, then fewest roles.
+pub const SHORT_OBJECTIVES: (u64, u64) = (1, 1);
+
 /// A call with its arguments, image and ledger apart; an answer buffer is known by its length.
 #[derive(Clone, Debug, PartialEq, Eq)]
 pub enum Call {
@@ -103,7 +106,9 @@ fn rule(policy: &Policy, user: usize, line: &mut Line, call: &Call) -> Reply {
         Call::Ask { session, lower, upper, objectives, room, .. } => {
             ask(policy, user, line, *session, lower, upper, *objectives, *room)
         }
-        Call::ShortAsk { session, lower, upper, room, .. } => ask(policy, user, line, *session, lower, upper, (0, 0), *room),
+        Call::ShortAsk { session, lower, upper, room, .. } => {
+            ask(policy, user, line, *session, lower, upper, SHORT_OBJECTIVES, *room)
+        }
     }
 }
 
