@@ -16,11 +16,11 @@ use Rattle.model.specs.Tests.{pick, first}
 use Rattle.model.specs.Judgement.{judge}
 use Rattle.model.specs.Policy.{Policy, Meaning, policyOf, meaning}
 use Rattle.model.specs.Line.{lineSize, readLine}
-use Rattle.model.specs.Session.{Operation, open-session, close-session, ask, short-ask, show, sessionOf, queryOf, Reply, refuse, done, Refusal, bad-line, bad-session, is-closed, bad-set, bad-permission, bad-bounds, bad-aim, bad-room, no-set, canGive, applies, perform, unless, rule}
+use Rattle.model.specs.Session.{Operation, open-session, close-session, ask, short-ask, show, explain, sessionOf, queryOf, Reply, refuse, done, Refusal, bad-line, bad-session, is-closed, bad-set, bad-permission, bad-bounds, bad-aim, bad-room, no-set, canGive, applies, perform, unless, rule}
 use Rattle.model.specs.Run.{Call, lineAt, ruled, stepOn, stepBy, step, filledWith, answered}
 use Rattle.model.specs.Frames.{AnswerKeepsLength}
 use Rattle.model.proofs.CallLaws.{first-none}
-use Rattle.model.proofs.FramesProof.{step-frame}
+use Rattle.model.proofs.FramesProof.{explained-fills, step-frame}
 
 -- where none of a list passes the test, none of it behind some others does
 later : (f : Refusal → Bool) (xs : List Refusal) (x : Refusal) (ys : List Refusal) → first f (xs ++ (x ∷ ys)) ≡ none → f x ≡ false
@@ -59,6 +59,7 @@ module _ (W : ℕ) (m : Meaning) (bs : List ℕ) where
   perform-roomy (show k room) e =
       inr
       (room-right (show k room) (later (tests (show k room)) (bad-line ∷ bad-session ∷ is-closed ∷ []) bad-room [] e))
+  perform-roomy (explain k n) e = inl (explained-fills bs _)
 
   rule-roomy : (op : Operation) → Roomy op (rule W m bs op .reply)
   unfolding rule unless refuse

@@ -16,15 +16,15 @@ use Rattle.model.specs.Tests.{all, first}
 use Rattle.model.specs.Sets.{within}
 use Rattle.model.specs.Bytes.{number}
 use Rattle.model.specs.Policy.{Meaning, authorized}
-use Rattle.model.specs.Line.{readLine, writeLine, emptySession, isOpen, exclusionsMet, sound, lowestClosed, opening, closing, putIn}
+use Rattle.model.specs.Line.{readLine, writeLine, emptySession, isOpen, exclusionsMet, sound, sessionAt, lowestClosed, opening, closing, putIn}
 use Rattle.model.specs.Choice.{carriedBy, admissible}
-use Rattle.model.specs.Session.{Query, Operation, open-session, close-session, ask, short-ask, show, sessionOf, queryOf, refuse, done, given, Result, Refusal, bad-line, bad-session, is-closed, is-full, bad-set, bad-permission, bad-bounds, bad-aim, bad-room, no-set, refusalNumber, canGive, chosen, applies, asked, perform, unless, rule}
+use Rattle.model.specs.Session.{Query, Operation, open-session, close-session, ask, short-ask, show, explain, sessionOf, queryOf, refuse, done, given, Result, Refusal, bad-line, bad-session, is-closed, is-full, bad-set, bad-permission, bad-bounds, bad-aim, bad-room, no-set, not-below, not-carried, refusalNumber, canGive, chosen, applies, explanation, asked, explained, perform, unless, rule}
 use Rattle.model.specs.Frames.{fitsSession, fitsLine}
 use Rattle.model.specs.Kept.{Antitone, SoundBytes}
 use Rattle.model.proofs.Bools.{and-l, and-r, both, not-both}
 use Rattle.model.proofs.Every.{at-all}
 use Rattle.model.proofs.Choices.{within-below, choice}
-use Rattle.model.proofs.LineLaws.{length-readSessions}
+use Rattle.model.proofs.LineLaws.{length-readSessions, explained-line}
 use Rattle.model.proofs.RoundTrip.{read-write}
 use Rattle.model.proofs.SoundLaws.{SoundLine, sound-parts, parts-sound, opening-sound, closing-sound, putting-sound}
 use Rattle.model.proofs.CallLaws.{first-none, first-some, lowest-closed}
@@ -126,6 +126,7 @@ module _ (W : ℕ) (m : Meaning) (wide : W ≤ 64) (small : m .roles ≤ 64) (ow
       let q = queryOf (short-ask k lower upper room) in
       asked-well k q (there k q _ e) (chosen m line k q) refl
   performed-well (show k room) e = safe
+  performed-well (explain k n) e = subst (SoundBytes W m) (sym (explained-line bs _)) safe
 
   -- a refused call leaves the line that was
   unless-well : (o : Option Refusal) (r : Result) → (o ≡ none → SoundBytes W m (r .line)) → SoundBytes W m (unless o bs r .line)
@@ -151,12 +152,20 @@ module _ (W : ℕ) (m : Meaning) (wide : W ≤ 64) (small : m .roles ≤ 64) (ow
   other-refusal bad-aim k q a e = omega arith
   other-refusal bad-room k q a e = omega arith
   other-refusal no-set k q a e = omega arith
+  other-refusal (not-below n) k q a e = omega arith
+  other-refusal (not-carried n) k q a e = omega arith
 
   -- an ask gives 0 or 20
   asked-answer : (k : ℕ) (o : Option ℕ) → ¬ (asked m line bs k o .reply .number ≡ 11)
   unfolding asked refuse given
   asked-answer k none e = omega arith
   asked-answer k (some s) e = omega arith
+
+  -- and so does an explain
+  explained-answer : (o : Option ℕ) → ¬ (explained bs o .reply .number ≡ 11)
+  unfolding explained refuse done
+  explained-answer none e = omega arith
+  explained-answer (some x) e = omega arith
 
   -- the work done gives 0 or 20
   performed-answer : (op : Operation) → ¬ (perform W m line bs op .reply .number ≡ 11)
@@ -166,6 +175,7 @@ module _ (W : ℕ) (m : Meaning) (wide : W ≤ 64) (small : m .roles ≤ 64) (ow
   performed-answer (ask k q) e = asked-answer k (chosen m line k q) e
   performed-answer (short-ask k lower upper room) e = asked-answer k (chosen m line k (queryOf (short-ask k lower upper room))) e
   performed-answer (show k room) e = omega arith
+  performed-answer (explain k n) e = explained-answer (explanation (m .granter n) (sessionAt line k .active)) e
 
   -- a refused call gives the number of a refusal that applies
   unless-answer : (o : Option Refusal) (r : Result) → ((f : Refusal) → o ≡ some f → ¬ (refusalNumber f ≡ 11)) → ¬ (r .reply .number ≡ 11)

@@ -4,6 +4,7 @@
 use mathlib.Core.Path.{_≡_, refl, sym, ap, _∙_, subst}
 use mathlib.Core.Logic.{_⊎_, inl, inr, _↔_}
 use mathlib.Core.Bool.{Bool, true, false, _&&_, _||_, or-false}
+use mathlib.Core.Option.{some}
 use mathlib.Core.List.{List, [], _∷_, _++_}
 use Prim.Native.Nat.{ℕ, zero, suc, _^_, _≤_, _<_}
 use native.Mathlib.Nat.{lt-of-lt-of-le}
@@ -12,14 +13,15 @@ use lib.Dec.{eqb}
 use lib.ListN.{getD, length, List·getD-map, length-append, List·getD-append}
 use lib.Seq.{getD-at}
 use borrow.Author.Tests.{eqb-true, eq-eqb}
-use Rattle.model.specs.Tests.{pick}
+use Rattle.model.specs.Tests.{pick, isSome}
 use Rattle.model.specs.Sets.{has, union, with, unionAt}
-use Rattle.model.specs.Policy.{Policy, taking, through, closed, tableOf, belowTable, withSelves, reached, carriedTable}
-use Rattle.model.specs.Chains.{over, grants, Chain, here, step, Below, Carries, Provides}
+use Rattle.model.specs.Policy.{Policy, taking, through, closed, tableOf, belowTable, withSelves, reached, carriedTable, granterBy, granter}
+use Rattle.model.specs.Chains.{over, grants, Chain, here, step, Below, Carries, Provides, Granting, GranterIs}
 use Rattle.model.specs.Ranges.{InRange}
 use Rattle.model.proofs.Bools.{and-l, and-r, both, or-l, or-r, or-cases}
 use Rattle.model.proofs.SetLaws.{has-union, has-with}
 use Rattle.model.proofs.UnionLaws.{has-none, has-below, below-or-last, has-unionAt, unionAt-none}
+use Rattle.model.proofs.LowestLaws.{named, some-named, none-unnamed, unnamed-none, lowest-some, union-named}
 
 -- ---- a table made row by row
 -- its number of rows
@@ -222,3 +224,46 @@ module _ (p : Policy) (range : InRange p) where
         has-unionAt (carriedTable p) s m .1
         (record { member = c .member; below = l; chosen = c .chosen; holds = carried-is (c .member) m l .1 (c .carries) }),
   )
+
+  -- ---- through which role
+
+  -- a row of the carried table holds the permission exactly if there is a granting role
+  pub carried-named : (a m : ℕ) → has (getD (carriedTable p) a 0) m ≡ isSome (granter p m a)
+  unfolding granter granterBy
+  carried-named a m = ap (λ (x : ℕ). has x m) (carried-at a) ∙ union-named (p .granted) (getD (reached p) a 0) m
+
+  -- the granting role is the lowest that a chain reaches and that holds the grant
+  pub granter-names : (a m g : ℕ) → a < 64 → (granter p m a ≡ some g) ↔ Granting p a m g
+  unfolding granter granterBy grants
+  granter-names a m g h = (
+    λ e.
+        let w = lowest-some (λ k. has (getD (p .granted) k 0) m) (getD (reached p) a 0) g .0 e in
+        record {
+          chain = reached-is a g h .0 (w .member);
+          grant = w .passes;
+          lowest = λ j b c q. w .least j b (reached-is a j h .1 c) q;
+        },
+    λ c.
+        lowest-some (λ k. has (getD (p .granted) k 0) m) (getD (reached p) a 0) g .1
+        (record {
+          small = chain-below h (c .chain);
+          member = reached-is a g h .1 (c .chain);
+          passes = c .grant;
+          least = λ j b i q. c .lowest j b (reached-is a j h .0 i) q;
+        }),
+  )
+
+  -- it is there exactly if the role carries the permission
+  pub granter-is : (a m : ℕ) → a < 64 → GranterIs p a m
+  granter-is a m h =
+      record {
+        there = (
+          λ e. carried-is a m h .0 (carried-named a m ∙ some-named (e .0) (granter p m a) (e .1)),
+          λ c. named (granter p m a) (sym (carried-named a m) ∙ carried-is a m h .1 c),
+        );
+        none-there = (
+          λ e c. none-unnamed (granter p m a) e (sym (carried-named a m) ∙ carried-is a m h .1 c),
+          λ n. unnamed-none (granter p m a) (λ e. n (carried-is a m h .0 (carried-named a m ∙ e))),
+        );
+        names = λ g. granter-names a m g h;
+      }

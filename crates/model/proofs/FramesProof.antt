@@ -12,15 +12,15 @@ use borrow.Author.Tests.{eqb-true, ltb-true}
 use Rattle.model.specs.declared.Line.{Line}
 use Rattle.model.specs.declared.Checked.{Checked}
 use Rattle.model.specs.declared.Checked.the-variants.{Accepted, Refused}
-use Rattle.model.specs.Tests.{pick}
+use Rattle.model.specs.Tests.{pick, first}
 use Rattle.model.specs.Bytes.{bytesOf}
 use Rattle.model.specs.Judgement.{judge}
 use Rattle.model.specs.Policy.{Policy, Meaning, policyOf, meaning}
 use Rattle.model.specs.Line.{lineSize, readLine}
-use Rattle.model.specs.Session.{Operation, open-session, close-session, ask, short-ask, show, refuse, done, given, Refusal, Result, asked, perform, unless, rule}
-use Rattle.model.specs.Run.{Call, lineAt, withLine, ruled, stepOn, stepBy, step, showBy}
-use Rattle.model.specs.Frames.{Frame, StepFrame, ShowKeeps}
-use Rattle.model.proofs.LineLaws.{unless-part, length-bytesOf}
+use Rattle.model.specs.Session.{Operation, open-session, close-session, ask, short-ask, show, explain, sessionOf, queryOf, refuse, done, given, Refusal, Result, canGive, applies, asked, explained, perform, unless, rule}
+use Rattle.model.specs.Run.{Call, lineAt, withLine, ruled, stepOn, stepBy, step, showBy, explainBy}
+use Rattle.model.specs.Frames.{Frame, StepFrame, ShowKeeps, ExplainKeeps}
+use Rattle.model.proofs.LineLaws.{unless-part, explained-line, length-bytesOf}
 use Rattle.model.proofs.LedgerLaws.{patch-outside, apart, withLine-length, own-line, new-length}
 
 -- ---- what the session rules answer
@@ -49,6 +49,17 @@ given-quiet bs after roles permissions =
       room = inr (length-append (bytesOf 8 roles) (bytesOf 32 permissions) ∙ ap₂ _+_ (length-bytesOf 8 roles) (length-bytesOf 32 permissions));
     }
 
+-- an explain, which fills nothing
+explained-quiet : (bs : List ℕ) (o : Option ℕ) → Quiet bs (explained bs o)
+unfolding explained
+explained-quiet bs none = refuse-quiet bs 20 0
+explained-quiet bs (some x) = done-quiet bs bs x
+
+pub explained-fills : (bs : List ℕ) (o : Option ℕ) → explained bs o .reply .filled ≡ []
+unfolding explained refuse done
+explained-fills bs none = refl
+explained-fills bs (some x) = refl
+
 -- an ask, any call that nothing refuses, and any call
 module _ (W : ℕ) (m : Meaning) (bs : List ℕ) where
   asked-quiet : (l : Line) (k : ℕ) (o : Option ℕ) → Quiet bs (asked m l bs k o)
@@ -63,6 +74,7 @@ module _ (W : ℕ) (m : Meaning) (bs : List ℕ) where
   perform-quiet l (ask k q) = asked-quiet l k _
   perform-quiet l (short-ask k lower upper room) = asked-quiet l k _
   perform-quiet l (show k room) = given-quiet bs _ _ _
+  perform-quiet l (explain k n) = explained-quiet bs _
 
   unless-quiet : (o : Option Refusal) (r : Result) → Quiet bs r → Quiet bs (unless o bs r)
   unfolding unless
@@ -142,3 +154,38 @@ pub show-keeps : (W : ℕ) → ShowKeeps W
 unfolding step rule perform showBy
 show-keeps W image ledger u k room =
     stepBy-keeps W (policyOf image) ledger (showBy u k room) (λ m bs. unless-part bs (λ (x : List ℕ). x) _ _ refl) (judge image)
+
+-- An explain changes no byte of the ledger, and fills nothing.
+module _ (W : ℕ) (p : Policy) (l : List ℕ) (u k n : ℕ) where
+  explain-quiet : (m : Meaning) (bs : List ℕ) → rule W m bs (explain k n) .reply .filled ≡ []
+  unfolding rule perform unless refuse
+  explain-quiet m bs = go (first (applies W m (readLine W bs) (sessionOf (explain k n)) (queryOf (explain k n))) (canGive (explain k n)))
+    where
+      go : (o : Option Refusal) → unless o bs (perform W m (readLine W bs) bs (explain k n)) .reply .filled ≡ []
+      go none = explained-fills bs _
+      go (some f) = refl
+
+  stepOn-quiet : stepOn W p l (explainBy u k n) .reply .filled ≡ []
+  unfolding stepOn ruled pick refuse explainBy
+  stepOn-quiet = go (not (eqb (length l) (lineSize W * p .head .users))) (not (ltb u (p .head .users)))
+    where
+      go : (a b : Bool)
+          → pick a (record { reply = refuse 9 0; ledger = l }) (pick b (record { reply = refuse 10 0; ledger = l }) (ruled W p l (explainBy u k n))) .reply
+          .filled ≡ []
+      go true b = refl
+      go false true = refl
+      go false false = explain-quiet _ _
+
+  stepBy-quiet : (v : Checked) → stepBy W v p l (explainBy u k n) .reply .filled ≡ []
+  unfolding stepBy refuse
+  stepBy-quiet (Accepted h) = stepOn-quiet
+  stepBy-quiet (Refused a place) = refl
+
+pub explain-keeps : (W : ℕ) (image ledger : List ℕ) (u k n : ℕ) → ExplainKeeps W image ledger u k n
+unfolding step rule perform explainBy
+explain-keeps W image ledger u k n =
+    record {
+      ledger-kept =
+          stepBy-keeps W (policyOf image) ledger (explainBy u k n) (λ m bs. unless-part bs (λ (x : List ℕ). x) _ _ (explained-line bs _)) (judge image);
+      nothing-filled = stepBy-quiet W (policyOf image) ledger u k n (judge image);
+    }

@@ -7,11 +7,12 @@ pub mod Accepted
 pub mod Computing
 pub mod Cases
 pub mod UnionLaws
-pub mod Closure
 pub mod LowestLaws
+pub mod Closure
 pub mod Judgements
 pub mod Levels
 pub mod OrderedProof
+pub mod ExplainedProof
 pub mod Tables
 pub mod Ranks
 pub mod Subsets

@@ -14,7 +14,7 @@ use Rattle.model.specs.Bytes.{bytesOf}
 use Rattle.model.specs.Policy.{Meaning}
 use Rattle.model.specs.Line.{readSessions, readLine, writeSessions, writeLine, lineSize, putIn, opening, closing}
 use Rattle.model.specs.Frames.{sessionBytes}
-use Rattle.model.specs.Session.{Operation, open-session, close-session, ask, short-ask, show, Refusal, Result, asked, perform, unless, rule}
+use Rattle.model.specs.Session.{Operation, open-session, close-session, ask, short-ask, show, explain, Refusal, Result, asked, explained, perform, unless, rule}
 
 -- ---- lengths
 
@@ -109,6 +109,12 @@ unfolding unless
 unless-part bs part none r h = h
 unless-part bs part (some f) r h = refl
 
+-- an explain keeps the line
+pub explained-line : (bs : List ℕ) (o : Option ℕ) → explained bs o .line ≡ bs
+unfolding explained
+explained-line bs none = refl
+explained-line bs (some x) = refl
+
 module _ (W : ℕ) (m : Meaning) (bs : List ℕ) (h : length bs ≡ lineSize W) where
   -- an ask, any call that nothing refuses, and any call
   asked-length : (k : ℕ) (o : Option ℕ) → length (asked m (readLine W bs) bs k o .line) ≡ lineSize W
@@ -124,6 +130,7 @@ module _ (W : ℕ) (m : Meaning) (bs : List ℕ) (h : length bs ≡ lineSize W) 
   perform-length (ask k q) = asked-length k _
   perform-length (short-ask k lower upper room) = asked-length k _
   perform-length (show k room) = h
+  perform-length (explain k n) = ap length (explained-line bs _) ∙ h
 
   unless-length : (o : Option Refusal) (r : Result) → length (r .line) ≡ lineSize W → length (unless o bs r .line) ≡ lineSize W
   unfolding unless

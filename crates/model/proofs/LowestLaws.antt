@@ -1,20 +1,23 @@
--- Laws of the lowest number that passes a test, of a set made by a test, and of sets that meet.
+-- Laws of the lowest number that passes a test, of the lowest member of a set that does, of a set made by a test, and of sets that meet.
 -- Assumes nothing.
-use mathlib.Core.Path.{_≡_, refl, sym, ap, _∙_}
-use mathlib.Core.Logic.{_⊎_, inl, inr}
-use mathlib.Core.Bool.{Bool, true, false, _&&_, _||_, not}
+use mathlib.Core.Path.{_≡_, refl, sym, ap, ap₂, _∙_, subst}
+use mathlib.Core.Logic.{_⊎_, inl, inr, _↔_}
+use mathlib.Core.Bool.{Bool, true, false, _&&_, _||_, not, true≢false}
+use mathlib.Core.Option.{Option, none, some, Option·some-injective, Option·none-ne-some}
+use mathlib.Core.List.{List}
 use Prim.Native.Nat.{ℕ, zero, suc, _+_, _^_, _≤_, _<_, zero-le}
 use native.Mathlib.Nat.{le-refl}
 use native.Mathlib.Decide.{decLt}
 use native.Mathlib.Omega.{arith}
-use lib.Dec.{eqb}
+use lib.Dec.{eqb, ltb}
 use lib.Pow.{pow-pos}
-use borrow.Author.Tests.{eqb-true, eq-eqb, eqb-false}
-use Rattle.model.specs.Tests.{pick, lowest}
-use Rattle.model.specs.Sets.{has, inter, meets, setOf}
-use Rattle.model.proofs.Bools.{and-l, and-r, both, or-l, or-r, or-cases, not-both}
+use lib.ListN.{getD}
+use borrow.Author.Tests.{eqb-true, eq-eqb, eqb-false, ltb-true, lt-ltb}
+use Rattle.model.specs.Tests.{pick, lowest, ifBelow, isSome}
+use Rattle.model.specs.Sets.{has, inter, meets, setOf, unionAt, lowestIn}
+use Rattle.model.proofs.Bools.{and-l, and-r, both, or-l, or-r, or-cases, not-both, bool-ext}
 use Rattle.model.proofs.SetLaws.{has-union, has-inter, has-power, same-members}
-use Rattle.model.proofs.UnionLaws.{has-none, below-or-last}
+use Rattle.model.proofs.UnionLaws.{has-none, below-or-last, has-unionAt}
 use Rattle.model.proofs.AnyWidth.{lt-two-pow}
 
 -- ---- the lowest number
@@ -49,6 +52,114 @@ lowest-found f k d j a b e =
     let w = lowest-is f k d in
     let h : lowest f k d ≤ j = elim (decLt j (lowest f k d)) [ yes q ↦ not-both (f j) e (w .before j a q) | no q ↦ omega arith ] in
     (w .passes (omega arith), h)
+
+-- tests that agree have the same lowest number
+pub lowest-cong : (f g : ℕ → Bool) (k d : ℕ) → ((j : ℕ) → k ≤ j → j < k + d → f j ≡ g j) → lowest f k d ≡ lowest g k d
+unfolding lowest
+lowest-cong f g k zero h = refl
+lowest-cong f g k (suc d) h =
+    ap₂ (λ (b : Bool) (x : ℕ). elim b [ true ↦ k | false ↦ x ]) (h k (le-refl k) (omega arith))
+    (lowest-cong f g (suc k) d (λ j a b. h j (omega arith) (omega arith)))
+
+-- ---- a number that may be missing
+
+pub named : (o : Option ℕ) → isSome o ≡ true → (n : ℕ) × (o ≡ some n)
+unfolding isSome
+named none e = absurd (true≢false (sym e))
+named (some n) e = (n, refl)
+
+pub some-named : (n : ℕ) (o : Option ℕ) → o ≡ some n → isSome o ≡ true
+unfolding isSome
+some-named n o e = ap isSome e
+
+pub none-unnamed : (o : Option ℕ) → o ≡ none → ¬ (isSome o ≡ true)
+unfolding isSome
+none-unnamed o e s = true≢false (sym s ∙ ap isSome e)
+
+pub unnamed-none : (o : Option ℕ) → ¬ (isSome o ≡ true) → o ≡ none
+unfolding isSome
+unnamed-none none n = refl
+unnamed-none (some k) n = absurd (n refl)
+
+-- ---- the lowest member of a set that passes a test
+
+-- n is the lowest member of s, of at most 64, that passes the test
+pub record LowestThat (f : ℕ → Bool) (s n : ℕ) : Type 0 where
+  pub small : n < 64
+  pub member : has s n ≡ true
+  pub passes : f n ≡ true
+  pub least : (j : ℕ) → j < n → has s j ≡ true → ¬ (f j ≡ true)
+
+module _ (f : ℕ → Bool) (s : ℕ) where
+  -- a number below the bound is named
+  below-some : (x n : ℕ) → x < 64 → x ≡ n → ifBelow 64 x ≡ some n
+  unfolding ifBelow
+  below-some x n h e = ap (λ (b : Bool). elim b [ true ↦ some x | false ↦ none ]) (lt-ltb x 64 h) ∙ ap some e
+
+  -- what is named is the lowest, and the lowest is named
+  pub lowest-some : (n : ℕ) → (lowestIn f s ≡ some n) ↔ LowestThat f s n
+  unfolding lowestIn ifBelow
+  lowest-some n = (λ e. go (ltb x 64) refl e, λ q. below-some x n (lt q) (same q))
+    where
+      x : ℕ
+      x = lowest (λ k. has s k && f k) 0 64
+
+      w : LowestIs (λ k. has s k && f k) 0 64 x
+      w = lowest-is (λ k. has s k && f k) 0 64
+
+      go : (b : Bool) → ltb x 64 ≡ b → elim b [ true ↦ some x | false ↦ none ] ≡ some n → LowestThat f s n
+      go true h e =
+          let l : x < 64 = ltb-true x 64 h in
+          let p : (has s x && f x) ≡ true = w .passes l in
+          subst (LowestThat f s) (Option·some-injective x n e)
+          (record {
+            small = l;
+            member = and-l (has s x) (f x) p;
+            passes = and-r (has s x) (f x) p;
+            least = λ j b m q. not-both (has s j && f j) (both (has s j) (f j) m q) (w .before j zero-le b);
+          })
+      go false h e = absurd (Option·none-ne-some n e)
+
+      found : LowestThat f s n → ((has s x && f x) ≡ true) × (x ≤ n)
+      found q = lowest-found (λ k. has s k && f k) 0 64 n zero-le (q .small) (both (has s n) (f n) (q .member) (q .passes))
+
+      lt : LowestThat f s n → x < 64
+      lt q = omega (arith, found q .1, q .small)
+
+      same : LowestThat f s n → x ≡ n
+      same q =
+          elim (decLt x n) [
+            | yes b ↦ absurd (q .least x b (and-l (has s x) (f x) (found q .0)) (and-r (has s x) (f x) (found q .0)))
+            | no b ↦ omega (arith, found q .1)
+          ]
+
+  -- one is named exactly if some member passes
+  pub lowest-there : (n : ℕ) → n < 64 → has s n ≡ true → f n ≡ true → isSome (lowestIn f s) ≡ true
+  unfolding lowestIn
+  lowest-there n h m p =
+      let x = lowest (λ k. has s k && f k) 0 64 in
+      let q = lowest-found (λ k. has s k && f k) 0 64 n zero-le h (both (has s n) (f n) m p) in
+      some-named x (ifBelow 64 x) (below-some x x (omega (arith, q .1)) refl)
+
+  pub lowest-named : isSome (lowestIn f s) ≡ true → (n : ℕ) × (lowestIn f s ≡ some n)
+  lowest-named = named (lowestIn f s)
+
+-- the test of the numbers below 64 alone decides
+pub lowest-same : (f g : ℕ → Bool) (s t : ℕ) → ((k : ℕ) → k < 64 → (has s k && f k) ≡ (has t k && g k)) → lowestIn f s ≡ lowestIn g t
+unfolding lowestIn
+lowest-same f g s t h = ap (ifBelow 64) (lowest-cong (λ k. has s k && f k) (λ k. has t k && g k) 0 64 (λ j a b. h j b))
+
+-- the union of a table's rows holds m exactly if there is a lowest row that does
+pub union-named : (rows : List ℕ) (s m : ℕ) → has (unionAt rows s) m ≡ isSome (lowestIn (λ g. has (getD rows g 0) m) s)
+union-named rows s m =
+    bool-ext (has (unionAt rows s) m) (isSome (lowestIn row s))
+    (λ e. let w = has-unionAt rows s m .0 e in lowest-there row s (w .member) (w .below) (w .chosen) (w .holds))
+    (λ e. let n = lowest-named row s e in
+    let w = lowest-some row s (n .0) .0 (n .1) in
+    has-unionAt rows s m .1 (record { member = n .0; below = w .small; chosen = w .member; holds = w .passes }))
+  where
+    row : ℕ → Bool
+    row g = has (getD rows g 0) m
 
 -- ---- a set made by a test
 has-more : (b : Bool) (d k : ℕ) → has (pick b (2 ^ d) 0) k ≡ (b && eqb k d)

@@ -11,8 +11,8 @@ use Rattle.model.specs.declared.Kind.{Kind}
 use Rattle.model.specs.declared.Kind.the-variants.{SsDmer, MsDmer, SsHmer, MsHmer}
 use Rattle.model.specs.declared.Exclusion.{Exclusion}
 use Rattle.model.specs.Tests.{pick, any, all}
-use Rattle.model.specs.Sets.{unionAt}
-use Rattle.model.specs.Policy.{Policy, meaning, authorized, closed, belowTable, withSelves, reached, carriedTable, met, onlyFor, kindNumber, sameExclusion, excludes, Agree}
+use Rattle.model.specs.Sets.{has, unionAt}
+use Rattle.model.specs.Policy.{Policy, meaning, authorized, closed, belowTable, withSelves, reached, carriedTable, granterBy, granter, met, onlyFor, kindNumber, sameExclusion, excludes, Agree}
 use Rattle.model.proofs.Bools.{and-l, and-r, or-r, bool-ext}
 use Rattle.model.proofs.Closure.{getD-tableOf}
 
@@ -88,13 +88,14 @@ module _ (u : ℕ) (p q : Policy) (h : Agree u p q) where
 
   -- the session rules see the same
   pub agree-meaning : meaning p u ≡ meaning q u
-  unfolding meaning authorized carriedTable reached belowTable
+  unfolding meaning authorized carriedTable granter reached belowTable
   agree-meaning = λ i.
       record {
         roles = h .heads i .roles;
         permissions = h .heads i .permissions;
         authorized = h .own i;
         carried = map (unionAt (h .grants i)) (withSelves (closed (h .heads i .roles) (h .seniors i)));
+        granter = λ m r. granterBy (withSelves (closed (h .heads i .roles) (h .seniors i))) (λ g. has (getD (h .grants i) g 0) m) r;
         allMet = λ counted. agree-met counted i;
       }
 

@@ -1,6 +1,6 @@
 -- The theorems, each one claim. The arguments stand in the files that are cited; docs/PROOFS.md says which demand each one meets.
 -- Assumes nothing.
-use mathlib.Core.Path.{_≡_}
+use mathlib.Core.Path.{_≡_, sym}
 use mathlib.Core.Logic.{_↔_}
 use mathlib.Core.Bool.{true}
 use mathlib.Core.List.{List, _∷_, _++_}
@@ -14,16 +14,18 @@ use Rattle.model.specs.declared.Entry.{Entry}
 use Rattle.model.specs.declared.Entry.the-variants.{Exclude}
 use Rattle.model.specs.declared.Line.{Line}
 use Rattle.model.specs.declared.Checked.the-variants.{Accepted}
-use Rattle.model.specs.Tests.{all}
+use Rattle.model.specs.Tests.{isSome, all}
 use Rattle.model.specs.Sets.{has, count}
 use Rattle.model.specs.Judgement.{judge}
-use Rattle.model.specs.Policy.{Meaning, policyOf, entriesOf, withMembers, reached, carriedTable, authorized, meaning}
+use Rattle.model.specs.Policy.{Meaning, policyOf, entriesOf, withMembers, reached, carriedTable, granter, authorized, meaning}
 use Rattle.model.specs.Choice.{carriedBy, admissible}
+use Rattle.model.specs.Session.{explanation}
 use Rattle.model.specs.Ward.{holds, starred, settled}
 use Rattle.model.specs.Refusals.{isJudged, judgedImages, isLooped, loopedImages}
 use Rattle.model.specs.Returned.{isSeen, returnedCases, isChecked, checkedCases}
 use Rattle.model.specs.Read.{ReadOff}
-use Rattle.model.specs.Chains.{Chain, Carries, Provides}
+use Rattle.model.specs.Chains.{Chain, Carries, Provides, GranterIs}
+use Rattle.model.specs.Explained.{ExplanationIs}
 use Rattle.model.specs.Ordered.{JudgeIs, Antisymmetric, LoopCallIs}
 use Rattle.model.specs.Ranges.{InRange}
 use Rattle.model.specs.Chosen.{ChoiceIs, RankIs}
@@ -31,13 +33,14 @@ use Rattle.model.specs.Conditions.{Conditions, Admitted}
 use Rattle.model.specs.Independence.{Run, SameFor, Independent}
 use Rattle.model.specs.Apart.{Apart}
 use Rattle.model.specs.Kept.{LineKept, RunKept}
-use Rattle.model.specs.Frames.{LineBytes, StepFrame, ShowKeeps, AnswerKeepsLength, SessionFrames}
+use Rattle.model.specs.Frames.{LineBytes, StepFrame, ShowKeeps, ExplainKeeps, AnswerKeepsLength, SessionFrames}
 use Rattle.model.proofs.Cases
 use Rattle.model.proofs.Tables
 use Rattle.model.proofs.Accepted
 use Rattle.model.proofs.Closure
 use Rattle.model.proofs.Judgements
 use Rattle.model.proofs.OrderedProof
+use Rattle.model.proofs.ExplainedProof
 use Rattle.model.proofs.AnyWidth
 use Rattle.model.proofs.Ranks
 use Rattle.model.proofs.Choices
@@ -120,6 +123,23 @@ module _ (s : List ℕ) (h : Head) (accepted : judge s ≡ Accepted h) where
   pub carried-is : (r m : ℕ) → r < 64 → (has (getD (carriedTable (policyOf s)) r 0) m ≡ true) ↔ Carries (policyOf s) r m
   carried-is = Closure.carried-is (policyOf s) in-range
 
+  -- the granting role is named exactly if the role carries the permission; the name is that of the lowest role that is reached and holds
+  -- the grant
+  pub granter-is : (r m : ℕ) → r < 64 → GranterIs (policyOf s) r m
+  granter-is = Closure.granter-is (policyOf s) in-range
+
+  pub carried-named : (r m : ℕ) → has (getD (carriedTable (policyOf s)) r 0) m ≡ isSome (granter (policyOf s) m r)
+  carried-named = Closure.carried-named (policyOf s) in-range
+
+  -- what a show fills in: a permission of a set of roles is one that has a granting role for some role of the set
+  pub shown-named : (u t m : ℕ) → has (carriedBy (meaning (policyOf s) u) t) m ≡ isSome (explanation (granter (policyOf s) m) t)
+  unfolding meaning carriedBy
+  shown-named u t m = sym (ExplainedProof.set-named (policyOf s) in-range t m)
+
+  -- an explain names the lowest role of a set that carries the permission, with its granting role
+  pub explanation-is : (t m : ℕ) → t < 2 ^ 64 → ExplanationIs (policyOf s) t m
+  explanation-is = ExplainedProof.explanation-is (policyOf s) in-range
+
   -- ---- the choice: demand 2
 
   own-below : (u : ℕ) → authorized (policyOf s) u < 2 ^ 64
@@ -197,6 +217,9 @@ step-frame = FramesProof.step-frame
 
 pub show-keeps : (W : ℕ) → ShowKeeps W
 show-keeps = FramesProof.show-keeps
+
+pub explain-keeps : (W : ℕ) (image ledger : List ℕ) (u k n : ℕ) → ExplainKeeps W image ledger u k n
+explain-keeps = FramesProof.explain-keeps
 
 pub answer-keeps-length : (W : ℕ) → AnswerKeepsLength W
 answer-keeps-length = AnswerProof.answer-keeps-length

@@ -1,12 +1,14 @@
 -- Seniority as chains of senior words, and what a role and a set of roles carry, in the terms of a policy's tables.
 -- Assumes nothing.
 use mathlib.Core.Path.{_≡_}
+use mathlib.Core.Logic.{_↔_}
 use mathlib.Core.Bool.{Bool, true}
+use mathlib.Core.Option.{none, some}
 use mathlib.Core.List.{List, [], _∷_}
 use Prim.Native.Nat.{ℕ, _<_}
 use lib.ListN.{getD}
 use Rattle.model.specs.Sets.{has}
-use Rattle.model.specs.Policy.{Policy}
+use Rattle.model.specs.Policy.{Policy, granter}
 
 -- role a stands directly over role b: a senior word says so
 unfoldable pub over : Policy → ℕ → ℕ → Bool
@@ -48,3 +50,17 @@ pub record Provides (p : Policy) (s m : ℕ) : Type 0 where
   pub member : ℕ
   pub chosen : has s member ≡ true
   pub carries : Carries p member m
+
+-- ---- through which role
+
+-- role g is the granting role of the permission m for role r: it is reached from r and holds the grant, and no lower role does both
+pub record Granting (p : Policy) (r m g : ℕ) : Type 0 where
+  pub chain : Chain p r g
+  pub grant : grants p g m ≡ true
+  pub lowest : (j : ℕ) → j < g → Chain p r j → ¬ (grants p j m ≡ true)
+
+-- the name is there exactly if the role carries the permission, and then it is the granting role
+pub record GranterIs (p : Policy) (r m : ℕ) : Type 0 where
+  pub there : ((g : ℕ) × (granter p m r ≡ some g)) ↔ Carries p r m
+  pub none-there : (granter p m r ≡ none) ↔ ¬ Carries p r m
+  pub names : (g : ℕ) → (granter p m r ≡ some g) ↔ Granting p r m g

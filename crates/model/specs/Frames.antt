@@ -15,7 +15,7 @@ use Rattle.model.specs.Tests.{all}
 use Rattle.model.specs.Policy.{Meaning}
 use Rattle.model.specs.Line.{lineSize, readLine, writeLine}
 use Rattle.model.specs.Session.{Operation, open-session, close-session, sessionOf, queryOf, rule}
-use Rattle.model.specs.Run.{Call, Event, step, answered, showBy}
+use Rattle.model.specs.Run.{Call, Event, step, answered, showBy, explainBy}
 
 -- ---- a line and its bytes
 
@@ -53,6 +53,11 @@ StepFrame W = (image ledger : List ℕ) (c : Call) → Frame (lineSize W) (c .us
 -- a show keeps the whole ledger
 abbrev pub ShowKeeps : ℕ → Type 0
 ShowKeeps W = (image ledger : List ℕ) (u k room : ℕ) → step W image ledger (showBy u k room) .ledger ≡ ledger
+
+-- an explain keeps the whole ledger, and fills nothing
+pub record ExplainKeeps (W : ℕ) (image ledger : List ℕ) (u k n : ℕ) : Type 0 where
+  pub ledger-kept : step W image ledger (explainBy u k n) .ledger ≡ ledger
+  pub nothing-filled : step W image ledger (explainBy u k n) .reply .filled ≡ []
 
 -- the answer buffer of a call keeps its length
 abbrev pub AnswerKeepsLength : ℕ → Type 0

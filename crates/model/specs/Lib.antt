@@ -22,3 +22,4 @@ pub mod Chosen
 pub mod Conditions
 pub mod Ranges
 pub mod Kept
+pub mod Explained

@@ -2,6 +2,7 @@
 -- Assumes nothing.
 use mathlib.Core.Path.{_≡_}
 use mathlib.Core.Bool.{Bool, _&&_}
+use mathlib.Core.Option.{Option}
 use mathlib.Core.List.{List, [], _∷_, _++_, map}
 use Prim.Native.Nat.{ℕ, zero, suc, _+_}
 use lib.Dec.{eqb, ltb}
@@ -13,7 +14,7 @@ use Rattle.model.specs.declared.Exclusion.{Exclusion}
 use Rattle.model.specs.declared.Entry.{Entry}
 use Rattle.model.specs.declared.Entry.the-variants.{Assignment, Grant, Senior, Exclude, Member, End, Unknown}
 use Rattle.model.specs.Tests.{pick, any, all}
-use Rattle.model.specs.Sets.{has, union, inter, with, count, unionAt}
+use Rattle.model.specs.Sets.{has, union, inter, with, count, unionAt, lowestIn}
 use Rattle.model.specs.Image.{wordAt, behindHead, decode, assigning, headOf, emptyRows}
 
 -- ---- the entries of an image
@@ -138,6 +139,15 @@ reached p = withSelves (belowTable p)
 unfoldable pub carriedTable : Policy → List ℕ
 carriedTable p = map (unionAt (p .granted)) (reached p)
 
+-- the granting role for role r, by the table of roles reached and the test that a role holds the grant: the lowest-numbered role reached
+-- from r, itself among them, that holds it; none where there is none
+unfoldable pub granterBy : List ℕ → (ℕ → Bool) → ℕ → Option ℕ
+granterBy reached holds r = lowestIn holds (getD reached r 0)
+
+-- the granting role of permission m for role r
+unfoldable pub granter : Policy → ℕ → ℕ → Option ℕ
+granter p m r = granterBy (reached p) (λ g. has (getD (p .granted) g 0) m) r
+
 -- ---- what a policy means for one user
 
 -- the roles that a user may activate (01: may switch on): those assigned
@@ -149,12 +159,13 @@ unfoldable pub met : (Kind → ℕ) → Exclusion → Bool
 met counted x = ltb (count 64 (inter (x .members) (counted (x .kind)))) (x .limit)
 
 -- what the session rules see of a policy: the numbers of roles and permissions, the roles that the user may activate, what each role
--- carries, and whether every exclusion is met where kind k counts the roles `counted k`
+-- carries and through which granting role, and whether every exclusion is met where kind k counts the roles `counted k`
 pub record Meaning : Type 0 where
   pub roles : ℕ
   pub permissions : ℕ
   pub authorized : ℕ
   pub carried : List ℕ
+  pub granter : ℕ → ℕ → Option ℕ
   pub allMet : (Kind → ℕ) → Bool
 
 unfoldable pub meaning : Policy → ℕ → Meaning
@@ -164,6 +175,7 @@ meaning p u =
       permissions = p .head .permissions;
       authorized = authorized p u;
       carried = carriedTable p;
+      granter = granter p;
       allMet = λ counted. all (met counted) (p .exclusions);
     }
 

@@ -9,8 +9,8 @@ use lib.ListN.{getD, set, replicate, take, drop}
 use Rattle.model.specs.Image.{checkNumber}
 use Rattle.model.specs.Judgement.{judge}
 use Rattle.model.specs.Line.{SESSIONS}
-use Rattle.model.specs.Run.{Call, step, returned, answered, openBy, closeBy, askBy, shortAskBy, showBy}
-use Rattle.model.specs.Ward.{imageBytes, ended, imageA, imageOfKind, opens, closes, shows, damaged, sameList}
+use Rattle.model.specs.Run.{Call, step, returned, answered, openBy, closeBy, askBy, shortAskBy, showBy, explainBy}
+use Rattle.model.specs.Ward.{imageBytes, ended, imageA, imageOfKind, opens, closes, shows, damaged, sameList, widest, explains}
 use Rattle.model.specs.Refusals.{bodyA, edited, assignments, exclusionWords, wide, seniorWord}
 
 -- ---- words, by 01's table of kinds
@@ -181,14 +181,14 @@ refusedImage image number =
     let ledger = old 7 in
     under image ledger
     (leaves ledger (openBy 9) 0 number ∷ leaves ledger (closeBy 9 9) 0 number ∷ leaves ledger (askBy 9 9 [] [] 9 9 3) 3 number
-    ∷ leaves ledger (shortAskBy 9 9 [] [] 3) 3 number ∷ leaves ledger (showBy 9 9 3) 3 number ∷ [])
+    ∷ leaves ledger (shortAskBy 9 9 [] [] 3) 3 number ∷ leaves ledger (showBy 9 9 3) 3 number ∷ leaves ledger (explainBy 9 9 999) 0 number ∷ [])
 
 -- under image A and on this ledger, every call by user u of session k with nothing else right is refused by the number
 unfoldable pub refusesAll : List ℕ → ℕ → ℕ → ℕ → HostCase
 refusesAll ledger u k number =
     under (imageBytes imageA) ledger
     (leaves ledger (closeBy u k) 0 number ∷ leaves ledger (askBy u k [] [] 9 9 3) 3 number ∷ leaves ledger (shortAskBy u k [] [] 3) 3 number
-    ∷ leaves ledger (showBy u k 3) 3 number ∷ [])
+    ∷ leaves ledger (showBy u k 3) 3 number ∷ leaves ledger (explainBy u k 999) 0 number ∷ [])
 
 -- image A's user with session 0 open
 unfoldable pub opened0 : List ℕ
@@ -355,6 +355,19 @@ lastUser =
     ∷ leaves after (openBy 64) 0 10
     ∷ [])
 
+-- ---- a permission explained
+
+-- session 0 with the roles 16 and 63 active
+unfoldable pub bothActive : List ℕ
+bothActive = two (0 ∷ []) (16 ∷ 63 ∷ []) (session (16 ∷ 63 ∷ []) (16 ∷ 63 ∷ [])) idle
+
+-- 256 times 64 * 16 + 16 and 64 * 63 + 62; a permission that neither carries, one not below P, a closed session, no session
+unfoldable pub explanations : HostCase
+explanations =
+    under (imageBytes widest) bothActive
+    (changes (explains 0 64) 266240 bothActive ∷ changes (explains 0 255) 1048064 bothActive ∷ leaves bothActive (explains 0 1) 0 20
+    ∷ leaves bothActive (explains 0 256) 0 16 ∷ leaves bothActive (explains 1 256) 0 13 ∷ leaves bothActive (explains 4 256) 0 12 ∷ [])
+
 -- ---- a loop
 
 -- role 0 over 63 over 62 over 63
@@ -365,7 +378,7 @@ looping = imageOf (headWord 1 64 1 ∷ seniorWord 0 63 ∷ seniorWord 63 62 ∷ 
 
 unfoldable pub returnedCases : List HostCase
 returnedCases =
-    sixLines ∷ shortAsks ∷ fourSessions
+    sixLines ∷ shortAsks ∷ fourSessions ∷ explanations
     -- a last word that is no end, at place 11; a length; a head
     ∷ refusedImage (imageBytes (take 12 imageA)) 2819
     ∷ refusedImage [] 1

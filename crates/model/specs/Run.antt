@@ -12,7 +12,7 @@ use Rattle.model.specs.Tests.{pick}
 use Rattle.model.specs.Judgement.{judge}
 use Rattle.model.specs.Policy.{Policy, policyOf, meaning}
 use Rattle.model.specs.Line.{lineSize}
-use Rattle.model.specs.Session.{Operation, open-session, close-session, ask, short-ask, show, Reply, refuse, rule}
+use Rattle.model.specs.Session.{Operation, open-session, close-session, ask, short-ask, show, explain, Reply, refuse, rule}
 
 -- a call is made by the user that it names
 pub record Call : Type 0 where
@@ -95,3 +95,6 @@ shortAskBy u k lower upper room = record { user = u; operation = short-ask k low
 
 unfoldable pub showBy : ℕ → ℕ → ℕ → Call
 showBy u k room = record { user = u; operation = show k room }
+
+unfoldable pub explainBy : ℕ → ℕ → ℕ → Call
+explainBy u k n = record { user = u; operation = explain k n }

@@ -3,12 +3,12 @@
 use mathlib.Core.Bool.{Bool, true, false, _&&_, _||_, not}
 use mathlib.Core.Option.{Option, none, some}
 use mathlib.Core.List.{List, [], _∷_, _++_}
-use Prim.Native.Nat.{ℕ, _+_, _^_}
+use Prim.Native.Nat.{ℕ, _+_, _*_, _^_}
 use lib.Dec.{eqb, ltb, leb}
 use lib.ListN.{length}
 use Rattle.model.specs.declared.Line.{Line}
-use Rattle.model.specs.Tests.{first}
-use Rattle.model.specs.Sets.{within, count}
+use Rattle.model.specs.Tests.{first, isSome}
+use Rattle.model.specs.Sets.{within, count, lowestIn}
 use Rattle.model.specs.Bytes.{number, bytesOf}
 use Rattle.model.specs.Policy.{Meaning}
 use Rattle.model.specs.Line.{readLine, writeLine, sessionAt, isOpen, sound, lowestClosed, opening, closing, putIn}
@@ -24,13 +24,15 @@ pub record Query : Type 0 where
   pub roleAim : ℕ
   pub room : ℕ
 
--- what a user may call for; a number is a session's, that of a show after it the answer buffer's length
+-- what a user may call for; a number is a session's, that of a show after it the answer buffer's length, that of an explain after it a
+-- permission
 pub data Operation : Type 0 where
   open-session : Operation
   close-session : ℕ → Operation
   ask : ℕ → Query → Operation
   short-ask : ℕ → List ℕ → List ℕ → ℕ → Operation
   show : ℕ → ℕ → Operation
+  explain : ℕ → ℕ → Operation
 
 -- both objectives of a short ask: fewest permissions, then fewest roles
 unfoldable pub shortAim : ℕ
@@ -43,6 +45,7 @@ sessionOf (close-session k) = k
 sessionOf (ask k q) = k
 sessionOf (short-ask k lower upper room) = k
 sessionOf (show k room) = k
+sessionOf (explain k n) = k
 
 -- what a call asks for; a call that asks for nothing has no bounds, and a call with no answer buffer no room
 unfoldable pub queryOf : Operation → Query
@@ -51,6 +54,7 @@ queryOf (close-session k) = record { lower = []; upper = []; permissionAim = 0; 
 queryOf (ask k q) = q
 queryOf (short-ask k lower upper room) = record { lower = lower; upper = upper; permissionAim = shortAim; roleAim = shortAim; room = room }
 queryOf (show k room) = record { lower = []; upper = []; permissionAim = 0; roleAim = 0; room = room }
+queryOf (explain k n) = record { lower = []; upper = []; permissionAim = 0; roleAim = 0; room = 0 }
 
 -- ---- answers
 
@@ -75,10 +79,11 @@ pub record Result : Type 0 where
   pub reply : Reply
   pub line : List ℕ
 
--- ---- the refusals 11 to 20, by the words of the register
+-- ---- the refusals 11 to 20, by the words of the register; the last two are of one permission
 
 pub data Refusal : Type 0 where
   bad-line bad-session is-closed is-full bad-set bad-permission bad-bounds bad-aim bad-room no-set : Refusal
+  not-below not-carried : ℕ → Refusal
 
 unfoldable pub refusalNumber : Refusal → ℕ
 refusalNumber bad-line = 11
@@ -91,6 +96,8 @@ refusalNumber bad-bounds = 17
 refusalNumber bad-aim = 18
 refusalNumber bad-room = 19
 refusalNumber no-set = 20
+refusalNumber (not-below n) = 16
+refusalNumber (not-carried n) = 20
 
 -- those that a call can give, in number order
 unfoldable pub canGive : Operation → List Refusal
@@ -99,6 +106,7 @@ canGive (close-session k) = bad-line ∷ bad-session ∷ is-closed ∷ []
 canGive (ask k q) = bad-line ∷ bad-session ∷ is-closed ∷ bad-set ∷ bad-permission ∷ bad-bounds ∷ bad-aim ∷ bad-room ∷ no-set ∷ []
 canGive (short-ask k lower upper room) = bad-line ∷ bad-session ∷ is-closed ∷ bad-set ∷ bad-permission ∷ bad-bounds ∷ bad-room ∷ no-set ∷ []
 canGive (show k room) = bad-line ∷ bad-session ∷ is-closed ∷ bad-room ∷ []
+canGive (explain k n) = bad-line ∷ bad-session ∷ is-closed ∷ not-below n ∷ not-carried n ∷ []
 
 -- the set that a query is answered with
 unfoldable pub chosen : Meaning → Line → ℕ → Query → Option ℕ
@@ -107,6 +115,24 @@ chosen m l k q = choose m l k (number (q .lower)) (number (q .upper)) (q .permis
 unfoldable pub isNone : Option ℕ → Bool
 isNone none = true
 isNone (some s) = false
+
+-- the lowest of the roles of s that has a granting role, by the names of these
+unfoldable pub carrier : (ℕ → Option ℕ) → ℕ → Option ℕ
+carrier name s = lowestIn (λ r. isSome (name r)) s
+
+-- 64 times a role plus its granting role
+unfoldable pub twoRoles : ℕ → Option ℕ → Option ℕ
+twoRoles r none = none
+twoRoles r (some g) = some (64 * r + g)
+
+unfoldable pub withGranter : (ℕ → Option ℕ) → Option ℕ → Option ℕ
+withGranter name none = none
+withGranter name (some r) = twoRoles r (name r)
+
+-- through which roles the roles of s carry a permission, by the name of each role's granting role: the lowest that carries it and its
+-- granting role, none where none carries it
+unfoldable pub explanation : (ℕ → Option ℕ) → ℕ → Option ℕ
+explanation name s = withGranter name (carrier name s)
 
 -- the case of a refusal holds, for W sessions, the meaning of the policy, the line, the session named and the query
 unfoldable pub applies : ℕ → Meaning → Line → ℕ → Query → Refusal → Bool
@@ -120,6 +146,8 @@ applies W m l k q bad-bounds = not (within (number (q .lower)) (number (q .upper
 applies W m l k q bad-aim = ltb 2 (q .permissionAim) || ltb 2 (q .roleAim)
 applies W m l k q bad-room = not (eqb (q .room) 40)
 applies W m l k q no-set = isNone (chosen m l k q)
+applies W m l k q (not-below n) = not (ltb n (m .permissions))
+applies W m l k q (not-carried n) = isNone (explanation (m .granter n) (sessionAt l k .active))
 
 -- ---- a call that nothing refuses; bs are the bytes of the line l
 
@@ -128,12 +156,18 @@ unfoldable pub asked : Meaning → Line → List ℕ → ℕ → Option ℕ → 
 asked m l bs k none = record { reply = refuse 20 0; line = bs }
 asked m l bs k (some s) = record { reply = given s (carriedBy m s); line = writeLine (putIn k s l) }
 
+-- the roles that explain the permission are told
+unfoldable pub explained : List ℕ → Option ℕ → Result
+explained bs none = record { reply = refuse 20 0; line = bs }
+explained bs (some x) = record { reply = done x; line = bs }
+
 unfoldable pub perform : ℕ → Meaning → Line → List ℕ → Operation → Result
 perform W m l bs open-session = let k = lowestClosed l 0 W in record { reply = done k; line = writeLine (opening k l) }
 perform W m l bs (close-session k) = record { reply = done 0; line = writeLine (closing k l) }
 perform W m l bs (ask k q) = asked m l bs k (chosen m l k q)
 perform W m l bs (short-ask k lower upper room) = asked m l bs k (chosen m l k (queryOf (short-ask k lower upper room)))
 perform W m l bs (show k room) = record { reply = given (sessionAt l k .active) (carriedBy m (sessionAt l k .active)); line = bs }
+perform W m l bs (explain k n) = explained bs (explanation (m .granter n) (sessionAt l k .active))
 
 -- ---- the rules
 

@@ -1,13 +1,14 @@
 -- Sets of roles, permissions or sessions, as numbers: k is a member of s where binary digit k of s is 1 (01: role r counts 2 to the
 -- power r). Every definition computes on numerals.
 -- Assumes nothing.
-use mathlib.Core.Bool.{Bool, true, false, not}
+use mathlib.Core.Bool.{Bool, true, false, _&&_, not}
+use mathlib.Core.Option.{Option}
 use mathlib.Core.List.{List, [], _∷_, _++_, map}
 use Prim.Native.Nat.{ℕ, zero, suc, _+_, _/_, _%_, _^_}
 use lib.Dec.{eqb}
 use lib.Bits.{bitAnd, bitOr}
 use lib.ListN.{getD}
-use Rattle.model.specs.Tests.{pick}
+use Rattle.model.specs.Tests.{pick, lowest, ifBelow}
 
 -- k is a member of s
 unfoldable pub has : ℕ → ℕ → Bool
@@ -60,6 +61,11 @@ unionTo row s (suc d) = union (unionTo row s d) (pick (has s d) (row d) 0)
 unfoldable pub unionAt : List ℕ → ℕ → ℕ
 unfolding unionTo
 unionAt rows s = unionTo (λ r. getD rows r 0) s 64
+
+-- the lowest member of s, of at most 64, that passes the test
+unfoldable pub lowestIn : (ℕ → Bool) → ℕ → Option ℕ
+unfolding lowest ifBelow
+lowestIn f s = ifBelow 64 (lowest (λ k. has s k && f k) 0 64)
 
 -- the subsets of the members of s below d
 unfoldable pub subsets : ℕ → ℕ → List ℕ

@@ -4,7 +4,7 @@ use mathlib.Core.Bool.{Bool, true, false, _&&_, _||_}
 use mathlib.Core.Option.{Option, none, some}
 use mathlib.Core.List.{List, [], _∷_}
 use Prim.Native.Nat.{ℕ, zero, suc}
-use lib.Dec.{leb}
+use lib.Dec.{leb, ltb}
 
 -- the first where the test holds, else the second
 unfoldable pub pick {ℓ} : {X : Type ℓ} → Bool → X → X → X
@@ -34,3 +34,12 @@ first f (x ∷ xs) = elim (f x) [ true ↦ some x | false ↦ first f xs ]
 unfoldable pub lowest : (ℕ → Bool) → ℕ → ℕ → ℕ
 lowest f k zero = k
 lowest f k (suc d) = elim (f k) [ true ↦ k | false ↦ lowest f (suc k) d ]
+
+-- a number below the bound, none for another
+unfoldable pub ifBelow : ℕ → ℕ → Option ℕ
+ifBelow bound n = elim (ltb n bound) [ true ↦ some n | false ↦ none ]
+
+-- there is one
+unfoldable pub isSome : Option ℕ → Bool
+isSome none = false
+isSome (some n) = true

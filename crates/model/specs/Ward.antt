@@ -8,7 +8,7 @@ use lib.Dec.{eqb}
 use lib.ListN.{replicate, take, drop}
 use Rattle.model.specs.Tests.{all}
 use Rattle.model.specs.Bytes.{number, bytesOf}
-use Rattle.model.specs.Run.{Call, Event, run, openBy, closeBy, askBy, shortAskBy, showBy}
+use Rattle.model.specs.Run.{Call, Event, run, openBy, closeBy, askBy, shortAskBy, showBy, explainBy}
 
 -- ---- images as words
 
@@ -69,6 +69,19 @@ hierarchy = ended (0x1020C060 ∷ 0x20000000 ∷ 0x30000000 ∷ 0x30404000 ∷ 0
 unfoldable pub loop : List ℕ
 loop = ended (0x1020C060 ∷ 0x20010000 ∷ 0x20020000 ∷ 0x30000000 ∷ 0x30404000 ∷ 0x30808000 ∷ 0x40010000 ∷ 0x40420000 ∷ 0x40800000 ∷ [])
 
+-- role 0 over 3 over 2 over 1; roles 1 and 2 are granted permission 0, role 0 permission 1; the user has roles 2 and 3
+unfoldable pub twoGrants : List ℕ
+twoGrants =
+    ended
+    (0x10210040 ∷ 0x20020000 ∷ 0x20030000 ∷ 0x30400000 ∷ 0x30800000 ∷ 0x30004000 ∷ 0x40C20000 ∷ 0x40810000 ∷ 0x40030000 ∷ [])
+
+-- the widest numbers: 64 roles and 256 permissions; role 63 over 62 and 16, permission 64 granted to roles 16 and 63, permission 255 to
+-- roles 62 and 63; the user has roles 16 and 63
+unfoldable pub widest : List ℕ
+widest =
+    ended
+    (0x10302000 ∷ 0x20100000 ∷ 0x203F0000 ∷ 0x34100000 ∷ 0x3FD00000 ∷ 0x3FBFC000 ∷ 0x3FFFC000 ∷ 0x4FD00000 ∷ 0x4FFE0000 ∷ [])
+
 -- ---- calls by user 0, with the bounds as set numbers
 
 unfoldable pub opens : Call
@@ -85,6 +98,9 @@ asksShort k lower upper = shortAskBy 0 k (bytesOf 32 lower) (bytesOf 32 upper) 4
 
 unfoldable pub shows : ℕ → Call
 shows k = showBy 0 k 40
+
+unfoldable pub explains : ℕ → ℕ → Call
+explains k n = explainBy 0 k n
 
 -- ---- cases
 
@@ -185,6 +201,17 @@ settled =
     (opened 0 ∷ chose 3 0x3 ∷ chose 3 0x3 ∷ chose 4 0x3 ∷ [])
     -- permissions come first: two roles that carry 0 and 1 rank before one that carries 2 also
     ∷ case threeOrTwo (opens ∷ asks 0 0x3 0x7 0 1 ∷ asksShort 0 0x3 0x7 ∷ []) (opened 0 ∷ chose 1 0x7 ∷ chose 6 0x3 ∷ [])
+    -- an explain names the lowest active role that carries the permission, and the lowest granting role at or below it; it changes nothing
+    ∷ case twoGrants (opens ∷ explains 0 0 ∷ asks 0 0x1 0x1 0 2 ∷ explains 0 0 ∷ explains 0 1 ∷ explains 0 2 ∷ shows 0 ∷ [])
+    (opened 0 ∷ refused 20 ∷ chose 12 0x1 ∷ opened 129 ∷ refused 20 ∷ refused 16 ∷ chose 12 0x1 ∷ [])
+    ∷ case hierarchy (opens ∷ asks 0 0x4 0x7 1 1 ∷ explains 0 0 ∷ explains 0 2 ∷ explains 0 (2 ^ 64 - 1) ∷ explains 1 3 ∷ explains 4 3 ∷ [])
+    (opened 0 ∷ chose 1 0x7 ∷ opened 0 ∷ opened 2 ∷ refused 16 ∷ refused 13 ∷ refused 12 ∷ [])
+    ∷ case widest
+    (opens ∷ asks 0 (2 ^ 255) (2 ^ 255 + 2 ^ 64) 0 2 ∷ explains 0 64 ∷ explains 0 255 ∷ explains 0 1 ∷ explains 0 256 ∷ asks 0 (2 ^ 255) (2 ^ 255 + 2 ^ 64) 0 1
+    ∷ explains 0 64 ∷ [])
+    (opened 0 ∷ chose (2 ^ 63 + 2 ^ 16) (2 ^ 255 + 2 ^ 64) ∷ opened (64 * 16 + 16) ∷ opened (64 * 63 + 62) ∷ refused 20 ∷ refused 16
+    ∷ chose (2 ^ 63) (2 ^ 255 + 2 ^ 64) ∷ opened (64 * 63 + 16) ∷ [])
+    ∷ case loop (explains 0 0 ∷ []) (refused 22 ∷ [])
     -- another user's damaged line does not refuse this one's calls
     ∷ record {
       image = imageOfTwo;
