@@ -11,7 +11,7 @@ use Rattle.model.specs.declared.Exclusions.{Exclusions}
 use Rattle.model.specs.declared.Head.{Head}
 use Rattle.model.specs.declared.Line.{Line}
 use Rattle.model.specs.Tests.{pick}
-use Rattle.model.specs.Sets.{within, unionAt}
+use Rattle.model.specs.Sets.{has, within, unionAt}
 use Rattle.model.specs.Policy.{Policy, authorized, meaning, belowTable, withSelves, reached, carriedTable}
 use Rattle.model.specs.Line.{exclusionsMet}
 use Rattle.model.specs.Choice.{admissible, choose}
@@ -23,9 +23,11 @@ use Rattle.model.proofs.Choices.{choice}
 use Rattle.model.proofs.SoundLaws.{sound-parts}
 use Rattle.sets.specs.Words.{values}
 use Rattle.tables.specs.Carried.{carriedRows}
+use Rattle.tables.specs.Holding.{Holding}
 use Rattle.sets.proofs.Unions.{values-at}
 use Rattle.tables.proofs.Carrying.{length-selves, wantedRow}
-use Rattle.query.specs.Carry.{rowsOf, Carry}
+use Rattle.tables.proofs.Holders.{named-by}
+use Rattle.query.specs.Carry.{rowsOf, Carry, Naming}
 use Rattle.query.specs.Rooms.{roomy}
 use Rattle.query.specs.Reduction.{Reduces}
 use Rattle.search.specs.Answer.{answered, Given}
@@ -40,16 +42,30 @@ getD-mapped f [] i h = absurd (omega arith)
 getD-mapped f (x ∷ l) zero h = refl
 getD-mapped f (x ∷ l) (suc i) h = getD-mapped f l i (omega arith)
 
+-- the row of a role that the user may activate
+row-is : (granted below : List ℕ) (wanted : ℕ) (rows : List (List ℕ)) → values rows ≡ carriedRows granted below wanted → (r : ℕ) → r < 64
+    → has wanted r ≡ true → unionAt granted (getD (withSelves below) r 0) ≡ rowsOf rows r
+unfolding carriedRows pick
+row-is granted below wanted rows e r l h =
+    ap (λ (b : Bool). pick b (unionAt granted (getD (withSelves below) r 0)) 0) (sym h)
+    ∙ sym (getD-tableOf 64 (wantedRow granted (withSelves below) wanted) r l)
+    ∙ ap (λ (x : List ℕ). getD x r 0) (sym e) ∙ values-at rows r
+
+-- the holders of the wanted permissions' grants name a granting role exactly where the row holds the permission
+pub naming-of : (granted below holding : List ℕ) (lower own : ℕ) (rows : List (List ℕ)) → own < 2 ^ 64 → lower < 2 ^ 256
+    → values rows ≡ carriedRows granted below own → Holding granted lower holding → Naming (rowsOf rows) below holding lower own
+naming-of granted below holding lower own rows w v e h i m o want =
+    named-by (withSelves below) granted holding lower m i h (has-below 256 lower m v want) want
+    ∙ ap (λ (x : ℕ). has x m) (row-is granted below own rows e i (has-below 64 own i w o) o)
+
 pub carry-rows : (p : Policy) (u wanted : ℕ) (rows : List (List ℕ)) → wanted < 2 ^ 64
     → values rows ≡ carriedRows (p .granted) (belowTable p) wanted → Carry (meaning p u) wanted (rowsOf rows)
-unfolding meaning carriedRows carriedTable reached pick
+unfolding meaning carriedTable reached
 carry-rows p u wanted rows w e r h =
     let c : List ℕ = withSelves (belowTable p) in
     let l : r < 64 = has-below 64 wanted r w h in
     getD-mapped (unionAt (p .granted)) c r (omega (arith, l, length-selves (belowTable p)))
-    ∙ ap (λ (b : Bool). pick b (unionAt (p .granted) (getD c r 0)) 0) (sym h)
-    ∙ sym (getD-tableOf 64 (wantedRow (p .granted) c wanted) r l)
-    ∙ ap (λ (x : List ℕ). getD x r 0) (sym e) ∙ values-at rows r
+    ∙ row-is (p .granted) (belowTable p) wanted rows e r l h
 
 -- a set that is chosen is one of the user's
 pub chosen-own : (p : Policy) (u own : ℕ) (l : Line) (k lower upper a b s : ℕ) → authorized p u ≡ own → own < 2 ^ 64

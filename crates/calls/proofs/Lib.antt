@@ -4,3 +4,4 @@ pub mod Opens
 pub mod Closes
 pub mod Filled
 pub mod Shown
+pub mod Explained

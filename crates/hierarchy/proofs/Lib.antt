@@ -3,3 +3,4 @@ pub mod Closing
 pub mod Looping
 pub mod Judging
 pub mod Showing
+pub mod Naming

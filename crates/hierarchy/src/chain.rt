@@ -16,12 +16,12 @@ use model::Role;
 
 // ---- levels
 
-// The set, and the role a too where it stands over a role of another.
-fn joined(set: u64, a: usize, over: bool) -> u64
+// The set, and the role a too where it passes a test.
+pub fn joined(set: u64, a: usize, on: bool) -> u64
     requires { ⌜ a < 64 ⌝ }
-    ensures { λ s. ⌜ s ≡ pick over (withOf set a) set ⌝ }
+    ensures { λ s. ⌜ s ≡ pick on (withOf set a) set ⌝ }
 {
-    if over {
+    if on {
         return sets::with(set, Role(a as u8));
     }
     set

@@ -27,6 +27,10 @@ fresh = record { assigned-none = refl; granted-none = refl; juniors-none = refl 
 pub accepted-users : (s : List ℕ) (h : Head) → judge s ≡ Accepted h → h .users ≤ 64
 accepted-users s h e = subst (λ (x : Head). x .users ≤ 64) (accepted-head s h e) (accepted-in-range s h e .users .1)
 
+-- and at most 256 permissions
+pub accepted-permissions : (s : List ℕ) (h : Head) → judge s ≡ Accepted h → h .permissions ≤ 256
+accepted-permissions s h e = subst (λ (x : Head). x .permissions ≤ 256) (accepted-head s h e) (accepted-in-range s h e .permissions .1)
+
 -- an accepted image's tables are known
 pub known-of : (s : List ℕ) (h : Head) (assigned granted below : List ℕ) (rows : List (List ℕ)) (count : ℕ) → judge s ≡ Accepted h
     → Tables (policyOf s) assigned granted below rows count → Known h assigned (exclusionsIn rows count) (policyOf s)
@@ -46,6 +50,10 @@ module _ (W : ℕ) (s ledger : List ℕ) (c : Call) where
   step-refused n place e = rw e
 
   -- a refused image ends the call there
+  pub returned-judged : (n place r : ℕ) → judge s ≡ Refused n place → r ≡ checkNumber (Refused n place) → r ≡ returned (step W s ledger c .reply)
+  unfolding checkNumber returned refuse
+  returned-judged n place r e q = q ∙ sym (ap (λ (x : Event). returned (x .reply)) (step-refused n place e))
+
   pub gives-judged : (n place r : ℕ) → judge s ≡ Refused n place → r ≡ checkNumber (Refused n place) → Gives (step W s ledger c) r ledger
   unfolding checkNumber returned refuse
   gives-judged n place r e q =
@@ -71,6 +79,10 @@ module _ (W : ℕ) (s ledger : List ℕ) (c : Call) where
       }
 
   -- under an accepted one it goes by the policy
+  pub returned-accepted : (h : Head) (r : ℕ) → judge s ≡ Accepted h → r ≡ returned (stepOn W (policyOf s) ledger c .reply)
+      → r ≡ returned (step W s ledger c .reply)
+  returned-accepted h r e q = q ∙ sym (ap (λ (x : Event). returned (x .reply)) (step-accepted h e))
+
   pub gives-accepted : (h : Head) (n : ℕ) (after : List ℕ) → judge s ≡ Accepted h → Gives (stepOn W (policyOf s) ledger c) n after
       → Gives (step W s ledger c) n after
   gives-accepted h n after e g = subst (λ (x : Event). Gives x n after) (sym (step-accepted h e)) g

@@ -6,7 +6,7 @@ ghost use Rattle.model.specs.Line.{SESSIONS};
 ghost use Rattle.model.specs.Image.{checkNumber};
 ghost use Rattle.model.specs.Judgement.{judge};
 ghost use Rattle.model.specs.Loop.{loopCall};
-ghost use Rattle.model.specs.Run.{step, openBy, closeBy, showBy, askBy, shortAskBy, returned, answered};
+ghost use Rattle.model.specs.Run.{step, openBy, closeBy, showBy, askBy, shortAskBy, explainBy, returned, answered};
 use calls::given::Rules;
 use calls::given::Window;
 use model::Checked;
@@ -119,6 +119,42 @@ pub extern "C" fn nutrameza_show(
         &xs,
         window,
         answer,
+    )
+}
+
+// Explains through which roles the active ones of the user's session carry the permission: the extra is 64 times the lowest that carries
+// it plus the lowest role at or below that one which holds the grant.
+#[no_mangle]
+pub extern "C" fn nutrameza_explain(
+    image: &[u8],
+    ledger: &[u8],
+    user: u64,
+    session: u64,
+    permission: u64,
+) -> u64
+    ensures { λ r. ⌜ r ≡ returned (step SESSIONS (now (image .entry)) (now (ledger .entry)) (explainBy user session permission) .reply) ⌝ }
+{
+    let mut assigned = [0u64; 64];
+    let mut granted = [[0u64; 4]; 64];
+    let mut below = [0u64; 64];
+    let mut xs = [[0u64; 2]; 32];
+    let all = tables::read::read(image, &mut assigned, &mut granted, &mut below, &mut xs);
+    let c = all.checked;
+    let Checked::Accepted(head) = c else {
+        return refusal_of(c);
+    };
+    let count = all.count;
+    let rules = Rules { head, count };
+    let window = Window { user, session };
+    calls::explain::explain_session(
+        ledger,
+        rules,
+        &assigned,
+        &granted,
+        &below,
+        &xs,
+        window,
+        permission,
     )
 }
 

@@ -4,6 +4,7 @@ pub mod Ranks
 pub mod Bounds
 pub mod RoomLaws
 pub mod Walks
+pub mod Names
 pub mod Lacking
 pub mod Meanings
 pub mod Reductions

@@ -5,8 +5,9 @@ use mathlib.Core.Bool.{Bool, true, false, _&&_}
 use mathlib.Core.List.{List, []}
 use Prim.Native.Nat.{ℕ, _≤_, _<_}
 use lib.ListN.{getD}
+use Rattle.model.specs.Tests.{isSome}
 use Rattle.model.specs.Sets.{has}
-use Rattle.model.specs.Policy.{Meaning}
+use Rattle.model.specs.Policy.{Meaning, withSelves, granterBy}
 use Rattle.sets.specs.Words.{value}
 
 -- what role r carries, by rows of four words
@@ -16,6 +17,12 @@ rowsOf rows r = value (getD rows r [])
 -- each of the roles carries what its row says
 abbrev pub Carry : Meaning → ℕ → (ℕ → ℕ) → Type 0
 Carry m s row = (r : ℕ) → has s r ≡ true → getD (m .carried) r 0 ≡ row r
+
+-- by the closed table and the roles that hold each permission's grant, a role of the set has a granting role of a wanted permission
+-- exactly if its row holds the permission
+abbrev pub Naming : (ℕ → ℕ) → List ℕ → List ℕ → ℕ → ℕ → Type 0
+Naming row below holding wanted s = (i p : ℕ) → has s i ≡ true → has wanted p ≡ true
+    → isSome (granterBy (withSelves below) (has (getD holding p 0)) i) ≡ has (row i) p
 
 -- ---- sets
 

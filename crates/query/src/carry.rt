@@ -3,12 +3,14 @@
 ghost use mathlib.Core.Path.{_≡_};
 ghost use mathlib.Core.Bool.{false};
 ghost use Prim.Native.Nat.{_<_};
-ghost use Rattle.model.specs.Tests.{pick};
+ghost use Rattle.model.specs.Tests.{pick, isSome};
 ghost use Rattle.model.specs.Sets.{has, union, with as withOf, within};
-ghost use Rattle.model.specs.Policy.{Meaning};
+ghost use Rattle.model.specs.Policy.{Meaning, withSelves, granterBy};
 ghost use Rattle.model.specs.Choice.{carriedBy};
 ghost use Rattle.sets.specs.Words.{value};
 ghost use Rattle.query.specs.Carry.{rowsOf, Carry, Keeps, Missing, Reaches};
+use hierarchy::reach::granter;
+use hierarchy::reach::is_named;
 use model::Permission;
 use model::Role;
 
@@ -39,16 +41,15 @@ pub fn usable(rows: &[[u64; 4]; 64], upper: [u64; 4], set: u64) -> u64
     found
 }
 
-// The roles of a set that carry the permission p.
-pub fn holders(rows: &[[u64; 4]; 64], p: Permission, set: u64) -> u64
-    ensures { λ s. ⌜ Keeps (λ i. has (rowsOf (now (rows .entry)) i) (p .0)) set s ⌝ }
+// The roles of a set that carry a permission, by the closed table and the roles that hold its grant: those that have a granting role.
+pub fn holders(below: &[u64; 64], holding: u64, set: u64) -> u64
+    ensures { λ s. ⌜ Keeps (λ i. isSome (granterBy (withSelves (now (below .entry))) (has holding) i)) set s ⌝ }
 {
     let mut left = set;
     let mut found: u64 = 0;
     while left != 0 {
         let r = sets::lowest(left);
-        let i = r.0 as usize;
-        let next = joined(found, r, sets::perm_has(rows[i], p));
+        let next = joined(found, r, is_named(granter(below, holding, r)));
         found = next;
         left = sets::without(left, r);
     }

@@ -13,7 +13,7 @@ use Rattle.model.specs.declared.Checked.the-variants.{Accepted, Refused}
 use Rattle.model.specs.Image.{judgeWords}
 use Rattle.model.specs.Policy.{Policy, Meaning, policyOf, meaning}
 use Rattle.model.specs.Judgement.{lowestOnLoop, barred, judgeMeaning, judge}
-use Rattle.model.specs.Session.{Operation, open-session, close-session, ask, short-ask, show, Reply, refuse, done, given, Result, Refusal, bad-line, bad-session, is-closed, is-full, bad-set, bad-permission, bad-bounds, bad-aim, bad-room, no-set, refusalNumber, asked, perform, unless, rule}
+use Rattle.model.specs.Session.{Operation, open-session, close-session, ask, short-ask, show, explain, Reply, refuse, done, given, Result, Refusal, bad-line, bad-session, is-closed, is-full, bad-set, bad-permission, bad-bounds, bad-aim, bad-room, no-set, not-below, not-carried, refusalNumber, asked, explained, perform, unless, rule}
 use Rattle.model.specs.Run.{Call, Event, step, stepBy, stepOn, ruled, returned}
 use Rattle.model.proofs.Bools.{pick-case}
 use Rattle.model.proofs.Judgements.{UpTo8, words-small}
@@ -51,11 +51,18 @@ refusal-small bad-bounds = omega arith
 refusal-small bad-aim = omega arith
 refusal-small bad-room = omega arith
 refusal-small no-set = omega arith
+refusal-small (not-below n) = omega arith
+refusal-small (not-carried n) = omega arith
 
 asked-small : (m : Meaning) (l : _) (bs : List ℕ) (k : ℕ) (o : Option ℕ) → asked m l bs k o .reply .number < 256
 unfolding asked refuse given
 asked-small m l bs k none = omega arith
 asked-small m l bs k (some s) = omega arith
+
+explained-small : (bs : List ℕ) (o : Option ℕ) → explained bs o .reply .number < 256
+unfolding explained refuse done
+explained-small bs none = omega arith
+explained-small bs (some x) = omega arith
 
 perform-small : (W : ℕ) (m : Meaning) (l : _) (bs : List ℕ) (op : Operation) → perform W m l bs op .reply .number < 256
 unfolding perform done given
@@ -64,6 +71,7 @@ perform-small W m l bs (close-session k) = omega arith
 perform-small W m l bs (ask k q) = asked-small m l bs k _
 perform-small W m l bs (short-ask k lower upper room) = asked-small m l bs k _
 perform-small W m l bs (show k room) = omega arith
+perform-small W m l bs (explain k n) = explained-small bs _
 
 unless-small : (o : Option Refusal) (bs : List ℕ) (r : Result) → r .reply .number < 256 → unless o bs r .reply .number < 256
 unfolding unless refuse

@@ -7,17 +7,21 @@ use Prim.Native.Nat.{ℕ, _+_, _-_, _^_, _≤_, _<_}
 use native.Mathlib.Nat.{le-of-lt}
 use native.Mathlib.Omega.{arith}
 use lib.Dec.{leb}
+use lib.ListN.{getD}
 use borrow.Author.Tests.{leb-true, leb-false}
+use Rattle.model.specs.Tests.{isSome}
 use Rattle.model.specs.Sets.{has, union, inter, with, within, count}
+use Rattle.model.specs.Policy.{withSelves, granterBy}
 use Rattle.model.proofs.Bools.{and-l, and-r, or-l, both}
 use Rattle.model.proofs.SetLaws.{has-union, has-inter}
 use Rattle.sets.specs.Members.{without, Lowest}
 use Rattle.sets.proofs.Taken.{count-without}
 use Rattle.query.specs.declared.rank.Best.{Best}
 use Rattle.query.specs.declared.rank.Job.{Job}
-use Rattle.query.specs.Carry.{rowsOf, Sub, Keeps, Missing, Reaches}
+use Rattle.query.specs.Carry.{rowsOf, Naming, Sub, Keeps, Missing, Reaches}
 use Rattle.query.specs.Ranks.{keyBy, rank, rankAt, Judged, Settled}
 use Rattle.query.proofs.Members.{sub-count, fewer-sub}
+use Rattle.query.proofs.Names.{keeps-named}
 use Rattle.search.specs.Search.{Task, taskOf, carries, serves, rankOf, Ready, Modest, Found, Tried}
 use Rattle.search.proofs.Between.{fewer-within}
 use Rattle.search.proofs.Carried.{carried-sub, carried-with, carried-none, top-bound}
@@ -58,13 +62,14 @@ module _ (t : Task) (n chosen carried : ℕ) (a : Best) (ready : Ready t n chose
   short : w ≡ false → within (t .lower) (carries t chosen) ≡ false
   short e = ap (within (t .lower)) (sym (ready .carry)) ∙ sym judged ∙ e
 
-  -- the roles that carry a missing permission were tried
-  pub goes-on : (free p tries : ℕ) (r : Best) → w ≡ false → (within (t .lower) carried ≡ false → Missing (t .lower) carried p)
-      → Keeps (λ i. has (t .row i) p) free tries → Tried t tries chosen free a r → Found t chosen free a r
-  goes-on free p tries r e miss keeps tried =
+  -- the roles that carry a missing permission, those that have a granting role of it, were tried
+  pub goes-on : (below holding : List ℕ) (free p tries : ℕ) (r : Best) → w ≡ false → (within (t .lower) carried ≡ false → Missing (t .lower) carried p)
+      → Naming (t .row) below holding (t .lower) free → Keeps (λ i. isSome (granterBy (withSelves below) (has (getD holding p 0)) i)) free tries
+      → Tried t tries chosen free a r → Found t chosen free a r
+  goes-on below holding free p tries r e miss naming keeps tried =
       let m = miss (sym judged ∙ e) in
       taken-up t chosen free p tries a r (m .wanted) (ap (λ (c : ℕ). has c p) (sym (ready .carry)) ∙ m .lacking)
-      (λ i f h. keeps i ∙ both (has free i) (has (t .row i) p) f h) tried
+      (λ i f h. keeps-named (t .row) below holding (t .lower) p free tries naming (m .wanted) keeps i ∙ both (has free i) (has (t .row i) p) f h) tried
 
 pub keeps-sub : (test : ℕ → Bool) (s r : ℕ) → Keeps test s r → Sub r s
 keeps-sub test s r k i m = and-l (has s i) (test i) (sym (k i) ∙ m)

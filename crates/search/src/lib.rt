@@ -7,7 +7,7 @@ ghost use Rattle.model.specs.Policy.{Meaning};
 ghost use Rattle.model.specs.Choice.{choose};
 ghost use Rattle.sets.specs.Words.{value};
 ghost use Rattle.query.specs.Rooms.{roomy};
-ghost use Rattle.query.specs.Carry.{rowsOf};
+ghost use Rattle.query.specs.Carry.{rowsOf, Naming};
 ghost use Rattle.search.specs.Search.{taskOf, Found};
 ghost use Rattle.search.specs.Answer.{answered, answerOf, noBest, Given};
 
@@ -39,8 +39,17 @@ fn answer(best: Best) -> Choice
 }
 
 // The best set of free roles, from the empty set, which the exclusions have room for: Procedure 3 unless an objective is the most.
-fn best_of(rows: &[[u64; 4]; 64], masks: &[u64; 32], rooms: &[u32; 32], job: Job, free: u64) -> Best
-    requires { ⌜ (job .count ≤ 32) × (roomy (now masks) (now rooms) (job .count) 0 ≡ true) ⌝ }
+fn best_of(
+    rows: &[[u64; 4]; 64],
+    masks: &[u64; 32],
+    rooms: &[u32; 32],
+    job: Job,
+    free: u64,
+    below: &[u64; 64],
+    holding: &[u64; 256],
+) -> Best
+    requires { ⌜ (job .count ≤ 32) × (roomy (now masks) (now rooms) (job .count) 0 ≡ true)
+        × (Naming (rowsOf (now rows)) (now below) (now holding) (value (job .lower)) free) ⌝ }
     ensures { λ r. ⌜ Found (taskOf (now (rows .entry)) (now (masks .entry)) (now (rooms .entry)) job) 0 free noBest r ⌝ }
 {
     let none = Best {
@@ -51,7 +60,18 @@ fn best_of(rows: &[[u64; 4]; 64], masks: &[u64; 32], rooms: &[u32; 32], job: Job
     let second = job.second;
     if first < 2 {
         if second < 2 {
-            return permission_step(rows, masks, rooms, job, free, 0, [0u64; 4], none);
+            return permission_step(
+                rows,
+                masks,
+                rooms,
+                job,
+                free,
+                0,
+                [0u64; 4],
+                none,
+                below,
+                holding,
+            );
         }
     }
     let from = reach(rows, free);
@@ -59,7 +79,7 @@ fn best_of(rows: &[[u64; 4]; 64], masks: &[u64; 32], rooms: &[u32; 32], job: Job
 }
 
 // The best admissible role set, of the roles that the user may activate: at least the lower bound, nothing outside the upper, and
-// room under each exclusion.
+// room under each exclusion. The closed table and the roles that hold each wanted permission's grant name the granting roles.
 pub fn solve(
     rows: &[[u64; 4]; 64],
     upper: [u64; 4],
@@ -67,8 +87,10 @@ pub fn solve(
     masks: &[u64; 32],
     rooms: &[u32; 32],
     job: Job,
+    below: &[u64; 64],
+    holding: &[u64; 256],
 ) -> Choice
-    requires { ⌜ job .count ≤ 32 ⌝ }
+    requires { ⌜ (job .count ≤ 32) × (Naming (rowsOf (now rows)) (now below) (now holding) (value (job .lower)) authorized) ⌝ }
     ensures { λ r. ⌜ ((m : Meaning) (l : Line) (k : ℕ) → Given m l k authorized (rowsOf (now (rows .entry))) (roomy (now (masks .entry)) (now (rooms .entry)) (job .count)) → answered r ≡ choose m l k (value (job .lower)) (value upper) (job .first) (job .second)) ⌝ }
 {
     let count = job.count;
@@ -76,5 +98,5 @@ pub fn solve(
         return Choice::Nothing;
     }
     let free = usable(rows, upper, authorized);
-    answer(best_of(rows, masks, rooms, job, free))
+    answer(best_of(rows, masks, rooms, job, free, below, holding))
 }

@@ -1,6 +1,8 @@
-// The two searches. Each step is given the roles chosen so far with what they carry, the roles still free, and the best set so far.
+// The two searches. Each step is given the roles chosen so far with what they carry, the roles still free, and the best set so far. Whether
+// a role carries a permission is asked by the name of its granting role, with the closed table and the roles that hold each wanted
+// permission's grant.
 ghost use Rattle.sets.specs.Words.{value};
-ghost use Rattle.query.specs.Carry.{rowsOf, Sub, Reaches};
+ghost use Rattle.query.specs.Carry.{rowsOf, Naming, Sub, Reaches};
 ghost use Rattle.search.specs.Search.{taskOf, Ready, Modest, Found, Tried};
 use query::carry::holders;
 use query::carry::missing;
@@ -23,8 +25,10 @@ pub fn permission_step(
     chosen: u64,
     carried: [u64; 4],
     best: Best,
+    below: &[u64; 64],
+    holding: &[u64; 256],
 ) -> Best
-    requires { ⌜ (Ready (taskOf (now rows) (now masks) (now rooms) job) (job .count) chosen (value carried)) × (Modest (taskOf (now rows) (now masks) (now rooms) job)) ⌝ }
+    requires { ⌜ (Ready (taskOf (now rows) (now masks) (now rooms) job) (job .count) chosen (value carried)) × (Modest (taskOf (now rows) (now masks) (now rooms) job)) × (Naming (rowsOf (now rows)) (now below) (now holding) (value (job .lower)) free) ⌝ }
     ensures { λ r. ⌜ Found (taskOf (now (rows .entry)) (now (masks .entry)) (now (rooms .entry)) job) chosen free best r ⌝ }
 {
     let key = key_of(job, chosen, carried);
@@ -38,8 +42,21 @@ pub fn permission_step(
             roles: chosen,
         };
     }
-    let tries = holders(rows, missing(lower, carried), free);
-    role_step(rows, masks, rooms, job, tries, free, chosen, carried, best)
+    let p = missing(lower, carried);
+    let tries = holders(below, holding[p.0 as usize], free);
+    role_step(
+        rows,
+        masks,
+        rooms,
+        job,
+        tries,
+        free,
+        chosen,
+        carried,
+        best,
+        below,
+        holding,
+    )
 }
 
 // The roles of tries are tried. One that was tried is barred from what is tried after it.
@@ -53,8 +70,10 @@ pub fn role_step(
     chosen: u64,
     carried: [u64; 4],
     best: Best,
+    below: &[u64; 64],
+    holding: &[u64; 256],
 ) -> Best
-    requires { ⌜ (Ready (taskOf (now rows) (now masks) (now rooms) job) (job .count) chosen (value carried)) × (Modest (taskOf (now rows) (now masks) (now rooms) job)) × (Sub tries free) ⌝ }
+    requires { ⌜ (Ready (taskOf (now rows) (now masks) (now rooms) job) (job .count) chosen (value carried)) × (Modest (taskOf (now rows) (now masks) (now rooms) job)) × (Sub tries free) × (Naming (rowsOf (now rows)) (now below) (now holding) (value (job .lower)) free) ⌝ }
     ensures { λ r. ⌜ Tried (taskOf (now (rows .entry)) (now (masks .entry)) (now (rooms .entry)) job) tries chosen free best r ⌝ }
 {
     if tries == 0 {
@@ -66,12 +85,47 @@ pub fn role_step(
     let more = sets::with(chosen, role);
     let count = job.count;
     if !room_for(masks, rooms, count, more) {
-        return role_step(rows, masks, rooms, job, rest, less, chosen, carried, best);
+        return role_step(
+            rows,
+            masks,
+            rooms,
+            job,
+            rest,
+            less,
+            chosen,
+            carried,
+            best,
+            below,
+            holding,
+        );
     }
     let i = role.0 as usize;
     let sum = sets::perm_union(carried, rows[i]);
-    let next = permission_step(rows, masks, rooms, job, less, more, sum, best);
-    role_step(rows, masks, rooms, job, rest, less, chosen, carried, next)
+    let next = permission_step(
+        rows,
+        masks,
+        rooms,
+        job,
+        less,
+        more,
+        sum,
+        best,
+        below,
+        holding,
+    );
+    role_step(
+        rows,
+        masks,
+        rooms,
+        job,
+        rest,
+        less,
+        chosen,
+        carried,
+        next,
+        below,
+        holding,
+    )
 }
 
 // Every set that has the chosen roles and some of the free ones: with the lowest where the exclusions have room, and then without it. They

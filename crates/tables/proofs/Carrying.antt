@@ -26,11 +26,6 @@ pub length-selves : (rows : List ℕ) → length (withSelves rows) ≡ 64
 unfolding withSelves
 length-selves rows = length-tableOf 64 (λ a. with (getD rows a 0) a)
 
--- row r with the role r
-pub selves-at : (rows : List ℕ) (r : ℕ) → r < 64 → getD (withSelves rows) r 0 ≡ with (getD rows r 0) r
-unfolding withSelves
-selves-at rows r l = getD-tableOf 64 (λ a. with (getD rows a 0) a) r l
-
 -- ---- the rows of the roles that are asked for
 
 -- row r of a table for the roles of `wanted`

@@ -4,3 +4,6 @@ pub mod Fills
 pub mod Places
 pub mod Last
 pub mod Carrying
+pub mod Holders
+pub mod Marks
+pub mod Explaining

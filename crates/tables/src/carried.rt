@@ -1,24 +1,12 @@
 // What roles carry: the granted rows joined by the closed table of juniors, for the roles that are asked for.
 ghost use mathlib.Core.Path.{_≡_};
-ghost use lib.ListN.{getD};
-ghost use Prim.Native.Nat.{_<_};
-ghost use Rattle.model.specs.Sets.{has, unionAt};
+ghost use Rattle.model.specs.Sets.{unionAt};
 ghost use Rattle.model.specs.Policy.{withSelves};
 ghost use Rattle.sets.specs.Words.{value, values};
 ghost use Rattle.tables.specs.Carried.{carriedRows, carriedOf};
-use model::Permission;
-use model::Role;
+use hierarchy::reach::reach;
 
 // ---- who is reached
-
-// The roles that role r reaches: itself and those of its row.
-fn reach(rows: &[u64; 64], r: Role) -> u64
-    requires { ⌜ r .0 < 64 ⌝ }
-    ensures { λ s. ⌜ s ≡ getD (withSelves (now (rows .entry))) (r .0) 0 ⌝ }
-{
-    let who = r.0 as usize;
-    sets::with(rows[who], r)
-}
 
 // The roles that the roles of a set reach.
 fn reached_by(rows: &[u64; 64], set: u64) -> u64
@@ -52,19 +40,11 @@ pub fn carried(granted: &[[u64; 4]; 64], below: &[u64; 64], wanted: u64) -> [[u6
     out
 }
 
-// What the roles of a set carry, by the closed table.
+// What the roles of a set carry, by the closed table: the grants of all that they reach, joined. A permission is in it exactly if a role of
+// the set has a granting role of it (the model's `shown-named`).
 pub fn carried_by(granted: &[[u64; 4]; 64], below: &[u64; 64], set: u64) -> [u64; 4]
     ensures { λ s. ⌜ value s ≡ unionAt (carriedOf (values (now (granted .entry))) (now (below .entry))) set ⌝ }
 {
     let reached = reached_by(below, set);
     sets::perm_union_at(granted, reached)
-}
-
-// Role r carries permission p.
-pub fn carries(rows: &[[u64; 4]; 64], r: Role, p: Permission) -> bool
-    requires { ⌜ r .0 < 64 ⌝ }
-    ensures { λ a. ⌜ a ≡ has (getD (values (now (rows .entry))) (r .0) 0) (p .0) ⌝ }
-{
-    let who = r.0 as usize;
-    sets::perm_has(rows[who], p)
 }

@@ -16,6 +16,7 @@ permission-step-requires c κs =
     let g = s .args in (
       ready-none (taskOf (now (g .rows)) (now (g .masks)) (now (g .rooms)) (g .job)) (g .job .count) 0 (s .pre .0) refl (s .pre .1),
       record { permissions = c .before .if1 .taken; roles = c .if2 .taken },
+      s .pre .2,
     )
 
 subset-step-requires : tie.Need-subset-step-requires

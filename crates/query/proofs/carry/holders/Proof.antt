@@ -1,29 +1,30 @@
 -- `query::carry::holders` meets its contract: a walk through the set by its lowest member.
 -- Assumes nothing.
 use borrow.Author.Needs.{needs}
+use Rattle.model.specs.Tests.{isSome}
 use Rattle.model.specs.Sets.{has, count}
-use Rattle.query.specs.Carry.{rowsOf}
+use Rattle.model.specs.Policy.{withSelves, granterBy}
 use Rattle.query.proofs.Walks.{Walk, walk-starts, walk-next, walk-ends, fewer-left}
 use Rattle.query.proofs.carry.holders.Statement.{statement}
 use Rattle.query.proofs.carry.holders.Tie as tie
 
 abbrev Inv-loop : tie.InvT-loop
-Inv-loop rows p set left₀ found₀ left found = Walk (λ i. has (rowsOf rows i) (p .0)) set left found
+Inv-loop below holding set left₀ found₀ left found = Walk (λ i. isSome (granterBy (withSelves below) (has holding) i)) set left found
 
 abbrev μ-loop : tie.MeasureT-loop
-μ-loop rows p set left₀ found₀ left found = count 64 left
+μ-loop below holding set left₀ found₀ left found = count 64 left
 
 loop-less : tie.Need-loop-less Inv-loop μ-loop
 loop-less c =
-    let w = c .before .before .before .before .before in
+    let w = c .before .before .before .before in
     let l = w .before .before in
     fewer-left (l .before .args .set) (l .loop .left) (c .without .result) (w .lowest .result .0) (l .before .fits .set .fits) (l .loop .inv .inside) (w .lowest .ensures) (c .without .ensures)
 
 loop-again : tie.Need-loop-again Inv-loop μ-loop
 loop-again c =
-    let w = c .before .before .before .before .before in
+    let w = c .before .before .before .before in
     let l = w .before .before in
-    rw (c .without .ensures, c .before .joined .ensures, c .before .before .perm-has .ensures)
+    rw (c .without .ensures, c .before .joined .ensures, c .before .before .is-named .ensures, c .before .before .before .granter .ensures)
     (walk-next _ (l .before .args .set) (l .loop .left) (l .loop .found) (w .lowest .result .0) (w .lowest .ensures .member) (l .loop .inv))
 
 returns : tie.Need-returns Inv-loop μ-loop
@@ -37,9 +38,7 @@ holders-spec =
     μ-loop
     (λ c. search (needs, walk-starts))
     (λ c κs. search needs)
-    (λ c. search needs)
-    (λ c. search needs)
-    (λ c. search needs)
+    (λ c κs. search needs)
     (λ c κs. search needs)
     (λ c κs. search needs)
     (λ c κs. search needs)

@@ -1,10 +1,10 @@
--- `tables::carried::reach` meets its contract.
+-- `hierarchy::reach::reach` meets its contract.
 -- Assumes nothing.
 use mathlib.Core.Path.{sym, _∙_}
 use borrow.Author.Needs.{needs}
-use Rattle.tables.proofs.Carrying.{selves-at}
-use Rattle.tables.proofs.carried.reach.Statement.{statement}
-use Rattle.tables.proofs.carried.reach.Tie as tie
+use Rattle.hierarchy.proofs.Naming.{selves-at}
+use Rattle.hierarchy.proofs.reach.reach.Statement.{statement}
+use Rattle.hierarchy.proofs.reach.reach.Tie as tie
 
 returns : tie.Need-returns
 returns c = c .with .ensures ∙ sym (selves-at _ _ (search needs))

@@ -1,0 +1,47 @@
+// By the closed table of juniors: the roles that a role reaches, and through which of them a grant comes to it.
+ghost use mathlib.Core.Path.{_≡_};
+ghost use lib.ListN.{getD};
+ghost use Prim.Native.Nat.{_<_};
+ghost use Rattle.model.specs.Tests.{isSome};
+ghost use Rattle.model.specs.Sets.{has};
+ghost use Rattle.model.specs.Policy.{withSelves, granterBy};
+ghost use Rattle.hierarchy.specs.Names.{nameOf};
+use model::Role;
+
+// The roles that role r reaches: itself and those of its row.
+pub fn reach(below: &[u64; 64], r: Role) -> u64
+    requires { ⌜ r .0 < 64 ⌝ }
+    ensures { λ s. ⌜ s ≡ getD (withSelves (now (below .entry))) (r .0) 0 ⌝ }
+{
+    let who = r.0 as usize;
+    sets::with(below[who], r)
+}
+
+// The name of a granting role, where there is one.
+pub enum Named {
+    By(Role),
+    Nobody,
+}
+
+// The granting role of a permission for role r, by the roles that hold its grant: the lowest that r reaches, itself among them. There is
+// one exactly if role r carries the permission.
+pub fn granter(below: &[u64; 64], holding: u64, r: Role) -> Named
+    requires { ⌜ r .0 < 64 ⌝ }
+    ensures { λ n. ⌜ nameOf n ≡ granterBy (withSelves (now (below .entry))) (has holding) (r .0) ⌝ }
+{
+    let both = sets::inter(reach(below, r), holding);
+    if both == 0 {
+        return Named::Nobody;
+    }
+    Named::By(sets::lowest(both))
+}
+
+// A role is named.
+pub fn is_named(n: Named) -> bool
+    ensures { λ b. ⌜ b ≡ isSome (nameOf n) ⌝ }
+{
+    match n {
+        Named::By(_) => true,
+        Named::Nobody => false,
+    }
+}
