@@ -100,6 +100,11 @@ static uint64_t show(uint64_t session, uint8_t *answer, size_t answer_len)
     return nutrameza_show(image, sizeof image, ledger, NUTRAMEZA_LINE_BYTES, USER, session, answer, answer_len);
 }
 
+static uint64_t explain(uint64_t session, uint64_t permission)
+{
+    return nutrameza_explain(image, sizeof image, ledger, NUTRAMEZA_LINE_BYTES, USER, session, permission);
+}
+
 /* Two windows: treating a patient in the first keeps the disclosure out of the second until the first is closed. */
 static void day(void)
 {
@@ -126,6 +131,11 @@ static void day(void)
              NUTRAMEZA_DONE, 0);
     if (answered("  send health records from the second", ask(1, READ_HEALTH_RECORDS | SEND_DATA, answer), NUTRAMEZA_DONE, 0))
         shown(answer, 2, 0x12);
+    uint64_t told = explain(1, 4);
+    if (answered("  why may data be sent there", told, NUTRAMEZA_DONE, 64 * DATA_MANAGER + DATA_MANAGER))
+        printf("    through %s, granted to %s\n", role_names[nutrameza_explained_role(told)],
+               role_names[nutrameza_granting_role(told)]);
+    answered("  why may drugs be prescribed there", explain(1, 2), NUTRAMEZA_NONE, 0);
     answered("show the window that is closed", show(0, answer, sizeof answer), NUTRAMEZA_CLOSED, 0);
     answered("show into a buffer that is too small", show(1, answer, 39), NUTRAMEZA_ROOM, 0);
     answered("open for a person beyond the policy",

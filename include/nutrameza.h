@@ -56,11 +56,11 @@ enum nutrameza_number {
     NUTRAMEZA_CLOSED = 13,     /* session not open */
     NUTRAMEZA_FULL = 14,       /* all four sessions open */
     NUTRAMEZA_SET = 15,        /* a bound not 32 bytes */
-    NUTRAMEZA_PERMISSION = 16, /* a bound with a permission not below P */
+    NUTRAMEZA_PERMISSION = 16, /* a bound with a permission not below P; a permission to be explained not below P */
     NUTRAMEZA_BOUNDS = 17,     /* lower bound not within the upper */
     NUTRAMEZA_AIM = 18,        /* an aim above 2 */
     NUTRAMEZA_ROOM = 19,       /* answer buffer not 40 bytes; chain buffer not 64 bytes */
-    NUTRAMEZA_NONE = 20,       /* no admissible role set; no loop */
+    NUTRAMEZA_NONE = 20,       /* no admissible role set; no loop; no active role carries the permission */
     NUTRAMEZA_SCRIPT = 21,     /* unreadable line, given by the program nutrameza_script alone */
     NUTRAMEZA_LOOP = 22        /* image: senior words lead from a role back to it; tested after 8 and before 9 */
 };
@@ -79,9 +79,19 @@ enum nutrameza_exclusion_kind {
 
 /* A call returns its number plus 256 times its extra: the place of the refused word for 1 to 8 (the head is
  * place 0), the lowest role on a loop for 22, the session that a done open took, the length of the chain that a done
- * loop call gave, else 0. */
+ * loop call gave, 64 times a role plus its granting role of a done explain, else 0. */
 static inline unsigned nutrameza_number_of(uint64_t returned) { return (unsigned)(returned % 256); }
 static inline uint64_t nutrameza_extra_of(uint64_t returned) { return returned / 256; }
+
+/* What a done explain returned: the active role, and the role at or below it that holds the grant. */
+static inline unsigned nutrameza_explained_role(uint64_t returned)
+{
+    return (unsigned)(nutrameza_extra_of(returned) / NUTRAMEZA_MAX_ROLES);
+}
+static inline unsigned nutrameza_granting_role(uint64_t returned)
+{
+    return (unsigned)(nutrameza_extra_of(returned) % NUTRAMEZA_MAX_ROLES);
+}
 
 /* The register's word for an answer number; "unknown" for one that no call gives. */
 static inline const char *nutrameza_word_of(unsigned number)
@@ -232,6 +242,12 @@ uint64_t nutrameza_short_ask(const uint8_t *image, size_t image_len, uint8_t *le
  * Refusals 1 to 8, 22, 9 to 13 and 19. */
 uint64_t nutrameza_show(const uint8_t *image, size_t image_len, const uint8_t *ledger, size_t ledger_len, uint64_t user,
                         uint64_t session, uint8_t *answer, size_t answer_len);
+
+/* Explain says through which roles an open session carries a permission: the extra is 64 times the lowest active role
+ * that carries it plus its granting role, the lowest-numbered role at or below that one which holds the grant. It
+ * changes no byte. Refusals 1 to 8, 22, 9 to 13, 16, and 20 if no active role carries the permission. */
+uint64_t nutrameza_explain(const uint8_t *image, size_t image_len, const uint8_t *ledger, size_t ledger_len,
+                           uint64_t user, uint64_t session, uint64_t permission);
 
 #ifdef __cplusplus
 }

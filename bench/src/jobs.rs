@@ -1,5 +1,5 @@
-//! The check on the largest image; open, close and show on a small and on the largest one; check, open, ask and short ask over
-//! a deep hierarchy; the loop call.
+//! The check on the largest image; open, close, show and explain on a small and on the largest one; check, open, explain, ask and
+//! short ask over a deep hierarchy; the loop call.
 
 use crate::{plain, timing};
 use nutrameza_tests::gen::{policy, Rng};
@@ -133,6 +133,8 @@ impl Desk {
             (Call::Close, false) => plain::close(image, ledger, user, 0),
             (Call::Show, true) => kit::show(Empty::Somewhere, image, ledger, user, 0, answer),
             (Call::Show, false) => plain::show(image, ledger, user, 0, answer),
+            (Call::Explain(permission), true) => kit::explain(Empty::Somewhere, image, ledger, user, 0, permission),
+            (Call::Explain(permission), false) => plain::explain(image, ledger, user, 0, permission),
             #[cfg(feature = "asks")]
             (Call::Ask, true) => {
                 let wish = kit::Wish { user, session: 0, lower: &LOWER, upper: &UPPER };
@@ -158,6 +160,8 @@ enum Call {
     Open,
     Close,
     Show,
+    /// Of this permission.
+    Explain(u64),
     #[cfg(feature = "asks")]
     Ask,
     #[cfg(feature = "asks")]
@@ -171,6 +175,7 @@ impl Call {
             Call::Open => "open",
             Call::Close => "close",
             Call::Show => "show",
+            Call::Explain(_) => "explain",
             #[cfg(feature = "asks")]
             Call::Ask => "ask",
             #[cfg(feature = "asks")]
@@ -210,7 +215,15 @@ fn some_own_roles(image: &[u8], user: usize) -> u64 {
     policy.assigned[user].iter().take(3).map(|role| 1 << role).sum()
 }
 
-/// Times open, close and show; open, ask and short ask over a deep hierarchy.
+/// The highest permission that a set of roles carries in an image.
+#[cfg(feature = "calls")]
+fn last_carried(image: &[u8], roles: u64) -> u64 {
+    let policy = nutrameza_tests::solver::image::judge(image).expect("the image is accepted");
+    let last = |role: usize| policy.carried_by(role).into_iter().max();
+    (0..policy.roles).filter(|role| roles >> role & 1 == 1).filter_map(last).max().expect("the roles carry a permission") as u64
+}
+
+/// Times open, close, show and explain; open, explain, ask and short ask over a deep hierarchy.
 #[cfg(feature = "calls")]
 pub fn calls() {
     let deep = deep(false);
@@ -219,22 +232,24 @@ pub fn calls() {
         let roles = some_own_roles(&image, 63);
         (name, image, 64, roles)
     };
+    // carried by the role that stands below all others
     let over_deep = [
         Call::Open,
+        Call::Explain(31),
         #[cfg(feature = "asks")]
         Call::Ask,
         #[cfg(feature = "asks")]
         Call::ShortAsk,
     ];
-    let each = [Call::Open, Call::Close, Call::Show];
     let images = [
-        (("13 words", ward::image_a(), 1, 1), &each[..]),
-        (large("4,096 words, by kind", true), &each),
-        (large("4,096 words, in any order", false), &each),
-        (("4,096 words, deep hierarchy", deep.clone(), 64, some_own_roles(&deep, 63)), &over_deep),
+        (("13 words", ward::image_a(), 1, 1), None),
+        (large("4,096 words, by kind", true), None),
+        (large("4,096 words, in any order", false), None),
+        (("4,096 words, deep hierarchy", deep.clone(), 64, some_own_roles(&deep, 63)), Some(&over_deep[..])),
     ];
     for ((size, image, users, roles), calls) in images {
-        for call in calls.iter().copied() {
+        let each = [Call::Open, Call::Close, Call::Show, Call::Explain(last_carried(&image, roles))];
+        for call in calls.unwrap_or(&each).iter().copied() {
             let (mut first, mut second) = (Desk::new(&image, users, line(roles)), Desk::new(&image, users, line(roles)));
             let (by_kit, by_plain) = (first.do_by(call, true), second.do_by(call, false));
             assert_eq!((by_kit, &first.ledger, first.answer), (by_plain, &second.ledger, second.answer), "{call:?}");

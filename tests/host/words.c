@@ -47,6 +47,10 @@ static void test_returned_values(void) {
     same("extra", nutrameza_extra_of(5u + 256u * 3u), 3);
     same("number of done", nutrameza_number_of(256u * 2u), NUTRAMEZA_DONE);
     same("largest extra", nutrameza_extra_of(8u + 256u * 4095u), 4095);
+    same("explained role", nutrameza_explained_role(256u * (64u * 5u + 9u)), 5);
+    same("granting role", nutrameza_granting_role(256u * (64u * 5u + 9u)), 9);
+    same("explained role, largest", nutrameza_explained_role(256u * 4095u), 63);
+    same("granting role, largest", nutrameza_granting_role(256u * 4095u), 63);
     same("word of 0", (uint64_t)strcmp(nutrameza_word_of(NUTRAMEZA_DONE), "done"), 0);
     same("word of 8", (uint64_t)strcmp(nutrameza_word_of(NUTRAMEZA_BALANCE), "balance"), 0);
     same("word of 14", (uint64_t)strcmp(nutrameza_word_of(NUTRAMEZA_FULL), "full"), 0);

@@ -29,6 +29,15 @@ mod raw {
             answer: *mut u8,
             answer_len: usize,
         ) -> u64;
+        pub fn nutrameza_explain(
+            image: *const u8,
+            image_len: usize,
+            ledger: *const u8,
+            ledger_len: usize,
+            user: u64,
+            session: u64,
+            permission: u64,
+        ) -> u64;
     }
 
     #[cfg(feature = "asks")]
@@ -130,6 +139,12 @@ pub fn show(empty: Empty, image: &[u8], ledger: &[u8], user: u64, session: u64, 
     }
 }
 
+#[cfg(feature = "calls")]
+pub fn explain(empty: Empty, image: &[u8], ledger: &[u8], user: u64, session: u64, permission: u64) -> u64 {
+    // SAFETY: as in `open`.
+    unsafe { raw::nutrameza_explain(empty.read(image), image.len(), empty.read(ledger), ledger.len(), user, session, permission) }
+}
+
 /// What an ask names beside image, ledger and answer.
 #[cfg(feature = "asks")]
 pub struct Wish<'a> {
@@ -192,6 +207,8 @@ pub fn play(empty: Empty, image: &[u8], ledger: &mut [u8], call: &Call, answer: 
         Call::Close { user, session } => close(empty, image, ledger, *user, *session),
         #[cfg(feature = "calls")]
         Call::Show { user, session, .. } => show(empty, image, ledger, *user, *session, answer),
+        #[cfg(feature = "calls")]
+        Call::Explain { user, session, permission } => explain(empty, image, ledger, *user, *session, *permission),
         #[cfg(feature = "asks")]
         Call::Ask { user, session, lower, upper, objectives, .. } => {
             let wish = Wish { user: *user, session: *session, lower, upper };

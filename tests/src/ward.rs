@@ -36,6 +36,14 @@ fn roles_carrying(rows: &[&[u32]]) -> Vec<u8> {
     words::bytes(&words::closed(image))
 }
 
+/// Role 0 over 3 over 2 over 1; roles 1 and 2 are granted permission 0, role 0 permission 1; the user has roles 2 and 3.
+fn two_grants() -> Vec<u8> {
+    let mut image = vec![words::head(1, 4, 2), words::assignment(0, 2), words::assignment(0, 3)];
+    image.extend([words::grant(1, 0), words::grant(2, 0), words::grant(0, 1)]);
+    image.extend([words::senior(0, 3), words::senior(3, 2), words::senior(2, 1)]);
+    words::bytes(&words::closed(image))
+}
+
 /// A bound's 32 bytes whose bit p is permission p, for the permissions below 64.
 pub fn bound(number: u64) -> Vec<u8> {
     let mut bytes = number.to_le_bytes().to_vec();
@@ -84,6 +92,10 @@ fn ask(session: u64, lower: u64, upper: u64, objectives: (u64, u64)) -> Call {
     Call::Ask { user: 0, session, lower: bound(lower), upper: bound(upper), objectives, room: 40 }
 }
 
+fn explain(session: u64, permission: u64) -> Call {
+    Call::Explain { user: 0, session, permission }
+}
+
 fn short(session: u64, lower: u64, upper: u64) -> Call {
     Call::ShortAsk { user: 0, session, lower: bound(lower), upper: bound(upper), room: 40 }
 }
@@ -99,7 +111,7 @@ fn script_ending(last: Seen) -> Vec<Seen> {
     vec![(0, 0, 0, 0), (0, 0, 1, 0xf), (0, 1, 0, 0), (20, 0, 0, 0), (0, 0, 0, 0), last]
 }
 
-/// Every ward example of 01, the starred ones and those that are only run.
+/// Every ward example of 01, the starred ones and those that are only run, and a few of the change requests.
 pub fn cases() -> Vec<Case> {
     let opened = (0, 0, 0, 0);
     let none = (20, 0, 0, 0);
@@ -132,6 +144,12 @@ pub fn cases() -> Vec<Case> {
             vec![opened, (0, 0, 1, 0xf), (0, 0, 1, 0xf), opened, (13, 0, 0, 0)],
         ),
     ];
+    cases.push(case(
+        "an explain names the lowest active role and the lowest granting role at or below it",
+        two_grants(),
+        vec![open(), explain(0, 0), ask(0, 1, 1, (0, 2)), explain(0, 0), explain(0, 1), explain(0, 2), explain(1, 2), show(0)],
+        vec![opened, none, (0, 0, 12, 1), (0, 2 * 64 + 1, 0, 0), none, (16, 0, 0, 0), (13, 0, 0, 0), (0, 0, 12, 1)],
+    ));
     for (objectives, roles, carried) in [((2, 0), 3, 0xf), ((2, 2), 7, 0xf), ((1, 2), 1, 0x5)] {
         let calls = vec![open(), ask(0, 0x1, 0xf, objectives)];
         cases.push(case("003's three roles", three_roles(), calls, vec![opened, (0, 0, roles, carried)]));

@@ -177,6 +177,13 @@ fn see_search(tally: &mut Tally, policy: &Policy, call: &Call, played: &Played) 
     }
 }
 
+/// Sees an explain.
+fn see_explain(tally: &mut Tally, call: &Call, played: &Played) {
+    if matches!(call, Call::Explain { .. }) {
+        tally.see(if played.reply.number == 0 { "explains done" } else { "explains refused" });
+    }
+}
+
 #[test]
 fn answers_a_hundred_thousand_asks_as_the_solver_does() {
     let tally = spread("asks", 40_000, |rng, tally| {
@@ -203,6 +210,7 @@ fn answers_a_hundred_thousand_asks_as_the_solver_does() {
             if matches!(call, Call::Ask { .. } | Call::ShortAsk { .. }) {
                 tally.see_number(played.reply.number);
             }
+            see_explain(tally, call, &played);
             assert!(played.reply.number != 18 || !matches!(call, Call::ShortAsk { .. }));
             if (call.user() as usize) < policy.users {
                 see_search(tally, &policy, call, &played);
@@ -212,6 +220,7 @@ fn answers_a_hundred_thousand_asks_as_the_solver_does() {
     tally.expect(100_000, &["asks"]);
     tally.expect(5_000, &["0", "20", "ties", "empty lower bounds", "roles cut", "several roles"]);
     tally.expect(1_000, &["empty upper bounds", "limits of 1"]);
+    tally.expect(2_500, &["explains done", "explains refused"]);
     tally.expect(150, &NUMBERS);
     for first in 0..3 {
         for second in 0..3 {
@@ -330,8 +339,10 @@ fn each_user_is_told_the_same_whatever_the_others_do() {
                 calls.iter().zip(&together).filter(|(call, _)| of_user(call)).map(|(_, told)| told.clone()).collect();
             assert_eq!(alone, told, "user {user} of {run:?}");
             told.iter().for_each(|played| tally.see_number(played.reply.number));
+            run.calls.iter().zip(&told).for_each(|(call, played)| see_explain(tally, call, played));
         }
     });
+    tally.expect(500, &["explains done", "explains refused"]);
     tally.expect(150, &["0", "11", "12", "13", "14", "15", "16", "17", "18", "19", "20"]);
 }
 
@@ -373,6 +384,7 @@ fn deep_asks() -> Vec<Call> {
         calls.push(Call::ShortAsk { user: 0, session: 3, lower: lower.clone(), upper: all.clone(), room: 40 });
     }
     calls.push(Call::Show { user: 0, session: 3, room: 40 });
+    calls.extend((0..4).map(|session| Call::Explain { user: 0, session, permission: 255 }));
     calls.push(Call::Close { user: 0, session: 3 });
     calls
 }

@@ -1,4 +1,4 @@
-//! Open, close and show through the C interface: each rule by name, then calls by the hundred thousand beside the solver.
+//! Open, close, show and explain through the C interface: each rule by name, then calls by the hundred thousand beside the solver.
 
 use nutrameza_tests::compare::{play, spread, step, Played, Run};
 use nutrameza_tests::gen::{call, damage, ledger, policy, Rng};
@@ -9,8 +9,9 @@ use nutrameza_tests::solver::line::sound;
 use nutrameza_tests::solver::policy::Policy;
 use nutrameza_tests::{ward, words};
 
-/// The numbers that open, close and show can give.
-const NUMBERS: [&str; 17] = ["0", "1", "2", "3", "4", "5", "6", "7", "8", "9", "10", "11", "12", "13", "14", "19", "22"];
+/// The numbers that open, close, show and explain can give.
+const NUMBERS: [&str; 19] =
+    ["0", "1", "2", "3", "4", "5", "6", "7", "8", "9", "10", "11", "12", "13", "14", "16", "19", "20", "22"];
 
 /// The answers of calls under image A, from this line.
 fn answers(line: [u8; 80], calls: &[Call]) -> Vec<(u64, u64)> {
@@ -57,15 +58,21 @@ fn close_keeps_the_users_history() {
     assert_eq!((line[0], line[8], line[16], line[24]), (0, 3, 0, 0));
 }
 
+/// The calls of user 0 that name a session.
+fn at_session(session: u64) -> [Call; 3] {
+    let user = 0;
+    [Call::Close { user, session }, Call::Show { user, session, room: 40 }, Call::Explain { user, session, permission: 0 }]
+}
+
 #[test]
 fn refuses_a_closed_session_and_one_above_three() {
     for session in [4, 5, 7, 8, 255, 256, 1 << 32, 1 << 60, u64::MAX] {
-        let calls = [Call::Close { user: 0, session }, Call::Show { user: 0, session, room: 40 }];
-        assert_eq!(answers(doctors_line(), &calls), [(12, 0), (12, 0)]);
+        let calls = at_session(session);
+        assert_eq!(answers(doctors_line(), &calls), [(12, 0), (12, 0), (12, 0)]);
     }
     for session in 1..4 {
-        let calls = [Call::Close { user: 0, session }, Call::Show { user: 0, session, room: 40 }];
-        assert_eq!(answers(doctors_line(), &calls), [(13, 0), (13, 0)]);
+        let calls = at_session(session);
+        assert_eq!(answers(doctors_line(), &calls), [(13, 0), (13, 0), (13, 0)]);
     }
 }
 
@@ -89,7 +96,13 @@ fn refuses_answer_buffers_of_every_length_but_forty() {
 
 #[test]
 fn refuses_null_for_image_and_ledger() {
-    for call in [Call::Open { user: 0 }, Call::Close { user: 0, session: 0 }, Call::Show { user: 0, session: 0, room: 0 }] {
+    let (user, session) = (0, 0);
+    for call in [
+        Call::Open { user },
+        Call::Close { user, session },
+        Call::Show { user, session, room: 0 },
+        Call::Explain { user, session, permission: 0 },
+    ] {
         let run = |image: Vec<u8>, ledger| Run { image, ledger, calls: vec![call.clone()], empty: Empty::Null };
         assert_eq!(play(&run(vec![], vec![0; 80]))[0].reply.number, 1);
         assert_eq!(play(&run(vec![], vec![]))[0].reply.number, 1);
@@ -109,8 +122,14 @@ fn refuses_ledgers_of_every_other_length() {
 #[test]
 fn refuses_users_beyond_the_head_up_to_the_largest_number() {
     for user in [1, 2, 63, 64, 255, 256, 1 << 16, 1 << 32, 1 << 60, (1 << 60) + 1, 1 << 63, u64::MAX] {
-        let calls = [Call::Open { user }, Call::Close { user, session: 9 }, Call::Show { user, session: 9, room: 3 }];
-        assert_eq!(answers([0xFF; 80], &calls), [(10, 0), (10, 0), (10, 0)]);
+        let session = 9;
+        let calls = [
+            Call::Open { user },
+            Call::Close { user, session },
+            Call::Show { user, session, room: 3 },
+            Call::Explain { user, session, permission: 5 },
+        ];
+        assert_eq!(answers([0xFF; 80], &calls), [(10, 0); 4]);
     }
 }
 
@@ -153,14 +172,15 @@ fn damage_in_another_line_changes_nothing() {
             let how = rng.pick(&ledger::DAMAGES);
             ledger::damage(rng, &policy, other, &mut damaged[80 * other..80 * (other + 1)], how);
         }
-        let calls: Vec<Call> = (0..4).map(|_| of_user(call::plain(rng, &policy), user as u64)).collect();
+        let calls: Vec<Call> = (0..6).map(|_| of_user(call::plain(rng, &policy), user as u64)).collect();
         let play = |ledger: Vec<u8>| play(&Run { image: image.clone(), ledger, calls: calls.clone(), empty: Empty::Null });
         let (before, after): (Vec<Played>, Vec<Played>) = (play(sound), play(damaged));
         assert_eq!(before, after);
         before.iter().for_each(|played| tally.see_number(played.reply.number));
     });
     assert_eq!(tally.count("11"), 0);
-    tally.expect(1_000, &["0", "12", "13", "14", "19"]);
+    tally.expect(1_000, &["0", "12", "13", "14", "19", "20"]);
+    tally.expect(500, &["16"]);
 }
 
 /// The same call made by another user.
@@ -169,6 +189,7 @@ fn of_user(call: Call, user: u64) -> Call {
         Call::Open { .. } => Call::Open { user },
         Call::Close { session, .. } => Call::Close { user, session },
         Call::Show { session, room, .. } => Call::Show { user, session, room },
+        Call::Explain { session, permission, .. } => Call::Explain { user, session, permission },
         ask => ask,
     }
 }
@@ -184,25 +205,29 @@ fn image_and_policy(rng: &mut Rng) -> (Vec<u8>, Policy) {
 }
 
 #[test]
-fn plays_three_hundred_thousand_calls_as_the_solver_does() {
-    let tally = spread("open, close and show", 40_000, |rng, tally| {
+fn plays_four_hundred_thousand_calls_as_the_solver_does() {
+    let tally = spread("open, close, show and explain", 40_000, |rng, tally| {
         let (image, policy) = image_and_policy(rng);
         let damaged = rng.pick(&[0, 2, 8]);
         let mut ledger = ledger::ledger(rng, &policy, damaged);
         if rng.one_in(12) {
             ledger::misfit(rng, &mut ledger);
         }
-        let calls: Vec<Call> = (0..8).map(|_| call::plain(rng, &policy)).collect();
+        let calls: Vec<Call> = (0..11).map(|_| call::plain(rng, &policy)).collect();
         let run = Run { image, ledger, calls, empty: rng.pick(&[Empty::Null, Empty::Somewhere]) };
         for (call, played) in run.calls.iter().zip(play(&run)) {
             tally.see_number(played.reply.number);
             tally.see(match call {
                 Call::Open { .. } => "open",
                 Call::Close { .. } => "close",
-                _ => "show",
+                Call::Show { .. } => "show",
+                _ if played.reply.number == 0 => "explain, done",
+                _ => "explain, refused",
             });
         }
     });
     tally.expect(100_000, &["open", "close", "show"]);
+    tally.expect(2_000, &["explain, done"]);
+    tally.expect(100_000, &["explain, refused"]);
     tally.expect(1_000, &NUMBERS);
 }

@@ -150,6 +150,7 @@ fn calls(user: u64, session: u64, room: usize) -> Vec<Call> {
         Call::Show { user, session, room },
         Call::Ask { user, session, lower: bound.clone(), upper: bound.clone(), objectives: (3, 3), room },
         Call::ShortAsk { user, session, lower: bound.clone(), upper: bound[1..].to_vec(), room },
+        Call::Explain { user, session, permission: 4 },
     ]
 }
 
@@ -182,7 +183,7 @@ fn every_call_refuses_a_loop_before_ledger_person_line_session_and_all_that_foll
     let image = image(6, &[(0, 5), (5, 3), (3, 5)]);
     for length in [0, 1, 79, 80, 81, 160] {
         for (user, session, room) in [(0, 0, 40), (0, 9, 3), (7, 0, 40), (u64::MAX, u64::MAX, 0)] {
-            assert_eq!(answers(&image, length, calls(user, session, room)), [(22, 3); 5], "{length} bytes");
+            assert_eq!(answers(&image, length, calls(user, session, room)), [(22, 3); 6], "{length} bytes");
         }
     }
     assert_eq!(checked(&image), (22, 3));
@@ -191,9 +192,9 @@ fn every_call_refuses_a_loop_before_ledger_person_line_session_and_all_that_foll
 #[test]
 fn without_the_loop_the_same_calls_come_to_the_later_refusals() {
     let image = image(6, &[(0, 5), (5, 3)]);
-    assert_eq!(answers(&image, 79, calls(0, 0, 40)), [(9, 0); 5]);
-    assert_eq!(answers(&image, 80, calls(7, 0, 40)), [(10, 0); 5]);
-    assert_eq!(answers(&image, 80, calls(0, 0, 40)), [(11, 0); 5]);
+    assert_eq!(answers(&image, 79, calls(0, 0, 40)), [(9, 0); 6]);
+    assert_eq!(answers(&image, 80, calls(7, 0, 40)), [(10, 0); 6]);
+    assert_eq!(answers(&image, 80, calls(0, 0, 40)), [(11, 0); 6]);
 }
 
 #[test]

@@ -1,7 +1,8 @@
-//! Calls: users, sessions, objectives, rooms and bounds within and beyond what fits.
+//! Calls: users, sessions, objectives, rooms, permissions and bounds within and beyond what fits.
 
 use super::{wild, Rng};
 use crate::solver::calls::{Call, ANSWER};
+use crate::solver::line::Line;
 use crate::solver::policy::{Permissions, Policy};
 
 fn user(rng: &mut Rng, policy: &Policy) -> u64 {
@@ -25,14 +26,50 @@ fn room(rng: &mut Rng, wrong: u64) -> usize {
     ANSWER
 }
 
-/// An open, close or show.
+/// A permission to be explained to a user: one that the roles carry mostly, else any, at times one beyond the policy.
+pub fn permission(rng: &mut Rng, policy: &Policy, user: u64) -> u64 {
+    if rng.one_in(8) {
+        return wild(rng, policy.permissions as u64);
+    }
+    let known = if user < policy.users as u64 { user as usize } else { 0 };
+    let own: Vec<usize> = carried(rng, policy, known, 3).into_iter().collect();
+    if own.is_empty() || rng.one_in(4) {
+        return rng.below(policy.permissions as u64);
+    }
+    rng.pick(&own) as u64
+}
+
+/// An open, close, show or explain.
 pub fn plain(rng: &mut Rng, policy: &Policy) -> Call {
     let user = user(rng, policy);
-    match rng.below(3) {
+    match rng.below(4) {
         0 => Call::Open { user },
         1 => Call::Close { user, session: session(rng) },
-        _ => Call::Show { user, session: session(rng), room: room(rng, 4) },
+        2 => Call::Show { user, session: session(rng), room: room(rng, 4) },
+        _ => Call::Explain { user, session: session(rng), permission: permission(rng, policy, user) },
     }
+}
+
+/// What the active roles of a session carry in this ledger, as far as there are such roles.
+fn active_carried(policy: &Policy, ledger: &[u8], user: usize, session: u64) -> Vec<usize> {
+    let mut carried = Permissions::new();
+    if let (Some(bytes), 0..=3) = (ledger.get(80 * user..80 * (user + 1)), session) {
+        let active = Line::read(bytes).sessions[session as usize].active;
+        (0..policy.roles).filter(|role| active[*role]).for_each(|role| carried.extend(policy.carried_by(role)));
+    }
+    carried.into_iter().collect()
+}
+
+/// An explain, mostly on a session that is open in this ledger and of what its active roles carry.
+pub fn explain(rng: &mut Rng, policy: &Policy, ledger: &[u8]) -> Call {
+    let user = user(rng, policy);
+    let known = if user < policy.users as u64 { user as usize } else { 0 };
+    let session = open_session(rng, ledger, known);
+    let carried = active_carried(policy, ledger, known, session);
+    if carried.is_empty() || rng.one_in(4) {
+        return Call::Explain { user, session, permission: permission(rng, policy, user) };
+    }
+    Call::Explain { user, session, permission: rng.pick(&carried) as u64 }
 }
 
 /// The bytes of a permission set.
@@ -134,8 +171,9 @@ pub fn ask(rng: &mut Rng, policy: &Policy, ledger: &[u8]) -> Call {
 
 /// A call of any sort, an ask mostly.
 pub fn any(rng: &mut Rng, policy: &Policy, ledger: &[u8]) -> Call {
-    if rng.one_in(3) {
-        return plain(rng, policy);
+    match rng.below(24) {
+        0..=6 => plain(rng, policy),
+        7..=8 => explain(rng, policy, ledger),
+        _ => ask(rng, policy, ledger),
     }
-    ask(rng, policy, ledger)
 }

@@ -28,7 +28,7 @@ fn decimal(rng: &mut Rng, number: u64) -> String {
     number.to_string()
 }
 
-/// A call as a line, readable unless a number has more digits than a line may give it.
+/// A call as a line, readable unless a number has more digits than a line may give it; the program has no line for an explain.
 fn text(rng: &mut Rng, call: &Call) -> String {
     match call {
         Call::Open { user } => format!("open {}", decimal(rng, *user)),
@@ -41,11 +41,14 @@ fn text(rng: &mut Rng, call: &Call) -> String {
         Call::ShortAsk { user, session, lower, upper, .. } => {
             format!("ask {} {} {} {}", decimal(rng, *user), decimal(rng, *session), hex(rng, lower), hex(rng, upper))
         }
+        Call::Explain { user, session, permission } => {
+            format!("explain {} {} {}", decimal(rng, *user), decimal(rng, *session), decimal(rng, *permission))
+        }
     }
 }
 
 /// Lines that no form reads, whatever the policy.
-pub const UNREADABLE: [&[u8]; 44] = [
+pub const UNREADABLE: [&[u8]; 45] = [
     b"",
     b" ",
     b"open",
@@ -75,6 +78,7 @@ pub const UNREADABLE: [&[u8]; 44] = [
     b"show 0 0 0",
     b"show 0 0 ",
     b"check",
+    b"explain 0 0 0",
     b"ask 0 0",
     b"ask 0 0 3",
     b"ask 0 0 3 1f 1",

@@ -19,6 +19,7 @@ pub enum Call {
     Show { user: u64, session: u64, room: usize },
     Ask { user: u64, session: u64, lower: Vec<u8>, upper: Vec<u8>, objectives: (u64, u64), room: usize },
     ShortAsk { user: u64, session: u64, lower: Vec<u8>, upper: Vec<u8>, room: usize },
+    Explain { user: u64, session: u64, permission: u64 },
 }
 
 /// What a call answers: the number, the extra and the bytes that fill the answer buffer, if any do.
@@ -54,7 +55,8 @@ impl Call {
             | Call::Close { user, .. }
             | Call::Show { user, .. }
             | Call::Ask { user, .. }
-            | Call::ShortAsk { user, .. } => *user,
+            | Call::ShortAsk { user, .. }
+            | Call::Explain { user, .. } => *user,
         }
     }
 
@@ -109,6 +111,11 @@ fn rule(policy: &Policy, user: usize, line: &mut Line, call: &Call) -> Reply {
         Call::ShortAsk { session, lower, upper, room, .. } => {
             ask(policy, user, line, *session, lower, upper, SHORT_OBJECTIVES, *room)
         }
+        Call::Explain { session, permission, .. } => match open_session(line, *session) {
+            Err(number) => Reply::refused(number, 0),
+            Ok(_) if *permission >= policy.permissions as u64 => Reply::refused(16, 0),
+            Ok(session) => explain(policy, line, session, *permission as usize),
+        },
     }
 }
 
@@ -153,6 +160,18 @@ fn show(policy: &Policy, line: &Line, session: usize) -> Reply {
         }
     }
     Reply::done(0, Some(answer(active, &carried)), 0)
+}
+
+/// The lowest active role that carries the permission, and the role that grants it to that one.
+fn explain(policy: &Policy, line: &Line, session: usize, permission: usize) -> Reply {
+    for role in 0..policy.roles {
+        if line.sessions[session].active[role] {
+            if let Some(granting) = policy.granting_role(role, permission) {
+                return Reply::done((64 * role + granting) as u64, None, 0);
+            }
+        }
+    }
+    Reply::refused(20, 0)
 }
 
 /// The session's active roles are replaced by the best admissible set.

@@ -82,6 +82,17 @@ impl Policy {
         (0..self.roles).find(|role| self.on_loop(*role))
     }
 
+    /// The lowest-numbered role at or below a role that holds the grant of a permission, if one does.
+    pub fn granting_role(&self, role: usize, permission: usize) -> Option<usize> {
+        let reached = self.reached(role);
+        for granting in 0..self.roles {
+            if reached.contains(&granting) && self.granted[granting].contains(&permission) {
+                return Some(granting);
+            }
+        }
+        None
+    }
+
     /// The permissions that a role carries.
     pub fn carried_by(&self, role: usize) -> Permissions {
         let mut carried = Permissions::new();
