@@ -14,12 +14,13 @@ use Rattle.model.specs.declared.Checked.the-variants.{Accepted}
 use Rattle.model.specs.Tests.{pick}
 use Rattle.model.specs.Bytes.{number}
 use Rattle.model.specs.Judgement.{judge}
-use Rattle.model.specs.Policy.{Policy, policyOf, meaning, authorized}
+use Rattle.model.specs.Policy.{Policy, policyOf, meaning}
 use Rattle.model.specs.Line.{lineSize}
 use Rattle.model.specs.Session.{refuse, Result}
 use Rattle.model.specs.Run.{Call, Event, lineAt, stepOn, stepBy, step, run}
 use Rattle.model.specs.Ranges.{Each, InRange}
 use Rattle.model.specs.Kept.{SoundBytes, LineKept, SoundLedger, Well, RunKept}
+use Rattle.model.proofs.Reaches.{authorized-below}
 use Rattle.model.proofs.LedgerLaws.{step-length, step-own, step-other}
 use Rattle.model.proofs.Judgements.{accepted-in-range}
 use Rattle.model.proofs.MetLaws.{meaning-antitone, meaning-none}
@@ -30,8 +31,8 @@ use Rattle.model.proofs.CallsKept.{call-well, call-answer}
 module _ (W : ℕ) (wide : W ≤ 64) (p : Policy) (r : InRange p) where
   -- the roles that a user may activate are roles
   own-below : (u : ℕ) → meaning p u .authorized < 2 ^ meaning p u .roles
-  unfolding meaning authorized
-  own-below u = r .assigned-rows u
+  unfolding meaning
+  own-below u = authorized-below p r u
 
   -- there are at most 64 roles
   few-roles : (u : ℕ) → meaning p u .roles ≤ 64

@@ -9,6 +9,7 @@ pub mod Cases
 pub mod UnionLaws
 pub mod LowestLaws
 pub mod Closure
+pub mod Reaches
 pub mod Judgements
 pub mod Levels
 pub mod OrderedProof

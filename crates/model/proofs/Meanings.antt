@@ -93,7 +93,7 @@ module _ (u : ℕ) (p q : Policy) (h : Agree u p q) where
       record {
         roles = h .heads i .roles;
         permissions = h .heads i .permissions;
-        authorized = h .own i;
+        authorized = unionAt (withSelves (closed (h .heads i .roles) (h .seniors i))) (h .own i);
         carried = map (unionAt (h .grants i)) (withSelves (closed (h .heads i .roles) (h .seniors i)));
         granter = λ m r. granterBy (withSelves (closed (h .heads i .roles) (h .seniors i))) (λ g. has (getD (h .grants i) g 0) m) r;
         allMet = λ counted. agree-met counted i;

@@ -24,9 +24,9 @@ use Rattle.model.specs.Ward.{holds, starred, settled}
 use Rattle.model.specs.Refusals.{isJudged, judgedImages, isLooped, loopedImages}
 use Rattle.model.specs.Returned.{isSeen, returnedCases, isChecked, checkedCases}
 use Rattle.model.specs.Read.{ReadOff}
-use Rattle.model.specs.Chains.{Chain, Carries, Provides, GranterIs}
+use Rattle.model.specs.Chains.{Chain, Authorized, Carries, Provides, GranterIs}
 use Rattle.model.specs.Explained.{ExplanationIs}
-use Rattle.model.specs.Ordered.{JudgeIs, Antisymmetric, LoopCallIs}
+use Rattle.model.specs.Ordered.{FewRoles, JudgeIs, Antisymmetric, LoopCallIs}
 use Rattle.model.specs.Ranges.{InRange}
 use Rattle.model.specs.Chosen.{ChoiceIs, RankIs}
 use Rattle.model.specs.Conditions.{Conditions, Admitted}
@@ -38,6 +38,7 @@ use Rattle.model.proofs.Cases
 use Rattle.model.proofs.Tables
 use Rattle.model.proofs.Accepted
 use Rattle.model.proofs.Closure
+use Rattle.model.proofs.Reaches
 use Rattle.model.proofs.Judgements
 use Rattle.model.proofs.OrderedProof
 use Rattle.model.proofs.ExplainedProof
@@ -63,7 +64,7 @@ starred-cases = Cases.starred-hold
 pub settled-cases : all holds settled ≡ true
 settled-cases = Cases.settled-hold
 
--- images with their refusals 1 to 8 and 22, each clause and each tie
+-- images with their refusals 1 to 8, 22 and 23, each clause and each tie
 pub judged-cases : all isJudged judgedImages ≡ true
 judged-cases = Cases.judged-so
 
@@ -91,7 +92,8 @@ rank-is = Ranks.rank-is
 pub read-off : (s : List ℕ) → ReadOff s
 read-off = Tables.read-off
 
--- an image is refused by 22 exactly where its words pass and a role is on a loop, with the lowest such role
+-- an image is refused by 22 exactly where its words pass and a role is on a loop, with the lowest such role, and then by 23 exactly where
+-- a user may activate more than 16 roles, with the lowest such user
 pub judge-is : (s : List ℕ) → JudgeIs s
 judge-is = Judgements.judge-is
 
@@ -123,6 +125,13 @@ module _ (s : List ℕ) (h : Head) (accepted : judge s ≡ Accepted h) where
   pub carried-is : (r m : ℕ) → r < 64 → (has (getD (carriedTable (policyOf s)) r 0) m ≡ true) ↔ Carries (policyOf s) r m
   carried-is = Closure.carried-is (policyOf s) in-range
 
+  -- the roles that a user may activate are those that chains of senior words lead to from an assigned one, and at most 16
+  pub authorized-is : (u r : ℕ) → (has (authorized (policyOf s) u) r ≡ true) ↔ Authorized (policyOf s) u r
+  authorized-is = Reaches.authorized-is (policyOf s) in-range
+
+  pub few-authorized : (u : ℕ) → FewRoles (policyOf s) u
+  few-authorized = Judgements.few-authorized s h accepted
+
   -- the granting role is named exactly if the role carries the permission; the name is that of the lowest role that is reached and holds
   -- the grant
   pub granter-is : (r m : ℕ) → r < 64 → GranterIs (policyOf s) r m
@@ -143,8 +152,7 @@ module _ (s : List ℕ) (h : Head) (accepted : judge s ≡ Accepted h) where
   -- ---- the choice: demand 2
 
   own-below : (u : ℕ) → authorized (policyOf s) u < 2 ^ 64
-  unfolding authorized
-  own-below u = lt-of-lt-of-le (in-range .assigned-rows u) (pow-mono (in-range .roles .1))
+  own-below u = lt-of-lt-of-le (Reaches.authorized-below (policyOf s) in-range u) (pow-mono (in-range .roles .1))
 
   -- the choice is the one admissible set that none is better than, and none exactly if no set is admissible
   pub choice-is : (u : ℕ) (l : Line) (k lower upper a b : ℕ) → ChoiceIs (meaning (policyOf s) u) l k lower upper a b
@@ -163,7 +171,7 @@ module _ (s : List ℕ) (h : Head) (accepted : judge s ≡ Accepted h) where
     admitted c =
         let small = own-small (c .own) in
         record {
-          own = c .own;
+          own = λ r e. authorized-is u r .0 (c .own r e);
           lower = λ q e. provided small q .0 (c .lower q e);
           upper = λ q e. c .upper q (provided small q .1 e);
           exclusions = c .exclusions;
@@ -171,9 +179,10 @@ module _ (s : List ℕ) (h : Head) (accepted : judge s ≡ Accepted h) where
 
     conditions : Admitted (policyOf s) u l k lb ub t → Conditions (policyOf s) u l k lb ub t
     conditions c =
-        let small = own-small (c .own) in
+        let own : (r : ℕ) → has t r ≡ true → has (authorized (policyOf s) u) r ≡ true = λ r e. authorized-is u r .1 (c .own r e) in
+        let small = own-small own in
         record {
-          own = c .own;
+          own = own;
           lower = λ q e. provided small q .1 (c .lower q e);
           upper = λ q e. c .upper q (provided small q .0 e);
           exclusions = c .exclusions;

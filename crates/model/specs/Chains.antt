@@ -39,6 +39,12 @@ pub record LowestOnLoop (p : Policy) (r : ℕ) : Type 0 where
   pub loop : Below p r r
   pub lowest : (a : ℕ) → a < r → ¬ Below p a a
 
+-- user u may activate role r: a chain of senior words leads to it from a role assigned to the user (ANSI INCITS 359: authorized)
+pub record Authorized (p : Policy) (u r : ℕ) : Type 0 where
+  pub senior : ℕ
+  pub assigned : has (getD (p .assigned) u 0) senior ≡ true
+  pub chain : Chain p senior r
+
 -- role r carries the permission m: a grant gives it to a role reached from r (001, conditions 4 and 5: π of a role)
 pub record Carries (p : Policy) (r m : ℕ) : Type 0 where
   pub giver : ℕ

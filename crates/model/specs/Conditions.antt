@@ -18,7 +18,7 @@ use Rattle.model.specs.Sets.{has, union, inter, count}
 use Rattle.model.specs.Policy.{Policy, authorized, meaning}
 use Rattle.model.specs.Line.{sessionAt, activeIn}
 use Rattle.model.specs.Choice.{carriedBy}
-use Rattle.model.specs.Chains.{Provides}
+use Rattle.model.specs.Chains.{Authorized, Provides}
 
 -- the sessions other than session k
 unfoldable pub others : ℕ → List Session → List Session
@@ -55,10 +55,10 @@ pub record Solution (p : Policy) (u : ℕ) (l : Line) (k lb ub s : ℕ) : Type 0
   pub upper : (q : ℕ) → has (carriedBy (meaning p u) s) q ≡ true → has ub q ≡ true
   pub exclusions : (x : Exclusion) → List·Memᴰ x (p .exclusions) → MetAfter l k s k x
 
--- the same in the words of a policy: what the roles provide is what a grant gives to a role reached from one of them by a chain of
--- senior words (001's π)
+-- the same in the words of a policy: a role is the user's where a chain of senior words leads to it from an assigned one, and what the
+-- roles provide is what a grant gives to a role reached from one of them by such a chain (001's π)
 pub record Admitted (p : Policy) (u : ℕ) (l : Line) (k lb ub s : ℕ) : Type 0 where
-  pub own : (r : ℕ) → has s r ≡ true → has (authorized p u) r ≡ true
+  pub own : (r : ℕ) → has s r ≡ true → Authorized p u r
   pub lower : (q : ℕ) → has lb q ≡ true → Provides p s q
   pub upper : (q : ℕ) → Provides p s q → has ub q ≡ true
   pub exclusions : (x : Exclusion) → List·Memᴰ x (p .exclusions) → (j : ℕ) → j < length (l .sessions) → MetAfter l k s j x

@@ -1,4 +1,5 @@
--- Seniority is an order: which images 22 refuses, what is so of those accepted, and what the loop call shows.
+-- Seniority is an order, and no user's reach is too wide: which images 22 and 23 refuse, what is so of those accepted, and what the loop
+-- call shows.
 -- Assumes nothing.
 use mathlib.Core.Path.{_≡_}
 use mathlib.Core.Logic.{_↔_}
@@ -8,7 +9,8 @@ use lib.ListN.{getD, length, replicate}
 use Rattle.model.specs.declared.Head.{Head}
 use Rattle.model.specs.declared.Checked.the-variants.{Accepted, Refused}
 use Rattle.model.specs.Image.{judgeWords}
-use Rattle.model.specs.Policy.{Policy, policyOf}
+use Rattle.model.specs.Sets.{count}
+use Rattle.model.specs.Policy.{Policy, policyOf, authorized}
 use Rattle.model.specs.Session.{refuse}
 use Rattle.model.specs.Judgement.{judge}
 use Rattle.model.specs.Loop.{loopCall}
@@ -19,17 +21,28 @@ use Rattle.model.specs.Chains.{Chain, rolesOf, Below, LowestOnLoop}
 abbrev pub WordsPass : List ℕ → Type 0
 WordsPass s = (h : Head) × (judgeWords s ≡ Accepted h)
 
--- ---- 22
+-- ---- 22 and 23
 
 -- no role is on a loop
 abbrev pub Loopless : Policy → Type 0
 Loopless p = (r : ℕ) → ¬ Below p r r
 
--- an image is refused by 22 with r exactly if its words pass and r is the lowest role on a loop, and accepted exactly if its words pass
--- and no role is on a loop
+-- user u may activate at most 16 roles
+abbrev pub FewRoles : Policy → ℕ → Type 0
+FewRoles p u = count 64 (authorized p u) ≤ 16
+
+-- user u may activate more, and no lower user may
+pub record LowestOverReach (p : Policy) (u : ℕ) : Type 0 where
+  pub wide : ¬ FewRoles p u
+  pub lowest : (v : ℕ) → v < u → FewRoles p v
+
+-- an image is refused by 22 with r exactly if its words pass and r is the lowest role on a loop, by 23 with u exactly if its words pass,
+-- no role is on a loop and u is the lowest user with more than 16 roles, and accepted exactly if its words pass and none is so
 pub record JudgeIs (s : List ℕ) : Type 0 where
   pub by-loop : (r : ℕ) → (judge s ≡ Refused 22 r) ↔ (WordsPass s × LowestOnLoop (policyOf s) r)
-  pub accepted : (h : Head) → (judge s ≡ Accepted h) ↔ ((judgeWords s ≡ Accepted h) × Loopless (policyOf s))
+  pub by-reach : (u : ℕ) → (judge s ≡ Refused 23 u) ↔ (WordsPass s × Loopless (policyOf s) × LowestOverReach (policyOf s) u)
+  pub accepted : (h : Head)
+      → (judge s ≡ Accepted h) ↔ ((judgeWords s ≡ Accepted h) × Loopless (policyOf s) × ((u : ℕ) → FewRoles (policyOf s) u))
 
 -- two roles reached from each other are the same role
 abbrev pub Antisymmetric : Policy → Type 0

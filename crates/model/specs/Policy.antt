@@ -150,9 +150,9 @@ granter p m r = granterBy (reached p) (λ g. has (getD (p .granted) g 0) m) r
 
 -- ---- what a policy means for one user
 
--- the roles that a user may activate (01: may switch on): those assigned
+-- the roles that a user may activate (01: may switch on): those assigned, and those reached from them
 unfoldable pub authorized : Policy → ℕ → ℕ
-authorized p u = getD (p .assigned) u 0
+authorized p u = unionAt (reached p) (getD (p .assigned) u 0)
 
 -- the exclusion is met where kind k counts the roles `counted k`
 unfoldable pub met : (Kind → ℕ) → Exclusion → Bool

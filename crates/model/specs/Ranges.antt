@@ -1,5 +1,5 @@
--- What an accepted image says of its policy: every number is in its range, no user has more than 16 roles, and there are at most 32
--- exclusions, each with a limit that its members can reach.
+-- What an accepted image says of its policy: every number is in its range, no user is assigned to more than 16 roles, and there are at
+-- most 32 exclusions, each with a limit that its members can reach.
 -- Assumes nothing.
 use mathlib.Core.Path.{_≡_}
 use mathlib.Core.Bool.{true}
@@ -46,7 +46,7 @@ pub record InRange (p : Policy) : Type 0 where
   pub assigned-rows : RowsBelow (p .head .roles) (p .assigned)
   pub granted-rows : RowsBelow (p .head .permissions) (p .granted)
   pub junior-rows : RowsBelow (p .head .roles) (p .juniors)
-  -- at most 16 roles for a user
+  -- at most 16 roles assigned to a user; what a user may activate is bounded by 23 (specs/Ordered.antt)
   pub few-roles : (u : ℕ) → count 64 (getD (p .assigned) u 0) ≤ 16
   -- at most 32 exclusions, each in range
   pub few-exclusions : length (p .exclusions) ≤ 32

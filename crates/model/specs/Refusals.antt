@@ -1,5 +1,6 @@
 -- Images and how they are judged: image A with words replaced, put in or left out, each with the number and the place of its refusal
--- (0, 0: accepted). Each clause of the register's lines 1 to 8 has a case, and so has each tie; 22 comes after them, with a role.
+-- (0, 0: accepted). Each clause of the register's lines 1 to 8 has a case, and so has each tie; 22 comes after them
+-- with a role, 23 with a user.
 -- Assumes nothing.
 use mathlib.Core.Bool.{Bool}
 use mathlib.Core.List.{List, [], _∷_, _++_}
@@ -45,6 +46,11 @@ wide ws = 0x102440A0 ∷ ws
 -- role a over role b
 unfoldable pub seniorWord : ℕ → ℕ → ℕ
 seniorWord a b = 4 * 2 ^ 28 + a * 2 ^ 22 + b * 2 ^ 16
+
+-- role 0 over the roles 1 to n
+unfoldable pub overOthers : ℕ → List ℕ
+overOthers zero = []
+overOthers (suc n) = overOthers n ++ (seniorWord 0 (suc n) ∷ [])
 
 -- one user and four roles, with the words
 unfoldable pub hierarchyOf : List ℕ → List ℕ
@@ -145,6 +151,17 @@ judgedImages =
     ∷ judged (hierarchyOf (seniorWord 0 1 ∷ seniorWord 0 2 ∷ seniorWord 1 3 ∷ seniorWord 2 3 ∷ [])) 0 0
     -- after 8
     ∷ judged (unbalanced 1 (0x40010000 ∷ 0x40400000 ∷ [])) 8 13
+    -- 23, reach: a role over 16 others, and over 15; 16 assigned, one of them over a further one, and over one of the 16
+    ∷ judged (imageBytes (ended (wide (assignments 1 ++ overOthers 16)))) 23 0
+    ∷ judged (imageBytes (ended (wide (assignments 1 ++ overOthers 15)))) 0 0
+    ∷ judged (imageBytes (ended (wide (assignments 16 ++ (seniorWord 3 16 ∷ []))))) 23 0
+    ∷ judged (imageBytes (ended (wide (assignments 16 ++ (seniorWord 3 5 ∷ []))))) 0 0
+    -- the lowest user of two; nobody has the wide role
+    ∷ judged (imageBytes (ended (0x106440A0 ∷ 0x20400000 ∷ 0x20800000 ∷ overOthers 16))) 23 1
+    ∷ judged (imageBytes (ended (wide (overOthers 16)))) 0 0
+    -- after 22 and after 8
+    ∷ judged (imageBytes (ended (wide (assignments 1 ++ overOthers 16 ++ (seniorWord 5 0 ∷ []))))) 22 0
+    ∷ judged (imageBytes (wide (assignments 1 ++ overOthers 16) ++ (0xF0000001 ∷ []))) 8 18
     ∷ []
 
 -- ---- the loop call

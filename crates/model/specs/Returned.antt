@@ -244,13 +244,19 @@ unsoundLine image ledger = under image ledger (leaves ledger (shows 0) 40 11 ∷
 unfoldable pub plain : List ℕ
 plain = imageOf (headWord 1 3 3 ∷ assignWord 0 0 ∷ assignWord 0 1 ∷ grantWord 0 0 ∷ grantWord 1 1 ∷ grantWord 2 2 ∷ [])
 
+-- role 0 over 1 over 2, and 3 beside them, with a permission each; the user has the role 1 alone
+unfoldable pub headed : List ℕ
+headed =
+    imageOf
+    (headWord 1 4 4 ∷ assignWord 0 1 ∷ grantWord 0 0 ∷ grantWord 1 1 ∷ grantWord 2 2 ∷ grantWord 3 3 ∷ seniorWord 0 1 ∷ seniorWord 1 2 ∷ [])
+
 -- image A with an exclusion of kind k
 unfoldable pub ofKind : ℕ → List ℕ
 ofKind k = imageBytes (imageOfKind k)
 
 unfoldable pub linesJudged : List HostCase
 linesJudged =
-    -- a history may hold a role that is not assigned
+    -- a history may hold a role that is not authorized
     soundLine plain (two (0 ∷ []) (0 ∷ 2 ∷ []) (session (0 ∷ []) (0 ∷ 2 ∷ [])) idle) (0 ∷ []) (0 ∷ [])
     -- open bits beyond session 3
     ∷ unsoundLine plain (two (0 ∷ 4 ∷ []) [] idle idle)
@@ -261,10 +267,14 @@ linesJudged =
     ∷ unsoundLine plain (two (0 ∷ []) (0 ∷ []) idle doctor)
     ∷ unsoundLine plain (two (0 ∷ []) (0 ∷ []) idle (session [] (0 ∷ [])))
     ∷ unsoundLine plain (line (0 ∷ []) (0 ∷ []) idle idle idle (session [] (0 ∷ [])))
-    -- active beyond the session's history, that beyond the user's, active beyond the assigned roles
+    -- active beyond the session's history, that beyond the user's, active beyond the authorized roles
     ∷ unsoundLine plain (two (0 ∷ []) (0 ∷ []) (session (0 ∷ []) []) idle)
     ∷ unsoundLine plain (two (0 ∷ []) [] (session [] (0 ∷ [])) idle)
     ∷ unsoundLine plain (two (0 ∷ []) (2 ∷ []) (session (2 ∷ []) (2 ∷ [])) idle)
+    -- a role below an assigned one may be active; one above it, or beside it, may not
+    ∷ soundLine headed (two (0 ∷ []) (2 ∷ []) (session (2 ∷ []) (2 ∷ [])) idle) (2 ∷ []) (2 ∷ [])
+    ∷ unsoundLine headed (two (0 ∷ []) (0 ∷ []) (session (0 ∷ []) (0 ∷ [])) idle)
+    ∷ unsoundLine headed (two (0 ∷ []) (3 ∷ []) (session (3 ∷ []) (3 ∷ [])) idle)
     -- kind 0: active in one session
     ∷ soundLine (ofKind 0) (two (0 ∷ 1 ∷ []) (0 ∷ 1 ∷ []) (session (0 ∷ []) (0 ∷ 1 ∷ [])) manager) (0 ∷ []) (0 ∷ 1 ∷ 2 ∷ 3 ∷ [])
     ∷ unsoundLine (ofKind 0) (two (0 ∷ 1 ∷ []) (0 ∷ 1 ∷ []) idle (session (0 ∷ 1 ∷ []) (0 ∷ 1 ∷ [])))
@@ -328,7 +338,7 @@ shortObjectives =
 -- ---- the highest user, roles, permissions and session
 
 -- The largest head. User 63 has the roles 31, 32 and 63, and may not have had both 31 and 32. Role 63 is over 16 and that over 62, which
--- are granted 127 and 255.
+-- are granted 127 and 255, and which the user may so activate too.
 unfoldable pub far : List ℕ
 far =
     imageOf
@@ -346,11 +356,11 @@ lineOf63 opened roles = lastLine (line opened roles idle idle idle (session role
 unfoldable pub lastUser : HostCase
 lastUser =
     let upper = bound (0 ∷ 1 ∷ 127 ∷ 192 ∷ 255 ∷ []) in
-    let after = lineOf63 (0 ∷ 1 ∷ 2 ∷ 3 ∷ []) (32 ∷ 63 ∷ []) in
+    let after = lineOf63 (0 ∷ 1 ∷ 2 ∷ 3 ∷ []) (16 ∷ 32 ∷ 62 ∷ 63 ∷ []) in
     under far (lineOf63 (0 ∷ 1 ∷ 2 ∷ []) [])
     (changes (openBy 63) 768 (lineOf63 (0 ∷ 1 ∷ 2 ∷ 3 ∷ []) [])
-    -- most roles: 63 counts
-    ∷ fills (askBy 63 3 (bound (1 ∷ [])) upper 0 2 40) (full (32 ∷ 63 ∷ []) (1 ∷ 127 ∷ 192 ∷ 255 ∷ [])) after
+    -- most roles: 63 and those below it count
+    ∷ fills (askBy 63 3 (bound (1 ∷ [])) upper 0 2 40) (full (16 ∷ 32 ∷ 62 ∷ 63 ∷ []) (1 ∷ 127 ∷ 192 ∷ 255 ∷ [])) after
     ∷ leaves after (shortAskBy 63 3 (bound (0 ∷ [])) upper 40) 40 20
     ∷ leaves after (openBy 64) 0 10
     ∷ [])
@@ -374,6 +384,17 @@ explanations =
 unfoldable pub looping : List ℕ
 looping = imageOf (headWord 1 64 1 ∷ seniorWord 0 63 ∷ seniorWord 63 62 ∷ seniorWord 62 63 ∷ [])
 
+-- ---- a reach of 17
+
+-- role 40 over the roles 41 to 40 + n
+unfoldable pub overHigher : ℕ → List ℕ
+overHigher zero = []
+overHigher (suc n) = seniorWord 40 (41 + n) ∷ overHigher n
+
+-- user 63 has role 40 alone, which is over so many others
+unfoldable pub reaching : ℕ → List ℕ
+reaching n = imageOf (headWord 64 64 1 ∷ assignWord 63 40 ∷ overHigher n)
+
 -- ---- all of them
 
 unfoldable pub returnedCases : List HostCase
@@ -385,6 +406,8 @@ returnedCases =
     ∷ refusedImage (imageBytes (drop 1 imageA)) 2
     -- a loop of the roles 62 and 63, with a role above it
     ∷ refusedImage looping 15894
+    -- user 63 reaches 17 roles
+    ∷ refusedImage (reaching 16) 16151
     -- tests run in number order: 9 to 13, with nothing behind them right
     ∷ under (imageBytes imageA) damaged (leaves damaged (openBy 1) 0 10 ∷ [])
     ∷ under (imageBytes imageA) (take 79 damaged) (leaves (take 79 damaged) (openBy 1) 0 9 ∷ [])
@@ -432,6 +455,9 @@ checkedCases =
     ∷ checks (imageBytes (bodyA ++ (0xFB0B9F61 ∷ []))) 3080
     -- 22, with 256 times the lowest role on the loop
     ∷ checks looping 15894
+    -- 23, with 256 times the lowest user who may activate more than 16
+    ∷ checks (reaching 16) 16151
+    ∷ checks (reaching 15) 0
     -- the last word is an assignment, a senior word or an exclusion; a grant and a senior word where a member is due
     ∷ checks (imageBytes (headWord 1 2 1 ∷ assignWord 0 0 ∷ [])) 259
     ∷ checks (imageBytes (headWord 1 2 1 ∷ seniorWord 0 1 ∷ [])) 259

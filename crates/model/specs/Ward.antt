@@ -65,7 +65,11 @@ threeOrTwo =
 unfoldable pub hierarchy : List ℕ
 hierarchy = ended (0x1020C060 ∷ 0x20000000 ∷ 0x30000000 ∷ 0x30404000 ∷ 0x30808000 ∷ 0x40010000 ∷ 0x40420000 ∷ [])
 
--- the same with role 2 over 0, a loop; the user has roles 1 and 2
+-- Head, Nurse and Surgeon, Head over Nurse, role r granted permission r; the user is assigned to Head alone
+unfoldable pub wardHead : List ℕ
+wardHead = ended (0x1020C060 ∷ 0x20000000 ∷ 0x30000000 ∷ 0x30404000 ∷ 0x30808000 ∷ 0x40010000 ∷ [])
+
+-- the hierarchy with role 2 over 0, a loop; the user has roles 1 and 2
 unfoldable pub loop : List ℕ
 loop = ended (0x1020C060 ∷ 0x20010000 ∷ 0x20020000 ∷ 0x30000000 ∷ 0x30404000 ∷ 0x30808000 ∷ 0x40010000 ∷ 0x40420000 ∷ 0x40800000 ∷ [])
 
@@ -173,6 +177,10 @@ starred =
 unfoldable pub damaged : List ℕ
 damaged = replicate 80 255
 
+-- the ledger of one user with the roles s active in session 0
+unfoldable pub activeRole : ℕ → List ℕ
+activeRole s = bytesOf 8 1 ++ (bytesOf 8 s ++ (bytesOf 8 s ++ (bytesOf 8 s ++ replicate 48 0)))
+
 unfoldable pub settled : List Case
 settled =
     -- the replaced set does not count, in kinds 0 and 1
@@ -190,8 +198,13 @@ settled =
     -- a replaced set stays in the session's history and in the user's, and the session goes on
     ∷ case imageA (twoAsks ++ (shows 0 ∷ opens ∷ asks 1 0x3 0x1f 0 0 ∷ shows 1 ∷ closes 0 ∷ asks 1 0x3 0x1f 0 0 ∷ shows 0 ∷ []))
     (opened 0 ∷ chose 1 0xf ∷ chose 2 0x12 ∷ chose 2 0x12 ∷ opened 1 ∷ refused 20 ∷ chose 0 0 ∷ opened 0 ∷ chose 1 0xf ∷ refused 13 ∷ [])
-    -- seniority passes permissions, through every step of a chain, and no right to activate a junior
-    ∷ case hierarchy (opens ∷ asks 0 0x4 0x7 1 1 ∷ asks 0 0x4 0x6 1 1 ∷ []) (opened 0 ∷ chose 1 0x7 ∷ refused 20 ∷ [])
+    -- seniority passes permissions, through every step of a chain, and the right to activate a junior
+    ∷ case hierarchy (opens ∷ asks 0 0x4 0x7 2 1 ∷ asks 0 0x4 0x7 1 1 ∷ asks 0 0x2 0x6 1 1 ∷ [])
+    (opened 0 ∷ chose 1 0x7 ∷ chose 4 0x4 ∷ chose 2 0x6 ∷ [])
+    -- the ward head may take Nurse and not Surgeon, and a line is sound with the one active and not with the other
+    ∷ case wardHead (opens ∷ asks 0 0x2 0x2 1 1 ∷ shows 0 ∷ asks 0 0x4 0x7 0 0 ∷ []) (opened 0 ∷ chose 2 0x2 ∷ chose 2 0x2 ∷ refused 20 ∷ [])
+    ∷ record { image = wardHead; ledger = activeRole 0x2; calls = shows 0 ∷ []; answers = chose 2 0x2 ∷ [] }
+    ∷ record { image = wardHead; ledger = activeRole 0x4; calls = shows 0 ∷ []; answers = refused 11 ∷ [] }
     -- a loop is refused, before the ledger's length is looked at
     ∷ case loop (opens ∷ asks 0 0x1 0x7 1 1 ∷ []) (refused 22 ∷ refused 22 ∷ [])
     ∷ record { image = loop; ledger = replicate 79 0; calls = opens ∷ []; answers = refused 22 ∷ [] }
@@ -202,14 +215,19 @@ settled =
     -- permissions come first: two roles that carry 0 and 1 rank before one that carries 2 also
     ∷ case threeOrTwo (opens ∷ asks 0 0x3 0x7 0 1 ∷ asksShort 0 0x3 0x7 ∷ []) (opened 0 ∷ chose 1 0x7 ∷ chose 6 0x3 ∷ [])
     -- an explain names the lowest active role that carries the permission, and the lowest granting role at or below it; it changes nothing
-    ∷ case twoGrants (opens ∷ explains 0 0 ∷ asks 0 0x1 0x1 0 2 ∷ explains 0 0 ∷ explains 0 1 ∷ explains 0 2 ∷ shows 0 ∷ [])
-    (opened 0 ∷ refused 20 ∷ chose 12 0x1 ∷ opened 129 ∷ refused 20 ∷ refused 16 ∷ chose 12 0x1 ∷ [])
-    ∷ case hierarchy (opens ∷ asks 0 0x4 0x7 1 1 ∷ explains 0 0 ∷ explains 0 2 ∷ explains 0 (2 ^ 64 - 1) ∷ explains 1 3 ∷ explains 4 3 ∷ [])
+    ∷ case twoGrants (opens ∷ explains 0 0 ∷ asks 0 0x1 0x1 0 2 ∷ explains 0 0 ∷ []) (opened 0 ∷ refused 20 ∷ chose 14 0x1 ∷ opened 65 ∷ [])
+    ∷ record {
+      image = twoGrants;
+      ledger = activeRole 12;
+      calls = explains 0 0 ∷ explains 0 1 ∷ explains 0 2 ∷ shows 0 ∷ [];
+      answers = opened 129 ∷ refused 20 ∷ refused 16 ∷ chose 12 0x1 ∷ [];
+    }
+    ∷ case hierarchy (opens ∷ asks 0 0x4 0x7 2 1 ∷ explains 0 0 ∷ explains 0 2 ∷ explains 0 (2 ^ 64 - 1) ∷ explains 1 3 ∷ explains 4 3 ∷ [])
     (opened 0 ∷ chose 1 0x7 ∷ opened 0 ∷ opened 2 ∷ refused 16 ∷ refused 13 ∷ refused 12 ∷ [])
     ∷ case widest
-    (opens ∷ asks 0 (2 ^ 255) (2 ^ 255 + 2 ^ 64) 0 2 ∷ explains 0 64 ∷ explains 0 255 ∷ explains 0 1 ∷ explains 0 256 ∷ asks 0 (2 ^ 255) (2 ^ 255 + 2 ^ 64) 0 1
+    (opens ∷ asks 0 (2 ^ 255) (2 ^ 255 + 2 ^ 64) 0 2 ∷ explains 0 64 ∷ explains 0 255 ∷ explains 0 1 ∷ explains 0 256 ∷ asks 0 (2 ^ 255) (2 ^ 255 + 2 ^ 64) 2 1
     ∷ explains 0 64 ∷ [])
-    (opened 0 ∷ chose (2 ^ 63 + 2 ^ 16) (2 ^ 255 + 2 ^ 64) ∷ opened (64 * 16 + 16) ∷ opened (64 * 63 + 62) ∷ refused 20 ∷ refused 16
+    (opened 0 ∷ chose (2 ^ 63 + 2 ^ 62 + 2 ^ 16) (2 ^ 255 + 2 ^ 64) ∷ opened (64 * 16 + 16) ∷ opened (64 * 62 + 62) ∷ refused 20 ∷ refused 16
     ∷ chose (2 ^ 63) (2 ^ 255 + 2 ^ 64) ∷ opened (64 * 63 + 16) ∷ [])
     ∷ case loop (explains 0 0 ∷ []) (refused 22 ∷ [])
     -- another user's damaged line does not refuse this one's calls

@@ -68,7 +68,7 @@ pub struct Scan {
     pub members: u64,
 }
 
-// The answer of a check: the head's numbers, or the refusal's number and what it names: a place, or a role.
+// The answer of a check: the head's numbers, or the refusal's number and what it names: a place, a role or a user.
 pub enum Checked {
     Accepted(Head),
     Refused(u8, u16),
