@@ -184,35 +184,35 @@ module _ (W : ℕ) (p : Policy) (ledger : List ℕ) (u k : ℕ) (lower upper : L
       }
 
 -- code that got 0 of them
-module _ (W : ℕ) (head : Head) (assigned : List ℕ) (xs : Exclusions) (ledger : List ℕ) (u k : ℕ) (lower upper : List ℕ) (a b room n : ℕ)
-    (e : (p : Policy) → Known head assigned xs p → n ≡ askRefusal W p ledger u k lower upper a b room) (z : n ≡ 0) where
-  pub ask-for : (p : Policy) → Known head assigned xs p → AskReady W p ledger u k lower upper a b room
+module _ (W : ℕ) (head : Head) (own : List ℕ) (xs : Exclusions) (ledger : List ℕ) (u k : ℕ) (lower upper : List ℕ) (a b room n : ℕ)
+    (e : (p : Policy) → Known head own xs p → n ≡ askRefusal W p ledger u k lower upper a b room) (z : n ≡ 0) where
+  pub ask-for : (p : Policy) → Known head own xs p → AskReady W p ledger u k lower upper a b room
   ask-for p h = ask-ready W p ledger u k lower upper a b room (sym z ∙ e p h)
 
-  pub ask-by : AskReady W (policyBy head assigned xs) ledger u k lower upper a b room
-  ask-by = ask-for (policyBy head assigned xs) (known head assigned xs)
+  pub ask-by : AskReady W (policyBy head own xs) ledger u k lower upper a b room
+  ask-by = ask-for (policyBy head own xs) (known head own xs)
 
   pub user-below : u < head .users
   unfolding policyBy
   user-below = ask-by .first .below
 
   pub line-room : lineSize W * u + lineSize W ≤ length ledger
-  line-room = first-room W (policyBy head assigned xs) ledger u (ask-by .first)
+  line-room = first-room W (policyBy head own xs) ledger u (ask-by .first)
 
-  abbrev asked-query : Query (policyBy head assigned xs .head .permissions) lower upper a b room
+  abbrev asked-query : Query (policyBy head own xs .head .permissions) lower upper a b room
   asked-query = ask-by .query
 
   pub lower-32 : length lower ≡ 32
-  lower-32 = lower-length (policyBy head assigned xs .head .permissions) lower upper a b room asked-query
+  lower-32 = lower-length (policyBy head own xs .head .permissions) lower upper a b room asked-query
 
   pub upper-32 : length upper ≡ 32
-  upper-32 = upper-length (policyBy head assigned xs .head .permissions) lower upper a b room asked-query
+  upper-32 = upper-length (policyBy head own xs .head .permissions) lower upper a b room asked-query
 
   pub room-40 : room ≡ 40
-  room-40 = room-length (policyBy head assigned xs .head .permissions) lower upper a b room asked-query
+  room-40 = room-length (policyBy head own xs .head .permissions) lower upper a b room asked-query
 
   pub first-small : a ≤ 2
-  first-small = first-aim (policyBy head assigned xs .head .permissions) lower upper a b room asked-query
+  first-small = first-aim (policyBy head own xs .head .permissions) lower upper a b room asked-query
 
   pub second-small : b ≤ 2
-  second-small = second-aim (policyBy head assigned xs .head .permissions) lower upper a b room asked-query
+  second-small = second-aim (policyBy head own xs .head .permissions) lower upper a b room asked-query

@@ -35,7 +35,7 @@ use Rattle.search.specs.declared.Choice.{Choice}
 use Rattle.search.specs.declared.Choice.the-variants.{Nothing, Roles}
 use Rattle.calls.specs.Calls.{Known, lineOf}
 use Rattle.asks.specs.Asks.{Asked, Searched}
-use Rattle.calls.proofs.FirstSteps.{Ready}
+use Rattle.calls.proofs.FirstSteps.{Ready, own-known}
 
 getD-mapped : (f : ℕ → ℕ) (l : List ℕ) (i : ℕ) → i < length l → getD (map f l) i 0 ≡ f (getD l i 0)
 getD-mapped f [] i h = absurd (omega arith)
@@ -105,15 +105,14 @@ asked-of p u ledger granted below own xs rows l s w e f =
     }
 
 -- the same, of what code holds of the policy and of a call that is not refused
-pub searched-of : (p : Policy) (head : Head) (assigned : List ℕ) (xs : Exclusions) (ledger granted below : List ℕ) (u own : ℕ)
-    → Known head assigned xs p → granted ≡ p .granted → below ≡ belowTable p → own ≡ getD assigned u 0 → Ready 4 p ledger u
+pub searched-of : (p : Policy) (head : Head) (rows : List ℕ) (xs : Exclusions) (ledger granted below : List ℕ) (u own : ℕ)
+    → Known head rows xs p → granted ≡ p .granted → below ≡ belowTable p → (own ≡ getD rows u 0) × (own < 2 ^ 64) → Ready 4 p ledger u
     → Searched p u ledger granted below own xs
-unfolding authorized
-searched-of p head assigned xs ledger granted below u own k g j o r =
+searched-of p head rows xs ledger granted below u own k g j o r =
     record {
       granted-is = g;
       below-is = j;
-      own-is = sym (o ∙ ap (λ (rows : List ℕ). getD rows u 0) (k .assigned-is));
+      own-is = sym (own-known head rows xs p u own k (r .below) o);
       exclusions-are = sym (k .exclusions-are);
       met = sound-parts (meaning p u) (lineOf 4 ledger u) 4 (r .sound-line) .met;
     }

@@ -1,7 +1,7 @@
 // Asking for roles under an accepted policy.
 ghost use mathlib.Core.Path.{_≡_};
 ghost use Prim.Native.Nat.{ℕ, _+_, _*_, _≤_, _<_};
-ghost use lib.ListN.{length, getD};
+ghost use lib.ListN.{length};
 ghost use Rattle.model.specs.Policy.{Policy, belowTable, meaning};
 ghost use Rattle.model.specs.Line.{SESSIONS, lineSize};
 ghost use Rattle.model.specs.Choice.{choose};
@@ -16,6 +16,7 @@ ghost use Rattle.asks.specs.Asks.{Asked, Searched, askedOn, Answers};
 use crate::bounds::bound;
 use crate::request::ask_refusal;
 use calls::answer::fill;
+use calls::first::roles_of;
 use calls::given::Rules;
 use calls::given::Window;
 use ledger::bytes::line_of;
@@ -109,19 +110,11 @@ fn put_best(
     0
 }
 
-// The roles assigned to user u.
-fn roles_of(assigned: &[u64; 64], u: usize) -> u64
-    requires { ⌜ u < 64 ⌝ }
-    ensures { λ r. ⌜ r ≡ getD (now (assigned .entry)) u 0 ⌝ }
-{
-    assigned[u]
-}
-
 // The best admissible role set takes the place of the session's active roles and fills the answer.
 pub fn ask_roles(
     ledger: &mut [u8],
     rules: Rules,
-    assigned: &[u64; 64],
+    authorized: &[u64; 64],
     granted: &[[u64; 4]; 64],
     below: &[u64; 64],
     xs: &[[u64; 2]; 32],
@@ -133,7 +126,7 @@ pub fn ask_roles(
     answer: &mut [u8],
 ) -> u64
     requires { ⌜ (rules .head .users ≤ 64) × (rules .count ≤ 32) × (length (now xs) ≡ 32) ⌝ }
-    ensures { λ r. ⌜ ((p : Policy) → Known (rules .head) (now (assigned .entry)) (exclusionsIn (now (xs .entry)) (rules .count)) p → values (now (granted .entry)) ≡ p .granted
+    ensures { λ r. ⌜ ((p : Policy) → Known (rules .head) (now (authorized .entry)) (exclusionsIn (now (xs .entry)) (rules .count)) p → values (now (granted .entry)) ≡ p .granted
         → now (below .entry) ≡ belowTable p
         → Answers (stepOn SESSIONS p (now (ledger .entry)) (askBy (window .user) (window .session) (now (lower .entry)) (now (upper .entry)) first second (length (now (answer .entry)))))
         r (now (ledger .exit)) (now (answer .entry)) (now (answer .exit))) ⌝ }
@@ -141,7 +134,7 @@ pub fn ask_roles(
     let n = ask_refusal(
         ledger,
         rules,
-        assigned,
+        authorized,
         xs,
         window,
         lower,
@@ -153,7 +146,7 @@ pub fn ask_roles(
     if n != 0 {
         return n;
     }
-    let authorized = roles_of(assigned, window.user as usize);
+    let own = roles_of(authorized, window.user as usize);
     let lower = bound(lower);
     let upper = bound(upper);
     let first = first as u8;
@@ -170,7 +163,7 @@ pub fn ask_roles(
         granted,
         below,
         xs,
-        authorized,
+        own,
         window,
         wanted,
         answer,

@@ -88,7 +88,7 @@ pub fn query_refusal(
 pub fn ask_refusal(
     ledger: &[u8],
     rules: Rules,
-    assigned: &[u64; 64],
+    authorized: &[u64; 64],
     xs: &[[u64; 2]; 32],
     window: Window,
     lower: &[u8],
@@ -98,10 +98,10 @@ pub fn ask_refusal(
     room: usize,
 ) -> u64
     requires { ⌜ (rules .head .users ≤ 64) × (rules .count ≤ 32) × (length (now xs) ≡ 32) ⌝ }
-    ensures { λ r. ⌜ ((p : Policy) → Known (rules .head) (now (assigned .entry)) (exclusionsIn (now (xs .entry)) (rules .count)) p
+    ensures { λ r. ⌜ ((p : Policy) → Known (rules .head) (now (authorized .entry)) (exclusionsIn (now (xs .entry)) (rules .count)) p
         → r ≡ askRefusal SESSIONS p (now (ledger .entry)) (window .user) (window .session) (now (lower .entry)) (now (upper .entry)) first second room) ⌝ }
 {
-    let n = first_refusal(ledger, rules, assigned, xs, window.user);
+    let n = first_refusal(ledger, rules, authorized, xs, window.user);
     if n != 0 {
         return n;
     }

@@ -4,7 +4,7 @@ use mathlib.Core.Path.{_≡_, refl, sym, ap, _∙_}
 use mathlib.Core.Bool.{Bool, true, false, not}
 use mathlib.Core.Option.{none, some}
 use mathlib.Core.List.{List, [], _∷_}
-use Prim.Native.Nat.{ℕ, _+_, _*_, _≤_, _<_}
+use Prim.Native.Nat.{ℕ, _+_, _*_, _^_, _≤_, _<_}
 use native.Mathlib.Nat.{add-zero}
 use native.Mathlib.Omega.{arith}
 use lib.Dec.{eqb, ltb}
@@ -18,6 +18,7 @@ use Rattle.model.specs.Line.{lineSize, readLine, sound}
 use Rattle.model.specs.Session.{Operation, open-session, close-session, ask, short-ask, show, explain, sessionOf, queryOf, refuse, Result, Refusal, bad-line, refusalNumber, canGive, applies, perform, unless, rule}
 use Rattle.model.specs.Run.{Call, Event, lineAt, withLine, ruled, stepOn, returned, filledWith, answered}
 use Rattle.model.proofs.LedgerLaws.{apart, own-line, step-below}
+use Rattle.model.proofs.Reaches.{authorized-alone}
 use Rattle.ledger.specs.Held.{Held}
 use Rattle.calls.specs.Calls.{Known, policyBy, lineOf, firstRefusal, Gives, Shows}
 
@@ -172,33 +173,39 @@ module _ (W : ℕ) (p : Policy) (ledger : List ℕ) (c : Call) where
 -- ---- what code knows of a call that none of them refuses
 
 -- the policy of the parts that code holds has them
-pub known : (head : Head) (assigned : List ℕ) (xs : Exclusions) → Known head assigned xs (policyBy head assigned xs)
+pub known : (head : Head) (own : List ℕ) (xs : Exclusions) → Known head own xs (policyBy head own xs)
 unfolding policyBy
-known head assigned xs = record { head-is = refl; assigned-is = refl; exclusions-are = refl }
+known head own xs =
+    record { head-is = refl; own-is = λ u l w. sym (authorized-alone (policyBy head own xs) u refl w); exclusions-are = refl }
 
 -- the user's bytes are in the ledger
 pub room : (W : ℕ) (p : Policy) (ledger : List ℕ) (u : ℕ) → Ready W p ledger u → lineSize W * u + lineSize W ≤ length ledger
 room W p ledger u r = rw (r .fits) (apart (lineSize W) u (p .head .users) (r .below))
 
+-- a row of the table of what users may activate
+pub own-known : (head : Head) (rows : List ℕ) (xs : Exclusions) (p : Policy) (u own : ℕ) → Known head rows xs p → u < p .head .users
+    → (own ≡ getD rows u 0) × (own < 2 ^ 64) → own ≡ authorized p u
+own-known head rows xs p u own k l e = e .0 ∙ k .own-is u l (rw (← e .0) (e .1))
+
 -- what code holds of the policy is what it holds of its meaning for a user
-pub held : (head : Head) (assigned : List ℕ) (xs : Exclusions) (p : Policy) (u : ℕ) → Known head assigned xs p
-    → Held (head .roles) (getD assigned u 0) xs (meaning p u)
-unfolding meaning authorized
-held head assigned xs p u k =
+pub held : (head : Head) (rows : List ℕ) (xs : Exclusions) (p : Policy) (u own : ℕ) → Known head rows xs p → u < p .head .users
+    → (own ≡ getD rows u 0) × (own < 2 ^ 64) → Held (head .roles) own xs (meaning p u)
+unfolding meaning
+held head rows xs p u own k l e =
     record {
       number = ap (λ (h : Head). h .roles) (k .head-is);
-      allowed = ap (λ (rows : List ℕ). getD rows u 0) (sym (k .assigned-is));
+      allowed = sym (own-known head rows xs p u own k l e);
       exclusions = λ counted. ap (all (met counted)) (sym (k .exclusions-are));
     }
 
 -- code that got 0 of the first refusals
-module _ (W : ℕ) (head : Head) (assigned : List ℕ) (xs : Exclusions) (ledger : List ℕ) (u n : ℕ)
-    (e : (p : Policy) → Known head assigned xs p → n ≡ firstRefusal W p ledger u) (z : n ≡ 0) where
-  pub ready-for : (p : Policy) → Known head assigned xs p → Ready W p ledger u
+module _ (W : ℕ) (head : Head) (own : List ℕ) (xs : Exclusions) (ledger : List ℕ) (u n : ℕ)
+    (e : (p : Policy) → Known head own xs p → n ≡ firstRefusal W p ledger u) (z : n ≡ 0) where
+  pub ready-for : (p : Policy) → Known head own xs p → Ready W p ledger u
   ready-for p k = ready W p ledger u (sym z ∙ e p k)
 
-  pub ready-by : Ready W (policyBy head assigned xs) ledger u
-  ready-by = ready-for (policyBy head assigned xs) (known head assigned xs)
+  pub ready-by : Ready W (policyBy head own xs) ledger u
+  ready-by = ready-for (policyBy head own xs) (known head own xs)
 
   pub room-for : lineSize W * u + lineSize W ≤ length ledger
-  room-for = room W (policyBy head assigned xs) ledger u ready-by
+  room-for = room W (policyBy head own xs) ledger u ready-by

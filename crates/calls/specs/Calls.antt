@@ -4,27 +4,27 @@
 use mathlib.Core.Path.{_≡_}
 use mathlib.Core.Bool.{not}
 use mathlib.Core.List.{List, []}
-use Prim.Native.Nat.{ℕ, _*_}
+use Prim.Native.Nat.{ℕ, _*_, _^_, _<_}
 use lib.Dec.{eqb, ltb}
-use lib.ListN.{length, take}
+use lib.ListN.{getD, length, take}
 use Rattle.model.specs.declared.Head.{Head}
 use Rattle.model.specs.declared.Exclusions.{Exclusions}
 use Rattle.model.specs.declared.Line.{Line}
 use Rattle.model.specs.Tests.{pick}
-use Rattle.model.specs.Policy.{Policy, meaning}
+use Rattle.model.specs.Policy.{Policy, authorized, meaning}
 use Rattle.model.specs.Line.{lineSize, readLine, sound}
 use Rattle.model.specs.Run.{lineAt, Event, returned, answered}
 
--- the head, the table of assigned roles and the exclusions are those of the policy
-pub record Known (head : Head) (assigned : List ℕ) (xs : Exclusions) (p : Policy) : Type 0 where
+-- the head, the roles that each user may activate, a word a user, and the exclusions are those of the policy
+pub record Known (head : Head) (own : List ℕ) (xs : Exclusions) (p : Policy) : Type 0 where
   pub head-is : p .head ≡ head
-  pub assigned-is : assigned ≡ p .assigned
+  pub own-is : (u : ℕ) → u < p .head .users → getD own u 0 < 2 ^ 64 → getD own u 0 ≡ authorized p u
   pub exclusions-are : take (xs .count) (xs .list) ≡ p .exclusions
 
--- the policy that has these parts and no other
+-- a policy that has these parts: the roles assigned, and no senior word
 unfoldable pub policyBy : Head → List ℕ → Exclusions → Policy
-policyBy head assigned xs =
-    record { head = head; assigned = assigned; granted = []; juniors = []; exclusions = take (xs .count) (xs .list) }
+policyBy head own xs =
+    record { head = head; assigned = own; granted = []; juniors = []; exclusions = take (xs .count) (xs .list) }
 
 -- the line of user u
 unfoldable pub lineOf : ℕ → List ℕ → ℕ → Line

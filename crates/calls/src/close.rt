@@ -20,17 +20,17 @@ use model::SESSIONS;
 pub fn close_session(
     ledger: &mut [u8],
     rules: Rules,
-    assigned: &[u64; 64],
+    authorized: &[u64; 64],
     xs: &[[u64; 2]; 32],
     window: Window,
 ) -> u64
     requires { ⌜ (rules .head .users ≤ 64) × (rules .count ≤ 32) × (length (now xs) ≡ 32) ⌝ }
-    ensures { λ r. ⌜ ((p : Policy) → Known (rules .head) (now (assigned .entry)) (exclusionsIn (now (xs .entry)) (rules .count)) p
+    ensures { λ r. ⌜ ((p : Policy) → Known (rules .head) (now (authorized .entry)) (exclusionsIn (now (xs .entry)) (rules .count)) p
         → Gives (stepOn SESSIONS p (now (ledger .entry)) (closeBy (window .user) (window .session))) r (now (ledger .exit))) ⌝ }
 {
     let user = window.user;
     let session = window.session;
-    let n = first_refusal(ledger, rules, assigned, xs, user);
+    let n = first_refusal(ledger, rules, authorized, xs, user);
     if n != 0 {
         return n;
     }

@@ -21,7 +21,7 @@ use tables::explain::explain;
 pub fn explain_session(
     ledger: &[u8],
     rules: Rules,
-    assigned: &[u64; 64],
+    authorized: &[u64; 64],
     granted: &[[u64; 4]; 64],
     below: &[u64; 64],
     xs: &[[u64; 2]; 32],
@@ -29,13 +29,13 @@ pub fn explain_session(
     permission: u64,
 ) -> u64
     requires { ⌜ (rules .head .users ≤ 64) × (rules .head .permissions ≤ 256) × (rules .count ≤ 32) × (length (now xs) ≡ 32) ⌝ }
-    ensures { λ r. ⌜ ((p : Policy) → Known (rules .head) (now (assigned .entry)) (exclusionsIn (now (xs .entry)) (rules .count)) p → values (now (granted .entry)) ≡ p .granted
+    ensures { λ r. ⌜ ((p : Policy) → Known (rules .head) (now (authorized .entry)) (exclusionsIn (now (xs .entry)) (rules .count)) p → values (now (granted .entry)) ≡ p .granted
         → now (below .entry) ≡ belowTable p
         → r ≡ returned (stepOn SESSIONS p (now (ledger .entry)) (explainBy (window .user) (window .session) permission) .reply)) ⌝ }
 {
     let user = window.user;
     let session = window.session;
-    let n = first_refusal(ledger, rules, assigned, xs, user);
+    let n = first_refusal(ledger, rules, authorized, xs, user);
     if n != 0 {
         return n;
     }

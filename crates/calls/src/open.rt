@@ -19,15 +19,15 @@ use model::SESSIONS;
 pub fn open_session(
     ledger: &mut [u8],
     rules: Rules,
-    assigned: &[u64; 64],
+    authorized: &[u64; 64],
     xs: &[[u64; 2]; 32],
     user: u64,
 ) -> u64
     requires { ⌜ (rules .head .users ≤ 64) × (rules .count ≤ 32) × (length (now xs) ≡ 32) ⌝ }
-    ensures { λ r. ⌜ ((p : Policy) → Known (rules .head) (now (assigned .entry)) (exclusionsIn (now (xs .entry)) (rules .count)) p
+    ensures { λ r. ⌜ ((p : Policy) → Known (rules .head) (now (authorized .entry)) (exclusionsIn (now (xs .entry)) (rules .count)) p
         → Gives (stepOn SESSIONS p (now (ledger .entry)) (openBy user)) r (now (ledger .exit))) ⌝ }
 {
-    let n = first_refusal(ledger, rules, assigned, xs, user);
+    let n = first_refusal(ledger, rules, authorized, xs, user);
     if n != 0 {
         return n;
     }

@@ -21,7 +21,7 @@ use tables::carried::carried_by;
 pub fn show_session(
     ledger: &[u8],
     rules: Rules,
-    assigned: &[u64; 64],
+    authorized: &[u64; 64],
     granted: &[[u64; 4]; 64],
     below: &[u64; 64],
     xs: &[[u64; 2]; 32],
@@ -29,14 +29,14 @@ pub fn show_session(
     answer: &mut [u8],
 ) -> u64
     requires { ⌜ (rules .head .users ≤ 64) × (rules .count ≤ 32) × (length (now xs) ≡ 32) ⌝ }
-    ensures { λ r. ⌜ ((p : Policy) → Known (rules .head) (now (assigned .entry)) (exclusionsIn (now (xs .entry)) (rules .count)) p → values (now (granted .entry)) ≡ p .granted
+    ensures { λ r. ⌜ ((p : Policy) → Known (rules .head) (now (authorized .entry)) (exclusionsIn (now (xs .entry)) (rules .count)) p → values (now (granted .entry)) ≡ p .granted
         → now (below .entry) ≡ belowTable p
         → Shows (stepOn SESSIONS p (now (ledger .entry)) (showBy (window .user) (window .session) (length (now (answer .entry))))) r (now (answer .entry))
         (now (answer .exit))) ⌝ }
 {
     let user = window.user;
     let session = window.session;
-    let n = first_refusal(ledger, rules, assigned, xs, user);
+    let n = first_refusal(ledger, rules, authorized, xs, user);
     if n != 0 {
         return n;
     }

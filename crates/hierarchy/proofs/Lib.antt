@@ -2,5 +2,6 @@
 pub mod Closing
 pub mod Looping
 pub mod Judging
+pub mod Reaching
 pub mod Showing
 pub mod Naming

@@ -1,12 +1,13 @@
-// The lowest role on a loop of senior words, and an image judged by it once its words pass: the refusal 22.
+// The lowest role on a loop of senior words, and an image judged by what its words mean together once they pass: the refusals 22 and 23.
 ghost use mathlib.Core.Path.{_≡_};
-ghost use lib.ListN.{length, getD};
+ghost use lib.ListN.{getD};
 ghost use Prim.Native.Nat.{_≤_};
 ghost use Rattle.model.specs.declared.Head.{Head as HeadOf};
 ghost use Rattle.model.specs.Tests.{lowest};
 ghost use Rattle.model.specs.Sets.{has};
 ghost use Rattle.model.specs.Policy.{Policy};
-ghost use Rattle.hierarchy.specs.Loops.{Passed, Judged};
+ghost use Rattle.hierarchy.specs.Loops.{Fit, Passed, Judged};
+use crate::authorized::authorize;
 use crate::closure::close;
 use model::Checked;
 use model::Role;
@@ -24,20 +25,26 @@ pub fn lowest_on_loop(below: &[u64; 64], roles: usize) -> usize
     roles
 }
 
-// What an image whose words are judged is judged by what they mean together: 22 with the lowest role on a loop. The table of direct
-// juniors is closed in place.
-pub fn judged(c: Checked, juniors: &mut [u64; 64]) -> Checked
-    requires { ⌜ ((h : HeadOf) → c ≡ Checked.Accepted h → (h .roles ≤ 64) × (length (now juniors) ≡ 64)) ⌝ }
-    ensures { λ r. ⌜ ((p : Policy) → Passed p c (now (juniors .entry)) → Judged p c r (now (juniors .exit))) ⌝ }
+// What an image whose words are judged is judged by what they mean together: 22 with the lowest role on a loop, then 23 with the lowest
+// user who may activate more than 16 roles. The table of direct juniors is closed in place, and the table of assigned roles becomes that
+// of the roles that each user may activate.
+pub fn judged(c: Checked, assigned: &mut [u64; 64], juniors: &mut [u64; 64]) -> Checked
+    requires { ⌜ ((h : HeadOf) → c ≡ Checked.Accepted h → Fit h (now assigned) (now juniors)) ⌝ }
+    ensures { λ r. ⌜ ((p : Policy) → Passed p c (now (assigned .entry)) (now (juniors .entry)) → Judged p c r (now (assigned .exit)) (now (juniors .exit))) ⌝ }
 {
     let Checked::Accepted(head) = c else {
         return c;
     };
     let roles = head.roles as usize;
+    let users = head.users as usize;
     close(juniors, roles);
     let r = lowest_on_loop(juniors, roles);
     if r < roles {
         return Checked::Refused(22, r as u16);
+    }
+    let u = authorize(juniors, roles, users, assigned);
+    if u < users {
+        return Checked::Refused(23, u as u16);
     }
     c
 }

@@ -1,9 +1,9 @@
-// By the closed table of juniors: the roles that a role reaches, and through which of them a grant comes to it.
+// By the closed table of juniors: the roles that a role or a set of roles reaches, and through which of them a grant comes to a role.
 ghost use mathlib.Core.Path.{_≡_};
 ghost use lib.ListN.{getD};
 ghost use Prim.Native.Nat.{_<_};
 ghost use Rattle.model.specs.Tests.{isSome};
-ghost use Rattle.model.specs.Sets.{has};
+ghost use Rattle.model.specs.Sets.{has, unionAt};
 ghost use Rattle.model.specs.Policy.{withSelves, granterBy};
 ghost use Rattle.hierarchy.specs.Names.{nameOf};
 use model::Role;
@@ -15,6 +15,21 @@ pub fn reach(below: &[u64; 64], r: Role) -> u64
 {
     let who = r.0 as usize;
     sets::with(below[who], r)
+}
+
+// The roles that the roles of a set reach.
+pub fn reached_by(below: &[u64; 64], set: u64) -> u64
+    ensures { λ s. ⌜ s ≡ unionAt (withSelves (now (below .entry))) set ⌝ }
+{
+    let mut left = set;
+    let mut all: u64 = 0;
+    while left != 0 {
+        let r = sets::lowest(left);
+        let next = sets::union(all, reach(below, r));
+        all = next;
+        left = sets::without(left, r);
+    }
+    all
 }
 
 // The name of a granting role, where there is one.

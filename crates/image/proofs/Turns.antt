@@ -19,7 +19,7 @@ use Rattle.model.specs.declared.Checked.the-variants.{Accepted, Refused}
 use Rattle.model.specs.Tests.{pick}
 use Rattle.model.specs.Image.{wordAt, decode, wrongKind, inRange, repeats, crowds, entryFault, sparing, fault, assigning, next, scan, balanced, behindHead, emptyRows}
 use Rattle.model.specs.Policy.{entryAt, entriesFrom, entriesOf, fold, ordering, policyOf}
-use Rattle.model.proofs.Tables.{ordering-length}
+use Rattle.model.proofs.Tables.{assigning-length, ordering-length}
 use Rattle.image.specs.Bounds.{Due, Taken}
 
 -- ---- a word without fault is due
@@ -161,7 +161,16 @@ module _ {A : Type 0} (step : A → Entry → A) (s : List ℕ) (n p : ℕ) (a :
   unfolding fold entriesFrom
   fold-end l = let k : n - p ≡ 0 = omega arith in rw k
 
--- the table of juniors has 64 rows
+-- the tables of assigned roles and of juniors have 64 rows each
+assigning-keeps : (es : List Entry) (rows : List ℕ) → length (fold assigning rows es) ≡ length rows
+unfolding fold
+assigning-keeps [] rows = refl
+assigning-keeps (e ∷ es) rows = assigning-keeps es (assigning rows e) ∙ assigning-length rows e
+
+pub length-assigned : (s : List ℕ) → length (policyOf s .assigned) ≡ 64
+unfolding policyOf emptyRows
+length-assigned s = assigning-keeps (entriesOf s) emptyRows
+
 ordering-keeps : (es : List Entry) (rows : List ℕ) → length (fold ordering rows es) ≡ length rows
 unfolding fold
 ordering-keeps [] rows = refl
@@ -171,7 +180,11 @@ pub length-juniors : (s : List ℕ) → length (policyOf s .juniors) ≡ 64
 unfolding policyOf emptyRows
 length-juniors s = ordering-keeps (entriesOf s) emptyRows
 
--- what is gathered from an empty table is the policy's
+-- what is gathered from empty tables is the policy's
+pub assigned-of : (s assigned₀ : List ℕ) → assigned₀ ≡ emptyRows → fold assigning assigned₀ (entriesFrom s (length s / 4 - 1) 1) ≡ policyOf s .assigned
+unfolding policyOf entriesOf behindHead
+assigned-of s assigned₀ e = ap (λ (x : List ℕ). fold assigning x (entriesFrom s (length s / 4 - 1) 1)) e
+
 pub juniors-of : (s juniors₀ : List ℕ) → juniors₀ ≡ emptyRows → fold ordering juniors₀ (entriesFrom s (length s / 4 - 1) 1) ≡ policyOf s .juniors
 unfolding policyOf entriesOf behindHead
 juniors-of s juniors₀ e = ap (λ (x : List ℕ). fold ordering x (entriesFrom s (length s / 4 - 1) 1)) e

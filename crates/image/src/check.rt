@@ -219,12 +219,20 @@ pub fn next(t: Scan, e: Entry) -> Scan
 
 // ---- the words behind the head, and the whole
 
-fn check_words(image: &[u8], words: usize, h: Head, first: u32, juniors: &mut [u64; 64]) -> Checked
+fn check_words(
+    image: &[u8],
+    words: usize,
+    h: Head,
+    first: u32,
+    assigned: &mut [u64; 64],
+    juniors: &mut [u64; 64],
+) -> Checked
     requires { ⌜ (4 * words ≤ length (now image)) × (1 ≤ words) × (words ≤ 4096) ⌝ }
-    ensures { λ r. ⌜ (r ≡ scan (now (image .entry)) h (words - 1) 1 emptyRows start first)
-        × ((g : HeadOf) → r ≡ Checked.Accepted g → now (juniors .exit) ≡ fold ordering (now (juniors .entry)) (entriesFrom (now (image .entry)) (words - 1) 1)) ⌝ }
+    ensures { λ r. ⌜ (r ≡ scan (now (image .entry)) h (words - 1) 1 (now (assigned .entry)) start first)
+        × ((g : HeadOf) → r ≡ Checked.Accepted g
+        → (now (assigned .exit) ≡ fold assigning (now (assigned .entry)) (entriesFrom (now (image .entry)) (words - 1) 1))
+        × (now (juniors .exit) ≡ fold ordering (now (juniors .entry)) (entriesFrom (now (image .entry)) (words - 1) 1))) ⌝ }
 {
-    let mut assigned = [0u64; 64];
     let mut t = Scan {
         exclusions: 0,
         due: 0,
@@ -234,7 +242,7 @@ fn check_words(image: &[u8], words: usize, h: Head, first: u32, juniors: &mut [u
     for place in 1..words {
         let w = octets::word_at(image, place);
         let word = decode(w);
-        let number = taken(h, &mut assigned, juniors, t, place + 1 == words, word);
+        let number = taken(h, assigned, juniors, t, place + 1 == words, word);
         if number != 0 {
             return Checked::Refused(number, place as u16);
         }
@@ -249,12 +257,13 @@ fn check_words(image: &[u8], words: usize, h: Head, first: u32, juniors: &mut [u
     }
 }
 
-// Judges an image by its words: accepted with the head's numbers, or refused by 1 to 8 with a place. Of an accepted image the table has
-// the direct juniors of each role.
-pub fn check(image: &[u8], juniors: &mut [u64; 64]) -> Checked
-    requires { ⌜ now juniors ≡ emptyRows ⌝ }
+// Judges an image by its words: accepted with the head's numbers, or refused by 1 to 8 with a place. Of an accepted image the tables have
+// the roles assigned to each user and the direct juniors of each role.
+pub fn check(image: &[u8], assigned: &mut [u64; 64], juniors: &mut [u64; 64]) -> Checked
+    requires { ⌜ (now assigned ≡ emptyRows) × (now juniors ≡ emptyRows) ⌝ }
     ensures { λ r. ⌜ (r ≡ judgeWords (now (image .entry)))
-        × ((g : HeadOf) → r ≡ Checked.Accepted g → now (juniors .exit) ≡ policyOf (now (image .entry)) .juniors) ⌝ }
+        × ((g : HeadOf) → r ≡ Checked.Accepted g
+        → (now (assigned .exit) ≡ policyOf (now (image .entry)) .assigned) × (now (juniors .exit) ≡ policyOf (now (image .entry)) .juniors)) ⌝ }
 {
     let len = image.len();
     if len % 4 != 0 {
@@ -268,7 +277,7 @@ pub fn check(image: &[u8], juniors: &mut [u64; 64]) -> Checked
     }
     let w = octets::word_at(image, 0);
     if head_right(w) {
-        check_words(image, len / 4, head_of(w), w, juniors)
+        check_words(image, len / 4, head_of(w), w, assigned, juniors)
     } else {
         Checked::Refused(2, 0)
     }

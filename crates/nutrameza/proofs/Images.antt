@@ -32,11 +32,11 @@ pub accepted-permissions : (s : List ℕ) (h : Head) → judge s ≡ Accepted h 
 accepted-permissions s h e = subst (λ (x : Head). x .permissions ≤ 256) (accepted-head s h e) (accepted-in-range s h e .permissions .1)
 
 -- an accepted image's tables are known
-pub known-of : (s : List ℕ) (h : Head) (assigned granted below : List ℕ) (rows : List (List ℕ)) (count : ℕ) → judge s ≡ Accepted h
-    → Tables (policyOf s) assigned granted below rows count → Known h assigned (exclusionsIn rows count) (policyOf s)
+pub known-of : (s : List ℕ) (h : Head) (own granted below : List ℕ) (rows : List (List ℕ)) (count : ℕ) → judge s ≡ Accepted h
+    → Tables (policyOf s) own granted below rows count → Known h own (exclusionsIn rows count) (policyOf s)
 unfolding exclusionsIn
-known-of s h assigned granted below rows count e t =
-    record { head-is = accepted-head s h e; assigned-is = t .assigned-is; exclusions-are = t .exclusions-are }
+known-of s h own granted below rows count e t =
+    record { head-is = accepted-head s h e; own-is = λ u l w. t .own-is u l; exclusions-are = t .exclusions-are }
 
 module _ (W : ℕ) (s ledger : List ℕ) (c : Call) where
   -- a call goes by the policy of an accepted image

@@ -21,7 +21,8 @@ fn refusal_of(c: Checked) -> u64
     (number as u64) + 256 * (place as u64)
 }
 
-// Judges an image: 0, or the refusal's number plus 256 times the place of the refused word or, by 22, the lowest role on a loop.
+// Judges an image: 0, or the refusal's number plus 256 times the place of the refused word, by 22 the lowest role on a loop, or by 23 the
+// lowest user who may activate more than 16 roles.
 #[no_mangle]
 pub extern "C" fn nutrameza_check(image: &[u8]) -> u64
     ensures { λ r. ⌜ r ≡ checkNumber (judge (now (image .entry))) ⌝ }
@@ -36,8 +37,9 @@ pub extern "C" fn nutrameza_loop(image: &[u8], chain: &mut [u8]) -> u64
     ensures { λ r. ⌜ (r ≡ returned (loopCall (now (image .entry)) (length (now (chain .entry)))))
         × (now (chain .exit) ≡ answered (now (chain .entry)) (loopCall (now (image .entry)) (length (now (chain .entry))))) ⌝ }
 {
+    let mut assigned = [0u64; 64];
     let mut juniors = [0u64; 64];
-    let c = image::check::check(image, &mut juniors);
+    let c = image::check::check(image, &mut assigned, &mut juniors);
     let Checked::Accepted(head) = c else {
         return refusal_of(c);
     };
@@ -50,18 +52,18 @@ pub extern "C" fn nutrameza_open(image: &[u8], ledger: &mut [u8], user: u64) -> 
     ensures { λ r. ⌜ (r ≡ returned (step SESSIONS (now (image .entry)) (now (ledger .entry)) (openBy user) .reply))
         × (now (ledger .exit) ≡ step SESSIONS (now (image .entry)) (now (ledger .entry)) (openBy user) .ledger) ⌝ }
 {
-    let mut assigned = [0u64; 64];
+    let mut authorized = [0u64; 64];
     let mut granted = [[0u64; 4]; 64];
     let mut below = [0u64; 64];
     let mut xs = [[0u64; 2]; 32];
-    let all = tables::read::read(image, &mut assigned, &mut granted, &mut below, &mut xs);
+    let all = tables::read::read(image, &mut authorized, &mut granted, &mut below, &mut xs);
     let c = all.checked;
     let Checked::Accepted(head) = c else {
         return refusal_of(c);
     };
     let count = all.count;
     let rules = Rules { head, count };
-    calls::open::open_session(ledger, rules, &assigned, &xs, user)
+    calls::open::open_session(ledger, rules, &authorized, &xs, user)
 }
 
 // Closes the user's session.
@@ -70,11 +72,11 @@ pub extern "C" fn nutrameza_close(image: &[u8], ledger: &mut [u8], user: u64, se
     ensures { λ r. ⌜ (r ≡ returned (step SESSIONS (now (image .entry)) (now (ledger .entry)) (closeBy user session) .reply))
         × (now (ledger .exit) ≡ step SESSIONS (now (image .entry)) (now (ledger .entry)) (closeBy user session) .ledger) ⌝ }
 {
-    let mut assigned = [0u64; 64];
+    let mut authorized = [0u64; 64];
     let mut granted = [[0u64; 4]; 64];
     let mut below = [0u64; 64];
     let mut xs = [[0u64; 2]; 32];
-    let all = tables::read::read(image, &mut assigned, &mut granted, &mut below, &mut xs);
+    let all = tables::read::read(image, &mut authorized, &mut granted, &mut below, &mut xs);
     let c = all.checked;
     let Checked::Accepted(head) = c else {
         return refusal_of(c);
@@ -82,7 +84,7 @@ pub extern "C" fn nutrameza_close(image: &[u8], ledger: &mut [u8], user: u64, se
     let count = all.count;
     let rules = Rules { head, count };
     let window = Window { user, session };
-    calls::close::close_session(ledger, rules, &assigned, &xs, window)
+    calls::close::close_session(ledger, rules, &authorized, &xs, window)
 }
 
 // Shows the active roles of the user's session and the permissions that they carry.
@@ -98,11 +100,11 @@ pub extern "C" fn nutrameza_show(
         × (now (answer .exit) ≡ answered (now (answer .entry))
         (step SESSIONS (now (image .entry)) (now (ledger .entry)) (showBy user session (length (now (answer .entry)))) .reply)) ⌝ }
 {
-    let mut assigned = [0u64; 64];
+    let mut authorized = [0u64; 64];
     let mut granted = [[0u64; 4]; 64];
     let mut below = [0u64; 64];
     let mut xs = [[0u64; 2]; 32];
-    let all = tables::read::read(image, &mut assigned, &mut granted, &mut below, &mut xs);
+    let all = tables::read::read(image, &mut authorized, &mut granted, &mut below, &mut xs);
     let c = all.checked;
     let Checked::Accepted(head) = c else {
         return refusal_of(c);
@@ -113,7 +115,7 @@ pub extern "C" fn nutrameza_show(
     calls::show::show_session(
         ledger,
         rules,
-        &assigned,
+        &authorized,
         &granted,
         &below,
         &xs,
@@ -134,11 +136,11 @@ pub extern "C" fn nutrameza_explain(
 ) -> u64
     ensures { λ r. ⌜ r ≡ returned (step SESSIONS (now (image .entry)) (now (ledger .entry)) (explainBy user session permission) .reply) ⌝ }
 {
-    let mut assigned = [0u64; 64];
+    let mut authorized = [0u64; 64];
     let mut granted = [[0u64; 4]; 64];
     let mut below = [0u64; 64];
     let mut xs = [[0u64; 2]; 32];
-    let all = tables::read::read(image, &mut assigned, &mut granted, &mut below, &mut xs);
+    let all = tables::read::read(image, &mut authorized, &mut granted, &mut below, &mut xs);
     let c = all.checked;
     let Checked::Accepted(head) = c else {
         return refusal_of(c);
@@ -149,7 +151,7 @@ pub extern "C" fn nutrameza_explain(
     calls::explain::explain_session(
         ledger,
         rules,
-        &assigned,
+        &authorized,
         &granted,
         &below,
         &xs,
@@ -175,11 +177,11 @@ pub extern "C" fn nutrameza_ask(
         × (now (ledger .exit) ≡ step SESSIONS (now (image .entry)) (now (ledger .entry)) (askBy user session (now (lower .entry)) (now (upper .entry)) «permission_aim» «role_aim» (length (now (answer .entry)))) .ledger)
         × (now (answer .exit) ≡ answered (now (answer .entry)) (step SESSIONS (now (image .entry)) (now (ledger .entry)) (askBy user session (now (lower .entry)) (now (upper .entry)) «permission_aim» «role_aim» (length (now (answer .entry)))) .reply)) ⌝ }
 {
-    let mut assigned = [0u64; 64];
+    let mut authorized = [0u64; 64];
     let mut granted = [[0u64; 4]; 64];
     let mut below = [0u64; 64];
     let mut xs = [[0u64; 2]; 32];
-    let all = tables::read::read(image, &mut assigned, &mut granted, &mut below, &mut xs);
+    let all = tables::read::read(image, &mut authorized, &mut granted, &mut below, &mut xs);
     let c = all.checked;
     let Checked::Accepted(head) = c else {
         return refusal_of(c);
@@ -190,7 +192,7 @@ pub extern "C" fn nutrameza_ask(
     asks::ask::ask_roles(
         ledger,
         rules,
-        &assigned,
+        &authorized,
         &granted,
         &below,
         &xs,

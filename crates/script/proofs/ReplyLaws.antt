@@ -12,7 +12,7 @@ use Rattle.model.specs.declared.Checked.{Checked}
 use Rattle.model.specs.declared.Checked.the-variants.{Accepted, Refused}
 use Rattle.model.specs.Image.{judgeWords}
 use Rattle.model.specs.Policy.{Policy, Meaning, policyOf, meaning}
-use Rattle.model.specs.Judgement.{lowestOnLoop, barred, judgeMeaning, judge}
+use Rattle.model.specs.Judgement.{lowestOnLoop, lowestOverReach, barred, judgeMeaning, judge}
 use Rattle.model.specs.Session.{Operation, open-session, close-session, ask, short-ask, show, explain, Reply, refuse, done, given, Result, Refusal, bad-line, bad-session, is-closed, is-full, bad-set, bad-permission, bad-bounds, bad-aim, bad-room, no-set, not-below, not-carried, refusalNumber, asked, explained, perform, unless, rule}
 use Rattle.model.specs.Run.{Call, Event, step, stepBy, stepOn, ruled, returned}
 use Rattle.model.proofs.Bools.{pick-case}
@@ -29,13 +29,16 @@ judge-small : (s : List ℕ) → Small (judge s)
 unfolding judge judgeMeaning barred Small
 judge-small s = go (judgeWords s) (words-small s)
   where
-    either : (h : Head) (x : ℕ) (b : Bool) → Small (elim b [ true ↦ Refused 22 x | false ↦ Accepted h ])
-    either h x true = omega arith
-    either h x false = omega arith
+    either : (h : Head) (x y : ℕ) (a b : Bool) → Small (elim a [ true ↦ Refused 22 x | false ↦ elim b [ true ↦ Refused 23 y | false ↦ Accepted h ] ])
+    either h x y true b = omega arith
+    either h x y false true = omega arith
+    either h x y false false = omega arith
 
     go : (c : Checked) → UpTo8 c → Small (judgeMeaning (policyOf s) c)
     go (Refused n place) k = omega arith
-    go (Accepted h) k = either h (lowestOnLoop (policyOf s)) (ltb (lowestOnLoop (policyOf s)) (policyOf s .head .roles))
+    go (Accepted h) k =
+        let p = policyOf s in
+        either h (lowestOnLoop p) (lowestOverReach p) (ltb (lowestOnLoop p) (p .head .roles)) (ltb (lowestOverReach p) (p .head .users))
 
 -- ---- of the session rules
 

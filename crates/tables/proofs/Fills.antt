@@ -2,19 +2,20 @@
 -- Assumes nothing.
 use mathlib.Core.Path.{_≡_, sym, ap, subst, _∙_}
 use mathlib.Core.List.{List}
-use Prim.Native.Nat.{ℕ, _-_, _/_, _≤_}
-use lib.ListN.{length}
+use Prim.Native.Nat.{ℕ, _-_, _/_, _^_, _≤_, _<_}
+use lib.ListN.{getD, length}
 use Rattle.model.specs.declared.Entry.{Entry}
 use Rattle.model.specs.declared.Head.{Head}
 use Rattle.model.specs.declared.Checked.{Checked}
 use Rattle.model.specs.declared.Checked.the-variants.{Accepted}
 use Rattle.model.specs.Image.{behindHead, assigning, judgeWords}
+use Rattle.model.specs.Sets.{count}
 use Rattle.model.specs.Policy.{Policy, entriesFrom, entriesOf, fold, granting, ordering, policyOf}
 use Rattle.model.specs.Judgement.{judgeMeaning, judge}
 use Rattle.model.proofs.Accepted.{words-head, words-in-range}
 use Rattle.model.proofs.Judgements.{words-pass}
-use Rattle.image.proofs.Turns.{length-juniors}
-use Rattle.hierarchy.specs.Loops.{Passed, Judged}
+use Rattle.image.proofs.Turns.{length-assigned, length-juniors}
+use Rattle.hierarchy.specs.Loops.{Fit, Passed, Judged}
 use Rattle.tables.specs.Tables.{Fresh, Gathered, Read, Tables}
 
 -- ---- the whole: what was gathered from empty tables is the policy's
@@ -34,28 +35,40 @@ tables-of s a₀ g₀ j₀ a g j rows count f t =
 
 -- ---- an image judged by its words, and then by what they mean together
 
-module _ (s : List ℕ) (c : Checked) (ec : c ≡ judgeWords s) (juniors : List ℕ) (had : (h : Head) → c ≡ Accepted h → juniors ≡ policyOf s .juniors) where
-  -- where the words pass, the roles and the table of juniors fit
-  pub words-fit : (h : Head) → c ≡ Accepted h → (h .roles ≤ 64) × (length juniors ≡ 64)
+module _ (s : List ℕ) (c : Checked) (ec : c ≡ judgeWords s) (assigned juniors : List ℕ)
+    (had : (h : Head) → c ≡ Accepted h → (assigned ≡ policyOf s .assigned) × (juniors ≡ policyOf s .juniors)) where
+  -- where the words pass, the tables fit the head
+  pub words-fit : (h : Head) → c ≡ Accepted h → Fit h assigned juniors
   words-fit h e =
       let w = sym ec ∙ e in
-      (subst (λ (x : Head). x .roles ≤ 64) (words-head s h w) (words-in-range s h w .roles .1), ap length (had h e) ∙ length-juniors s)
+      let range = words-in-range s h w in
+      let head = words-head s h w in
+      record {
+        roles = subst (λ (x : Head). x .roles ≤ 64) head (range .roles .1);
+        users = subst (λ (x : Head). x .users ≤ 64) head (range .users .1);
+        juniors-size = ap length (had h e .1) ∙ length-juniors s;
+        assigned-size = ap length (had h e .0) ∙ length-assigned s;
+        few = λ u.
+            subst (λ (t : List ℕ). (getD t u 0 < 2 ^ h .roles) × (count 64 (getD t u 0) ≤ 16)) (sym (had h e .0))
+            (subst (λ (x : Head). getD (policyOf s .assigned) u 0 < 2 ^ x .roles) head (range .assigned-rows u), range .few-roles u);
+      }
 
-  module _ (v : Checked) (below : List ℕ) (judged : (p : Policy) → Passed p c juniors → Judged p c v below) where
-    verdict : Judged (policyOf s) c v below
-    verdict = judged (policyOf s) (λ h e. (words-head s h (sym ec ∙ e), had h e))
+  module _ (v : Checked) (own below : List ℕ) (judged : (p : Policy) → Passed p c assigned juniors → Judged p c v own below) where
+    verdict : Judged (policyOf s) c v own below
+    verdict = judged (policyOf s) (λ h e. record { head-is = words-head s h (sym ec ∙ e); assigned-is = had h e .0; juniors-is = had h e .1 })
 
     pub read-judged : v ≡ judge s
     unfolding judge
     read-judged = verdict .verdict ∙ ap (judgeMeaning (policyOf s)) ec
 
     -- an accepted image's tables are the policy's
-    pub tables-judged : (a g : List ℕ) (rows : List (List ℕ)) (count : ℕ) → ((h : Head) → c ≡ Accepted h → Read (policyOf s) a g juniors rows count)
-        → (h : Head) → v ≡ Accepted h → Tables (policyOf s) a g below rows count
-    tables-judged a g rows count read h e =
+    pub tables-judged : (g : List ℕ) (rows : List (List ℕ)) (count : ℕ)
+        → ((h : Head) → c ≡ Accepted h → Read (policyOf s) assigned g juniors rows count)
+        → (h : Head) → v ≡ Accepted h → Tables (policyOf s) own g below rows count
+    tables-judged g rows count read h e =
         let t = read h (ec ∙ words-pass s h (sym read-judged ∙ e)) in
         record {
-          assigned-is = t .assigned-is;
+          own-is = verdict .own-is h e;
           granted-is = t .granted-is;
           below-is = verdict .below-is h e;
           exclusions-are = t .exclusions-are;

@@ -3,8 +3,8 @@
 use mathlib.Core.Path.{_≡_}
 use mathlib.Core.Bool.{Bool}
 use mathlib.Core.List.{List, map}
-use Prim.Native.Nat.{ℕ, _+_, _-_, _≤_}
-use lib.ListN.{length, set, take}
+use Prim.Native.Nat.{ℕ, _+_, _-_, _≤_, _<_}
+use lib.ListN.{length, getD, set, take}
 use Rattle.model.specs.declared.Head.{Head}
 use Rattle.model.specs.declared.Kind.the-variants.{SsDmer}
 use Rattle.model.specs.declared.Exclusion.{Exclusion}
@@ -13,7 +13,7 @@ use Rattle.model.specs.declared.Word.{Word}
 use Rattle.model.specs.declared.Entry.{Entry}
 use Rattle.model.specs.declared.Entry.the-variants.{Assignment, Grant, Senior, Exclude, Member, End, Unknown}
 use Rattle.model.specs.Image.{fault, assigning, emptyRows}
-use Rattle.model.specs.Policy.{Policy, entryAt, entriesFrom, fold, granting, ordering, withMembers, exclusionsOf, belowTable}
+use Rattle.model.specs.Policy.{Policy, entryAt, entriesFrom, fold, granting, ordering, withMembers, exclusionsOf, belowTable, authorized}
 use Rattle.rows.specs.Rows.{exclusionOf}
 
 -- ---- exclusions, by the places of their words
@@ -85,9 +85,9 @@ pub record Read (p : Policy) (assigned granted juniors : List ℕ) (rows : List 
   pub few : count ≤ 32
   pub full : length rows ≡ 32
 
--- the same with the closed table, of the roles below each role
-pub record Tables (p : Policy) (assigned granted below : List ℕ) (rows : List (List ℕ)) (count : ℕ) : Type 0 where
-  pub assigned-is : assigned ≡ p .assigned
+-- the same with the roles that each user may activate in place of those assigned, and with the closed table, of the roles below each role
+pub record Tables (p : Policy) (own granted below : List ℕ) (rows : List (List ℕ)) (count : ℕ) : Type 0 where
+  pub own-is : (u : ℕ) → u < p .head .users → getD own u 0 ≡ authorized p u
   pub granted-is : granted ≡ p .granted
   pub below-is : below ≡ belowTable p
   pub exclusions-are : take count (map exclusionOf rows) ≡ p .exclusions

@@ -1,29 +1,10 @@
 // What roles carry: the granted rows joined by the closed table of juniors, for the roles that are asked for.
 ghost use mathlib.Core.Path.{_≡_};
 ghost use Rattle.model.specs.Sets.{unionAt};
-ghost use Rattle.model.specs.Policy.{withSelves};
 ghost use Rattle.sets.specs.Words.{value, values};
 ghost use Rattle.tables.specs.Carried.{carriedRows, carriedOf};
 use hierarchy::reach::reach;
-
-// ---- who is reached
-
-// The roles that the roles of a set reach.
-fn reached_by(rows: &[u64; 64], set: u64) -> u64
-    ensures { λ s. ⌜ s ≡ unionAt (withSelves (now (rows .entry))) set ⌝ }
-{
-    let mut left = set;
-    let mut all: u64 = 0;
-    while left != 0 {
-        let r = sets::lowest(left);
-        let next = sets::union(all, reach(rows, r));
-        all = next;
-        left = sets::without(left, r);
-    }
-    all
-}
-
-// ---- what roles carry
+use hierarchy::reach::reached_by;
 
 // What each role of `wanted` carries: the permissions granted to the roles that it reaches by the closed table.
 pub fn carried(granted: &[[u64; 4]; 64], below: &[u64; 64], wanted: u64) -> [[u64; 4]; 64]

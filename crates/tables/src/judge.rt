@@ -9,7 +9,8 @@ use model::Checked;
 pub fn judge(image: &[u8]) -> Checked
     ensures { λ r. ⌜ r ≡ judgeOf (now (image .entry)) ⌝ }
 {
+    let mut assigned = [0u64; 64];
     let mut juniors = [0u64; 64];
-    let c = check(image, &mut juniors);
-    judged(c, &mut juniors)
+    let c = check(image, &mut assigned, &mut juniors);
+    judged(c, &mut assigned, &mut juniors)
 }

@@ -222,23 +222,23 @@ fn gather(
     refused(2, 0)
 }
 
-// Judges an image and, where it is accepted, leaves in the tables the roles assigned to each user, the permissions granted to each role,
-// the roles below each role and the exclusions.
+// Judges an image and, where it is accepted, leaves in the tables the roles that each user may activate, the permissions granted to each
+// role, the roles below each role and the exclusions.
 pub fn read(
     image: &[u8],
-    assigned: &mut [u64; 64],
+    authorized: &mut [u64; 64],
     granted: &mut [[u64; 4]; 64],
     below: &mut [u64; 64],
     xs: &mut [[u64; 2]; 32],
 ) -> Reading
-    requires { ⌜ (Fresh (now assigned) (values (now granted)) (now below)) × (length (now xs) ≡ 32) ⌝ }
+    requires { ⌜ (Fresh (now authorized) (values (now granted)) (now below)) × (length (now xs) ≡ 32) ⌝ }
     ensures { λ r. ⌜ (r .checked ≡ judge (now (image .entry)))
         × ((g : HeadOf) → r .checked ≡ Checked.Accepted g
-        → Tables (policyOf (now (image .entry))) (now (assigned .exit)) (values (now (granted .exit))) (now (below .exit)) (now (xs .exit)) (r .count)) ⌝ }
+        → Tables (policyOf (now (image .entry))) (now (authorized .exit)) (values (now (granted .exit))) (now (below .exit)) (now (xs .exit)) (r .count)) ⌝ }
 {
-    let all = gather(image, assigned, granted, below, xs);
+    let all = gather(image, authorized, granted, below, xs);
     let c = all.checked;
-    let checked = judged(c, below);
+    let checked = judged(c, authorized, below);
     Reading {
         checked,
         count: all.count,

@@ -13,12 +13,12 @@ use Rattle.nutrameza.proofs.nutrameza_loop.Tie as tie
 
 check-requires : tie.Need-check-requires
 unfolding emptyRows
-check-requires c κs = refl
+check-requires c κs = (refl, refl)
 
 returns : tie.Need-returns
 returns c =
     let g = c .before .enum-told .given .1 in
-    let a = c .before .before .before .before .before .before .before .args in
+    let a = c .before .before .before .before .before .before .before .before .args in
     let e = loop-refused (a .image .now) (a .chain .now) _ _ _ (sym (c .before .before .before .check .ensures .0) ∙ g) (c .refusal-of .ensures ∙ ap checkNumber g) in
     (e .number, e .bytes)
 
@@ -26,18 +26,18 @@ show-loop-requires : tie.Need-show-loop-requires
 show-loop-requires c κs =
     let g = c .before .before .before .c .given .1 in
     let k = c .before .before .before .before .before .check .ensures in
-    let a = c .before .before .before .before .before .before .before .before .before .args in
-    let f = words-fit (a .image .now) _ (k .0) _ (k .1) _ g in
-    (f .0, f .1, ranged (a .image .now) (a .chain .now) _ (sym (k .0) ∙ g) _ (k .1 _ g))
+    let a = c .before .before .before .before .before .before .before .before .before .before .args in
+    let f = words-fit (a .image .now) _ (k .0) _ _ (k .1) _ g in
+    (f .roles, f .juniors-size, ranged (a .image .now) (a .chain .now) _ (sym (k .0) ∙ g) _ (k .1 _ g .1))
 
 returns-2 : tie.Need-returns-2
 returns-2 c =
     let g = c .before .before .before .before .before .before .c .given .1 in
     let k = c .before .before .before .before .before .before .before .before .check .ensures in
-    let a = c .before .before .before .before .before .before .before .before .before .before .before .before .args in
+    let a = c .before .before .before .before .before .before .before .before .before .before .before .before .before .args in
     let w = sym (k .0) ∙ g in
     let e = loop-by (a .image .now) (a .chain .now) _ w _ _
-    (c .before .before .show-loop .ensures (policyOf (a .image .now)) (words-in-range (a .image .now) _ w) (k .1 _ g)
+    (c .before .before .show-loop .ensures (policyOf (a .image .now)) (words-in-range (a .image .now) _ w) (k .1 _ g .1)
     (ap (λ (x : Head). x .roles) (words-head (a .image .now) _ w))) in
     (e .number, e .bytes)
 

@@ -19,7 +19,7 @@ returns c p h = or-first _ _ _ (c .before .first-refusal .ensures p h) (c .if1 .
 line-of-requires : tie.Need-line-of-requires
 line-of-requires c κs =
     let a = c .before .before .before .before .before .args in
-    room-for 4 (a .rules .head) (a .assigned .now) (exclusionsIn (a .xs .now) (a .rules .count)) (a .ledger .now) (a .window .user) _ (c .before .first-refusal .ensures) (c .if1 .left)
+    room-for 4 (a .rules .head) (a .authorized .now) (exclusionsIn (a .xs .now) (a .rules .count)) (a .ledger .now) (a .window .user) _ (c .before .first-refusal .ensures) (c .if1 .left)
 
 returns-2 : tie.Need-returns-2
 unfolding askRefusal lineOf

@@ -25,21 +25,21 @@ returns-2 : tie.Need-returns-2
 returns-2 c p h =
     let f = c .before .before in
     let a = f .before .before .before .args in
-    let r = ready-for 4 (a .rules .head) (a .assigned .now) (exclusionsIn (a .xs .now) (a .rules .count)) (a .ledger .now) (a .window .user) _ (f .first-refusal .ensures) (c .before .if1 .left) p h in
+    let r = ready-for 4 (a .rules .head) (a .authorized .now) (exclusionsIn (a .xs .now) (a .rules .count)) (a .ledger .now) (a .window .user) _ (f .first-refusal .ensures) (c .before .if1 .left) p h in
     close12 4 p (a .ledger .now) (a .window .user) (a .window .session) r (c .if2 .taken)
 
 line-of-requires : tie.Need-line-of-requires
 line-of-requires c κs =
     let f = c .before .before .before in
     let a = f .before .before .before .args in
-    room-for 4 (a .rules .head) (a .assigned .now) (exclusionsIn (a .xs .now) (a .rules .count)) (a .ledger .now) (a .window .user) _ (f .first-refusal .ensures) (c .before .before .if1 .left)
+    room-for 4 (a .rules .head) (a .authorized .now) (exclusionsIn (a .xs .now) (a .rules .count)) (a .ledger .now) (a .window .user) _ (f .first-refusal .ensures) (c .before .before .if1 .left)
 
 returns-3 : tie.Need-returns-3
 unfolding lineOf
 returns-3 c p h =
     let f = c .before .before .before .before .before .before in
     let a = f .before .before .before .args in
-    let r = ready-for 4 (a .rules .head) (a .assigned .now) (exclusionsIn (a .xs .now) (a .rules .count)) (a .ledger .now) (a .window .user) _ (f .first-refusal .ensures) (c .before .before .before .before .before .if1 .left) p h in
+    let r = ready-for 4 (a .rules .head) (a .authorized .now) (exclusionsIn (a .xs .now) (a .rules .count)) (a .ledger .now) (a .window .user) _ (f .first-refusal .ensures) (c .before .before .before .before .before .if1 .left) p h in
     close13 4 p (a .ledger .now) (a .window .user) (a .window .session) r (c .before .before .before .before .if2 .left)
     (ap (λ (x : Line). isOpen x (a .window .session)) (sym (c .before .before .line-of .ensures)) ∙ sym (c .before .is-open .ensures) ∙ not-true _ (c .if3 .taken))
 
@@ -50,7 +50,7 @@ put-line-requires : tie.Need-put-line-requires
 put-line-requires c κs =
     let f = c .before .before .before .before .before .before .before .before in
     let a = f .before .before .before .args in
-    room-for 4 (a .rules .head) (a .assigned .now) (exclusionsIn (a .xs .now) (a .rules .count)) (a .ledger .now) (a .window .user) _ (f .first-refusal .ensures) (c .before .before .before .before .before .before .before .if1 .left)
+    room-for 4 (a .rules .head) (a .authorized .now) (exclusionsIn (a .xs .now) (a .rules .count)) (a .ledger .now) (a .window .user) _ (f .first-refusal .ensures) (c .before .before .before .before .before .before .before .if1 .left)
 
 returns-4 : tie.Need-returns-4
 unfolding lineOf
@@ -58,7 +58,7 @@ returns-4 c p h =
     let f = c .before .before .before .before .before .before .before .before .before .before .before in
     let a = f .before .before .before .args in
     let l = c .before .before .before .before .before .before .before .line-of .ensures in
-    let r = ready-for 4 (a .rules .head) (a .assigned .now) (exclusionsIn (a .xs .now) (a .rules .count)) (a .ledger .now) (a .window .user) _ (f .first-refusal .ensures) (c .before .before .before .before .before .before .before .before .before .before .if1 .left) p h in
+    let r = ready-for 4 (a .rules .head) (a .authorized .now) (exclusionsIn (a .xs .now) (a .rules .count)) (a .ledger .now) (a .window .user) _ (f .first-refusal .ensures) (c .before .before .before .before .before .before .before .before .before .before .if1 .left) p h in
     let g = close0 4 p (a .ledger .now) (a .window .user) (a .window .session) r (c .before .before .before .before .before .before .before .before .before .if2 .left)
     (ap (λ (x : Line). isOpen x (a .window .session)) (sym l) ∙ sym (c .before .before .before .before .before .before .is-open .ensures) ∙ not-false _ (c .before .before .before .before .before .if3 .left)) in
     record {

@@ -35,24 +35,26 @@ line-of-requires c κs = omega arith
 returns-3 : tie.Need-returns-3
 unfolding lineSize lineOf
 returns-3 c p h =
-    let l = c .before .before .before in
+    let o = c .before .before in
+    let l = o .before in
     let a = l .before .before .before .before .before .before .args in
     let e : p .head .users ≡ a .rules .head .users = ap (λ (x : Head). x .users) (h .head-is) in
     let m = meaning p (a .user) in
-    let s = c .before .sound .ensures m (held (a .rules .head) (a .assigned .now) (exclusionsIn (a .xs .now) (a .rules .count)) p (a .user) h) in
+    let s = c .before .sound .ensures m (held (a .rules .head) (a .authorized .now) (exclusionsIn (a .xs .now) (a .rules .count)) p (a .user) _ h (omega arith) (o .roles-of .ensures)) in
     first11 4 p _ _ (omega arith) (omega arith) (ap (sound 4 m) (sym (l .line-of .ensures)) ∙ sym s ∙ not-true _ (c .if3 .taken))
 
 returns-4 : tie.Need-returns-4
 unfolding lineSize lineOf
 returns-4 c p h =
-    let l = c .before .before .before in
+    let o = c .before .before in
+    let l = o .before in
     let a = l .before .before .before .before .before .before .args in
     let e : p .head .users ≡ a .rules .head .users = ap (λ (x : Head). x .users) (h .head-is) in
     let m = meaning p (a .user) in
-    let s = c .before .sound .ensures m (held (a .rules .head) (a .assigned .now) (exclusionsIn (a .xs .now) (a .rules .count)) p (a .user) h) in
+    let s = c .before .sound .ensures m (held (a .rules .head) (a .authorized .now) (exclusionsIn (a .xs .now) (a .rules .count)) p (a .user) _ h (omega arith) (o .roles-of .ensures)) in
     first0 4 p _ _ (omega arith) (omega arith) (ap (sound 4 m) (sym (l .line-of .ensures)) ∙ sym s ∙ not-false _ (c .if3 .left))
 
 pub first-refusal-spec : {M : Type 1} → statement M
 first-refusal-spec =
     tie.close
-    (tie.spec (λ c. search needs) (λ c. search needs) returns returns-2 line-of-requires (λ c. search needs) (λ c. search needs) (λ c κs. search needs) returns-3 returns-4)
+    (tie.spec (λ c. search needs) (λ c. search needs) returns returns-2 line-of-requires (λ c κs. search needs) (λ c κs. search needs) returns-3 returns-4)

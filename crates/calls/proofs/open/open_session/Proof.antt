@@ -27,14 +27,14 @@ line-of-requires : tie.Need-line-of-requires
 line-of-requires c κs =
     let f = c .before .before in
     let a = f .before .before .before .args in
-    room-for 4 (a .rules .head) (a .assigned .now) (exclusionsIn (a .xs .now) (a .rules .count)) (a .ledger .now) (a .user) _ (f .first-refusal .ensures) (c .before .if1 .left)
+    room-for 4 (a .rules .head) (a .authorized .now) (exclusionsIn (a .xs .now) (a .rules .count)) (a .ledger .now) (a .user) _ (f .first-refusal .ensures) (c .before .if1 .left)
 
 returns-2 : tie.Need-returns-2
 unfolding lineOf
 returns-2 c p h =
     let f = c .before .before .before .before .before in
     let a = f .before .before .before .args in
-    let r = ready-for 4 (a .rules .head) (a .assigned .now) (exclusionsIn (a .xs .now) (a .rules .count)) (a .ledger .now) (a .user) _ (f .first-refusal .ensures) (c .before .before .before .before .if1 .left) p h in
+    let r = ready-for 4 (a .rules .head) (a .authorized .now) (exclusionsIn (a .xs .now) (a .rules .count)) (a .ledger .now) (a .user) _ (f .first-refusal .ensures) (c .before .before .before .before .if1 .left) p h in
     open14 4 p (a .ledger .now) (a .user) (omega arith) r
     (ap (λ (x : Line). count 64 (x .opened)) (sym (c .before .before .line-of .ensures)) ∙ sym (c .before .size .ensures) ∙ c .if2 .taken)
 
@@ -44,18 +44,18 @@ opened-requires c κs =
     let f = c .before .before .before .before .before .before in
     let a = f .before .before .before .args in
     let l = c .before .before .before .line-of .ensures in
-    let r = ready-by 4 (a .rules .head) (a .assigned .now) (exclusionsIn (a .xs .now) (a .rules .count)) (a .ledger .now) (a .user) _ (f .first-refusal .ensures) (c .before .before .before .before .before .if1 .left) in
-    let n = may-open 4 (policyBy (a .rules .head) (a .assigned .now) (exclusionsIn (a .xs .now) (a .rules .count))) (a .ledger .now) (a .user) (omega arith) r
+    let r = ready-by 4 (a .rules .head) (a .authorized .now) (exclusionsIn (a .xs .now) (a .rules .count)) (a .ledger .now) (a .user) _ (f .first-refusal .ensures) (c .before .before .before .before .before .if1 .left) in
+    let n = may-open 4 (policyBy (a .rules .head) (a .authorized .now) (exclusionsIn (a .xs .now) (a .rules .count))) (a .ledger .now) (a .user) (omega arith) r
     (λ e. c .before .if2 .left (c .before .before .size .ensures ∙ ap (λ (x : Line). count 64 (x .opened)) l ∙ e)) in
     let k = c .lowest-closed .ensures ∙ ap (λ (x : Line). lowestClosed x 0 4) l in
-    let b = open-bits 4 (meaning (policyBy (a .rules .head) (a .assigned .now) (exclusionsIn (a .xs .now) (a .rules .count))) (a .user)) _ (r .sound-line) in
+    let b = open-bits 4 (meaning (policyBy (a .rules .head) (a .authorized .now) (exclusionsIn (a .xs .now) (a .rules .count))) (a .user)) _ (r .sound-line) in
     (omega (arith, n, k), omega (arith, b, ap (λ (x : Line). x .opened) l))
 
 put-line-requires : tie.Need-put-line-requires
 put-line-requires c κs =
     let f = c .before .before .before .before .before .before .before .before in
     let a = f .before .before .before .args in
-    room-for 4 (a .rules .head) (a .assigned .now) (exclusionsIn (a .xs .now) (a .rules .count)) (a .ledger .now) (a .user) _ (f .first-refusal .ensures) (c .before .before .before .before .before .before .before .if1 .left)
+    room-for 4 (a .rules .head) (a .authorized .now) (exclusionsIn (a .xs .now) (a .rules .count)) (a .ledger .now) (a .user) _ (f .first-refusal .ensures) (c .before .before .before .before .before .before .before .if1 .left)
 
 mul-result : tie.Need-mul-result
 unfolding lineOf
@@ -63,8 +63,8 @@ mul-result c =
     let f = c .before .before .before .before .before .before .before .before .before .before .before in
     let a = f .before .before .before .args in
     let l = c .before .before .before .before .before .before .before .before .line-of .ensures in
-    let r = ready-by 4 (a .rules .head) (a .assigned .now) (exclusionsIn (a .xs .now) (a .rules .count)) (a .ledger .now) (a .user) _ (f .first-refusal .ensures) (c .before .before .before .before .before .before .before .before .before .before .if1 .left) in
-    let n = may-open 4 (policyBy (a .rules .head) (a .assigned .now) (exclusionsIn (a .xs .now) (a .rules .count))) (a .ledger .now) (a .user) (omega arith) r
+    let r = ready-by 4 (a .rules .head) (a .authorized .now) (exclusionsIn (a .xs .now) (a .rules .count)) (a .ledger .now) (a .user) _ (f .first-refusal .ensures) (c .before .before .before .before .before .before .before .before .before .before .if1 .left) in
+    let n = may-open 4 (policyBy (a .rules .head) (a .authorized .now) (exclusionsIn (a .xs .now) (a .rules .count))) (a .ledger .now) (a .user) (omega arith) r
     (λ e. c .before .before .before .before .before .before .if2 .left (c .before .before .before .before .before .before .before .size .ensures ∙ ap (λ (x : Line). count 64 (x .opened)) l ∙ e)) in
     let k = c .before .before .before .before .before .lowest-closed .ensures ∙ ap (λ (x : Line). lowestClosed x 0 4) l in
     omega (arith, n, k)
@@ -75,7 +75,7 @@ returns-3 c p h =
     let f = c .before .before .before .before .before .before .before .before .before .before .before in
     let a = f .before .before .before .args in
     let l = c .before .before .before .before .before .before .before .before .line-of .ensures in
-    let r = ready-for 4 (a .rules .head) (a .assigned .now) (exclusionsIn (a .xs .now) (a .rules .count)) (a .ledger .now) (a .user) _ (f .first-refusal .ensures) (c .before .before .before .before .before .before .before .before .before .before .if1 .left) p h in
+    let r = ready-for 4 (a .rules .head) (a .authorized .now) (exclusionsIn (a .xs .now) (a .rules .count)) (a .ledger .now) (a .user) _ (f .first-refusal .ensures) (c .before .before .before .before .before .before .before .before .before .before .if1 .left) p h in
     let g = open0 4 p (a .ledger .now) (a .user) (omega arith) r
     (λ e. c .before .before .before .before .before .before .if2 .left (c .before .before .before .before .before .before .before .size .ensures ∙ ap (λ (x : Line). count 64 (x .opened)) l ∙ e)) in
     let k = c .before .before .before .before .before .lowest-closed .ensures ∙ ap (λ (x : Line). lowestClosed x 0 4) l in

@@ -32,21 +32,21 @@ returns-2 : tie.Need-returns-2
 returns-2 c p h eg ej =
     let f = c .before .before in
     let a = f .before .before .before .args in
-    let r = ready-for 4 (a .rules .head) (a .assigned .now) (exclusionsIn (a .xs .now) (a .rules .count)) (a .ledger .now) (a .window .user) _ (f .first-refusal .ensures) (c .before .if1 .left) p h in
+    let r = ready-for 4 (a .rules .head) (a .authorized .now) (exclusionsIn (a .xs .now) (a .rules .count)) (a .ledger .now) (a .window .user) _ (f .first-refusal .ensures) (c .before .if1 .left) p h in
     show12 4 p (a .ledger .now) (a .window .user) (a .window .session) (a .answer .now) r (c .if2 .taken)
 
 line-of-requires : tie.Need-line-of-requires
 line-of-requires c κs =
     let f = c .before .before in
     let a = f .before .before .before .args in
-    room-for 4 (a .rules .head) (a .assigned .now) (exclusionsIn (a .xs .now) (a .rules .count)) (a .ledger .now) (a .window .user) _ (f .first-refusal .ensures) (c .before .if1 .left)
+    room-for 4 (a .rules .head) (a .authorized .now) (exclusionsIn (a .xs .now) (a .rules .count)) (a .ledger .now) (a .window .user) _ (f .first-refusal .ensures) (c .before .if1 .left)
 
 returns-3 : tie.Need-returns-3
 unfolding lineOf
 returns-3 c p h eg ej =
     let f = c .before .before .before .before .before in
     let a = f .before .before .before .args in
-    let r = ready-for 4 (a .rules .head) (a .assigned .now) (exclusionsIn (a .xs .now) (a .rules .count)) (a .ledger .now) (a .window .user) _ (f .first-refusal .ensures) (c .before .before .before .before .if1 .left) p h in
+    let r = ready-for 4 (a .rules .head) (a .authorized .now) (exclusionsIn (a .xs .now) (a .rules .count)) (a .ledger .now) (a .window .user) _ (f .first-refusal .ensures) (c .before .before .before .before .if1 .left) p h in
     show13 4 p (a .ledger .now) (a .window .user) (a .window .session) (a .answer .now) r (c .before .before .before .if2 .left)
     (ap (λ (x : Line). isOpen x (a .window .session)) (sym (c .before .before .line-of .ensures)) ∙ sym (c .before .is-open .ensures) ∙ not-true _ (c .if3 .taken))
 
@@ -55,7 +55,7 @@ unfolding lineOf
 returns-4 c p h eg ej =
     let f = c .before .before .before .before .before .before in
     let a = f .before .before .before .args in
-    let r = ready-for 4 (a .rules .head) (a .assigned .now) (exclusionsIn (a .xs .now) (a .rules .count)) (a .ledger .now) (a .window .user) _ (f .first-refusal .ensures) (c .before .before .before .before .before .if1 .left) p h in
+    let r = ready-for 4 (a .rules .head) (a .authorized .now) (exclusionsIn (a .xs .now) (a .rules .count)) (a .ledger .now) (a .window .user) _ (f .first-refusal .ensures) (c .before .before .before .before .before .if1 .left) p h in
     show19 4 p (a .ledger .now) (a .window .user) (a .window .session) (a .answer .now) r (c .before .before .before .before .if2 .left)
     (ap (λ (x : Line). isOpen x (a .window .session)) (sym (c .before .before .before .line-of .ensures)) ∙ sym (c .before .before .is-open .ensures)
     ∙ not-false _ (c .before .if3 .left)) (c .if4 .taken)
@@ -70,7 +70,7 @@ returns-5 c p h eg ej =
     let f = n .before .before .before in
     let a = f .before .before .before .args in
     let l = n .line-of .ensures in
-    let r = ready-for 4 (a .rules .head) (a .assigned .now) (exclusionsIn (a .xs .now) (a .rules .count)) (a .ledger .now) (a .window .user) _ (f .first-refusal .ensures) (n .before .before .if1 .left) p h in
+    let r = ready-for 4 (a .rules .head) (a .authorized .now) (exclusionsIn (a .xs .now) (a .rules .count)) (a .ledger .now) (a .window .user) _ (f .first-refusal .ensures) (n .before .before .if1 .left) p h in
     let g = show0 4 p (a .ledger .now) (a .window .user) (a .window .session) (a .answer .now) r (n .before .if2 .left)
     (ap (λ (x : Line). isOpen x (a .window .session)) (sym l) ∙ sym (o .is-open .ensures) ∙ not-false _ (t .before .if3 .left)) (t .if4 .left) in
     let s = ap (λ (x : Line). sessionAt x (a .window .session) .active) l in

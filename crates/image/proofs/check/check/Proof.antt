@@ -4,7 +4,7 @@ use mathlib.Core.Path.{sym, ap, _∙_}
 use borrow.Author.Needs.{needs}
 use Rattle.model.specs.Image.{headRight}
 use Rattle.image.proofs.Judged.{never, odd-length, short-length, long-length, wrong-head, right-head}
-use Rattle.image.proofs.Turns.{juniors-of}
+use Rattle.image.proofs.Turns.{assigned-of, juniors-of}
 use Rattle.image.proofs.check.check.Statement.{statement}
 use Rattle.image.proofs.check.check.Tie as tie
 
@@ -22,14 +22,14 @@ returns-3 c = (
 
 returns-4 : tie.Need-returns-4
 returns-4 c =
-    let h = c .before .before in
+    let h = c .before .before .before in
     let w = h .before .before .before in
     let a = w .before .before .before .before .before in
     let s = a .args .image .now in
     let j = right-head s (w .before .before .before .if1 .left) (w .before .before .if2 .left) (w .before .if3 .left)
     (ap headRight (sym (w .word-at .ensures)) ∙ sym (h .before .before .head-right .ensures) ∙ h .before .if4 .taken) in (
-      simp (h .head-of .ensures, w .word-at .ensures) at (c .check-words .ensures .0) ∙ sym j,
-      λ g e. c .check-words .ensures .1 g e ∙ juniors-of s _ (a .pre),
+      simp (h .head-of .ensures, w .word-at .ensures, a .pre .0) at (c .check-words .ensures .0) ∙ sym j,
+      λ g e. let k = c .check-words .ensures .1 g e in (k .0 ∙ assigned-of s _ (a .pre .0), k .1 ∙ juniors-of s _ (a .pre .1)),
     )
 
 returns-5 : tie.Need-returns-5

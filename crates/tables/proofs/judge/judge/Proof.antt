@@ -9,13 +9,13 @@ use Rattle.tables.proofs.judge.judge.Tie as tie
 
 check-requires : tie.Need-check-requires
 unfolding emptyRows
-check-requires c κs = refl
+check-requires c κs = (refl, refl)
 
 judged-requires : tie.Need-judged-requires
-judged-requires c κs = let k = c .before .check .ensures in words-fit _ _ (k .0) _ (k .1)
+judged-requires c κs = let k = c .before .before .check .ensures in words-fit _ _ (k .0) _ _ (k .1)
 
 returns : tie.Need-returns
-returns c = let k = c .before .before .check .ensures in read-judged _ _ (k .0) _ (k .1) _ _ (c .judged .ensures)
+returns c = let k = c .before .before .before .check .ensures in read-judged _ _ (k .0) _ _ (k .1) _ _ _ (c .judged .ensures)
 
 pub judge-spec : {M : Type 1} → statement M
 judge-spec = tie.close (tie.spec check-requires judged-requires returns)

@@ -1,4 +1,4 @@
--- `tables::carried::reached_by` meets its contract. The loop's invariant: the roles so far are joined, those of the members to come are not.
+-- `hierarchy::reach::reached_by` meets its contract. The loop's invariant: the roles so far are joined, those of the members to come are not.
 -- Assumes nothing.
 use mathlib.Core.Path.{refl, ap, _∙_}
 use lib.ListN.{getD}
@@ -6,14 +6,14 @@ use borrow.Author.Needs.{needs}
 use Rattle.model.specs.Sets.{union, count, unionAt}
 use Rattle.model.specs.Policy.{withSelves}
 use Rattle.sets.proofs.Unions.{Joins, joins-start, joins-next, joins-less, joins-end}
-use Rattle.tables.proofs.carried.reached_by.Statement.{statement}
-use Rattle.tables.proofs.carried.reached_by.Tie as tie
+use Rattle.hierarchy.proofs.reach.reached_by.Statement.{statement}
+use Rattle.hierarchy.proofs.reach.reached_by.Tie as tie
 
 abbrev Inv-loop : tie.InvT-loop
-Inv-loop rows set left₀ all₀ left all = Joins (λ r. getD (withSelves rows) r 0) set left all
+Inv-loop below set left₀ all₀ left all = Joins (λ r. getD (withSelves below) r 0) set left all
 
 abbrev μ-loop : tie.MeasureT-loop
-μ-loop rows set left₀ all₀ left all = count 64 left
+μ-loop below set left₀ all₀ left all = count 64 left
 
 loop-holds : tie.Need-loop-holds Inv-loop μ-loop
 loop-holds c = joins-start _ _ _ refl (c .fits .set .fits)
