@@ -62,7 +62,8 @@ enum nutrameza_number {
     NUTRAMEZA_ROOM = 19,       /* answer buffer not 40 bytes; chain buffer not 64 bytes */
     NUTRAMEZA_NONE = 20,       /* no admissible role set; no loop; no active role carries the permission */
     NUTRAMEZA_SCRIPT = 21,     /* unreadable line, given by the program nutrameza_script alone */
-    NUTRAMEZA_LOOP = 22        /* image: senior words lead from a role back to it; tested after 8 and before 9 */
+    NUTRAMEZA_LOOP = 22,       /* image: senior words lead from a role back to it; tested after 8 and before 9 */
+    NUTRAMEZA_REACH = 23       /* image: a user may activate more than 16 roles; tested after 22 and before 9 */
 };
 
 /* Aims of an ask. */
@@ -78,8 +79,9 @@ enum nutrameza_exclusion_kind {
 };
 
 /* A call returns its number plus 256 times its extra: the place of the refused word for 1 to 8 (the head is
- * place 0), the lowest role on a loop for 22, the session that a done open took, the length of the chain that a done
- * loop call gave, 64 times a role plus its granting role of a done explain, else 0. */
+ * place 0), the lowest role on a loop for 22, the lowest user who may activate more than 16 roles for 23, the session
+ * that a done open took, the length of the chain that a done loop call gave, 64 times a role plus its granting role of
+ * a done explain, else 0. */
 static inline unsigned nutrameza_number_of(uint64_t returned) { return (unsigned)(returned % 256); }
 static inline uint64_t nutrameza_extra_of(uint64_t returned) { return returned / 256; }
 
@@ -99,6 +101,7 @@ static inline const char *nutrameza_word_of(unsigned number)
     static const char *const words[] = {
         "done", "length", "head", "kind", "spare", "range", "repeat", "crowd", "balance", "ledger", "person",
         "line", "session", "closed", "full", "set", "permission", "bounds", "aim", "room", "none", "script", "loop",
+        "reach",
     };
     return number < sizeof words / sizeof words[0] ? words[number] : "unknown";
 }
@@ -143,7 +146,7 @@ static inline uint32_t nutrameza_head_word(uint32_t users, uint32_t roles, uint3
     return UINT32_C(1) << 28 | users << 21 | roles << 14 | permissions << 5;
 }
 
-/* The user may switch the role on. */
+/* The user may switch the role on, and every role below it. */
 static inline uint32_t nutrameza_assignment_word(uint32_t user, uint32_t role)
 {
     if (user > 63 || role > 63)
@@ -159,7 +162,8 @@ static inline uint32_t nutrameza_grant_word(uint32_t role, uint32_t permission)
     return UINT32_C(3) << 28 | role << 22 | permission << 14;
 }
 
-/* The senior role carries what the junior one carries. No chain of these may lead from a role back to it. */
+/* The senior role carries what the junior one carries, and whoever may activate it may activate the junior one. No
+ * chain of these may lead from a role back to it. */
 static inline uint32_t nutrameza_senior_word(uint32_t senior, uint32_t junior)
 {
     if (senior > 63 || junior > 63)
@@ -206,7 +210,7 @@ static inline void nutrameza_write_words(uint8_t *image, const uint32_t *words, 
         nutrameza_write_word(image + NUTRAMEZA_WORD_BYTES * place, words[place]);
 }
 
-/* Check judges an image: 0, 1 to 8 or 22. */
+/* Check judges an image: 0, 1 to 8, 22 or 23. */
 uint64_t nutrameza_check(const uint8_t *image, size_t image_len);
 
 /* Loop shows why an image is refused by 22: it fills the chain, 64 bytes, with a shortest chain of senior words from
@@ -215,19 +219,19 @@ uint64_t nutrameza_check(const uint8_t *image, size_t image_len);
  * its length. Refusals 1 to 8, 19, and 20 exactly if there is no loop. */
 uint64_t nutrameza_loop(const uint8_t *image, size_t image_len, uint8_t *chain, size_t chain_len);
 
-/* The calls below judge the image first, as check does: 1 to 8, then 22, then the others by number.
+/* The calls below judge the image first, as check does: 1 to 8, then 22 and 23, then the others by number.
  *
- * Open takes the user's lowest closed session, empty; the extra is that session. Refusals 1 to 8, 22, 9 to 11
+ * Open takes the user's lowest closed session, empty; the extra is that session. Refusals 1 to 8, 22, 23, 9 to 11
  * and 14. */
 uint64_t nutrameza_open(const uint8_t *image, size_t image_len, uint8_t *ledger, size_t ledger_len, uint64_t user);
 
-/* Close ends a session; what was active in it stays in the user's history. Refusals 1 to 8, 22, 9 to 13. */
+/* Close ends a session; what was active in it stays in the user's history. Refusals 1 to 8, 22, 23, 9 to 13. */
 uint64_t nutrameza_close(const uint8_t *image, size_t image_len, uint8_t *ledger, size_t ledger_len, uint64_t user,
                          uint64_t session);
 
 /* Ask replaces the session's active roles by the best set that carries all of the lower bound and nothing outside
  * the upper, and fills the answer: 8 bytes of roles, 32 of what they carry. Permission p is bit p mod 8 of byte
- * p div 8. Refusals 1 to 8, 22, 9 to 13 and 15 to 20. */
+ * p div 8. Refusals 1 to 8, 22, 23, 9 to 13 and 15 to 20. */
 uint64_t nutrameza_ask(const uint8_t *image, size_t image_len, uint8_t *ledger, size_t ledger_len, uint64_t user,
                        uint64_t session, const uint8_t *lower, size_t lower_len, const uint8_t *upper, size_t upper_len,
                        uint64_t permission_aim, uint64_t role_aim, uint8_t *answer, size_t answer_len);
@@ -239,7 +243,7 @@ uint64_t nutrameza_short_ask(const uint8_t *image, size_t image_len, uint8_t *le
                              size_t upper_len, uint8_t *answer, size_t answer_len);
 
 /* Show fills the answer with the session's active roles and what they carry; it changes no ledger byte.
- * Refusals 1 to 8, 22, 9 to 13 and 19. */
+ * Refusals 1 to 8, 22, 23, 9 to 13 and 19. */
 uint64_t nutrameza_show(const uint8_t *image, size_t image_len, const uint8_t *ledger, size_t ledger_len, uint64_t user,
                         uint64_t session, uint8_t *answer, size_t answer_len);
 

@@ -324,6 +324,27 @@ class Checking(unittest.TestCase):
             first = roles.index(min(roles))
             self.assertEqual(policy.find_loop(pairs), [*roles[first:], *roles[:first], min(roles)])
 
+    def test_refuses_a_reach_of_17_roles_by_23_and_its_lowest_user(self):
+        for wide, told in ((16, None), (17, (23, 1)), (40, (23, 1))):
+            head = policy.encode(1, 3, 64, 1)
+            given = [policy.encode(2, 2, 0), policy.encode(2, 1, 0), policy.encode(2, 0, 1)]
+            fan = [policy.encode(4, 0, role) for role in range(1, wide)]
+            chain = [policy.encode(4, role - 1, role) for role in range(1, wide)]
+            self.assertEqual(refusal_of(image(head, *given, *fan)), told)
+            self.assertEqual(refusal_of(image(head, *given[:2], *chain)), told)
+            self.assertIsNone(refusal_of(image(head, given[2], *fan)))
+
+    def test_refuses_a_reach_after_a_loop(self):
+        words = [policy.encode(1, 1, 20, 1), policy.encode(2, 0, 0), *(policy.encode(4, 0, role) for role in range(1, 17))]
+        self.assertEqual(refusal_of(image(*words)), (23, 0))
+        self.assertEqual(refusal_of(image(*words, policy.encode(4, 18, 19), policy.encode(4, 19, 18))), (22, 18))
+
+    def test_counts_a_role_that_two_ways_lead_to_once(self):
+        words = [policy.encode(1, 1, 64, 1), *(policy.encode(2, 0, role) for role in range(8))]
+        words += [policy.encode(4, senior, junior) for senior in range(8) for junior in range(8, 16)]
+        self.assertIsNone(refusal_of(image(*words)))
+        self.assertEqual(refusal_of(image(*words, policy.encode(4, 15, 63))), (23, 0))
+
     def test_the_earliest_bad_word_decides_then_the_lower_number(self):
         self.refuses((5, 1), 0x20030000, 0x70000000)
         self.refuses((4, 1), 0x20030001)
@@ -414,6 +435,18 @@ class Commands(unittest.TestCase):
         told = "22 loop at role 5: Doctor over Consultant over role9 over Doctor\n"
         self.assertEqual(self.run_tool("check", bad, names), (1, told, ""))
 
+    def test_check_names_the_user_of_a_reach_by_number_and_by_the_name_of_a_text(self):
+        words = [policy.encode(1, 2, 20, 1), policy.encode(2, 1, 0), *(policy.encode(4, 0, role) for role in range(1, 18))]
+        bad = self.path("bad", image(*words))
+        self.assertEqual(self.run_tool("check", bad), (1, "23 reach at user 1: user1 may switch on 18 roles, and 16 is the most\n", ""))
+        names = self.path("names", b"user ANNA\nuser HEAD\n")
+        self.assertEqual(self.run_tool("check", bad, names), (1, "23 reach at user 1: HEAD may switch on 18 roles, and 16 is the most\n", ""))
+
+    def test_build_writes_nothing_for_a_reach_of_17_roles_and_names_the_line(self):
+        text = self.path("text", b"user ANNA\nrole Head " + b" ".join(b"R%d" % n for n in range(16)) + b"\npermission P\nassign ANNA Head\n"
+                         + b"senior Head " + b" ".join(b"R%d" % n for n in range(15)) + b"\nsenior R3 R15\nsenior R4 R15\n")
+        self.assertEqual(self.run_tool("build", text), (1, "", f"{text}:6: reach: ANNA may switch on 17 roles, and 16 is the most\n"))
+
     def test_build_writes_nothing_for_a_loop(self):
         lines = b"user A\nrole Doctor Consultant\npermission P\nsenior Doctor Consultant\nsenior Consultant Doctor\n"
         text = self.path("p.txt", lines)
@@ -447,7 +480,7 @@ class Commands(unittest.TestCase):
     def test_help_describes_the_text_form(self):
         with contextlib.redirect_stdout(io.StringIO()) as out, self.assertRaises(SystemExit):
             policy.main(["--help"])
-        for word in [*policy.SORTS, *policy.ENTRIES, *policy.EXCLUSION_KINDS, "loop", "22"]:
+        for word in [*policy.SORTS, *policy.ENTRIES, *policy.EXCLUSION_KINDS, "loop", "22", "reach", "23"]:
             self.assertIn(word, out.getvalue())
 
 

@@ -1,5 +1,5 @@
 //! The check on the largest image; open, close, show and explain on a small and on the largest one; check, open, explain, ask and
-//! short ask over a deep hierarchy; the loop call.
+//! short ask over a deep hierarchy; open, show and ask of a user with one role over fifteen; the loop call.
 
 use crate::{plain, timing};
 use nutrameza_tests::gen::{policy, Rng};
@@ -7,15 +7,20 @@ use nutrameza_tests::kit::{self, Empty};
 use nutrameza_tests::{ward, words};
 use std::hint::black_box;
 
-/// An accepted image of 4,096 words: 64 users, 64 roles, 256 permissions, 32 exclusions; entries by kind or in any order.
+/// An accepted image of 4,096 words: 64 users, 64 roles, 256 permissions, 32 exclusions; entries by kind or in any order. The roles are
+/// four groups of 16 with senior words in each, and a user may activate those of a group.
 pub fn largest(in_order: bool) -> Vec<u8> {
     let mut rng = Rng::new(4096);
     let mut draft = policy::Draft::blank(64, 64, 256);
+    let roles = draft.some_roles(&mut rng, 64);
+    let groups: Vec<&[u32]> = roles.chunks(16).collect();
     for user in 0..64 {
-        draft.assign(&mut rng, user, 16);
+        let group = rng.pick(&groups);
+        draft.entries.extend(group.iter().map(|role| vec![words::assignment(user, *role)]));
     }
     for _ in 0..200 {
-        draft.order(&mut rng);
+        let group = rng.pick(&groups);
+        draft.order_of(&mut rng, group);
     }
     for _ in 0..32 {
         let members = draft.some_roles(&mut rng, 8);
@@ -32,14 +37,14 @@ pub fn largest(in_order: bool) -> Vec<u8> {
 }
 
 /// An image of 4,096 words over a deep hierarchy: the 64 roles stand one below the other, and some 2,000 more senior words lead
-/// further down. The last role alone carries half of the permissions. Where `back` is set, the lowest role closes a loop of them all.
+/// further down. The users have the lowest 16. The last role alone carries half of the permissions. Where `back` is set, the lowest role
+/// closes a loop of them all.
 fn deep(back: bool) -> Vec<u8> {
     let mut rng = Rng::new(64);
     let mut draft = policy::Draft::blank(64, 64, 256);
     let roles = draft.some_roles(&mut rng, 64);
-    for user in 0..64 {
-        draft.assign(&mut rng, user, 16);
-    }
+    let lowest = &roles[48..];
+    draft.entries.extend((0..64).flat_map(|user| lowest.iter().map(move |role| vec![words::assignment(user, *role)])));
     draft.entries.extend(roles.windows(2).map(|pair| vec![words::senior(pair[0], pair[1])]));
     if back {
         draft.entries.push(vec![words::senior(roles[63], roles[0])]);
@@ -53,7 +58,7 @@ fn deep(back: bool) -> Vec<u8> {
     }
     draft.entries.extend((0..128).map(|permission| vec![words::grant(roles[63], permission)]));
     while draft.length() < words::MOST_WORDS {
-        let role = rng.pick(&roles[..8]);
+        let role = rng.pick(&lowest[..8]);
         draft.grant(&mut rng, role);
     }
     rng.shuffle(&mut draft.entries);
@@ -208,11 +213,22 @@ fn line(roles: u64) -> [u8; 80] {
     line
 }
 
-/// The lowest roles assigned to a user of an image, no more than three: few enough for every exclusion of `largest`.
+/// An image of 64 users who have one role each, which stands over fifteen others, and a permission for each role.
+#[cfg(feature = "calls")]
+fn over_fifteen() -> Vec<u8> {
+    let mut draft = policy::Draft::blank(64, 64, 256);
+    draft.entries.extend((0..64).map(|user| vec![words::assignment(user, 0)]));
+    draft.entries.extend((1..16).map(|role| vec![words::senior(0, role)]));
+    draft.entries.extend((0..64).map(|role| vec![words::grant(role, 2 * role + 1)]));
+    Rng::new(16).shuffle(&mut draft.entries);
+    words::bytes(&draft.words())
+}
+
+/// The lowest roles that a user of an image may activate, no more than three: few enough for every exclusion of `largest`.
 #[cfg(feature = "calls")]
 fn some_own_roles(image: &[u8], user: usize) -> u64 {
     let policy = nutrameza_tests::solver::image::judge(image).expect("the image is accepted");
-    policy.assigned[user].iter().take(3).map(|role| 1 << role).sum()
+    policy.authorized(user).iter().take(3).map(|role| 1 << role).sum()
 }
 
 /// The highest permission that a set of roles carries in an image.
@@ -223,7 +239,8 @@ fn last_carried(image: &[u8], roles: u64) -> u64 {
     (0..policy.roles).filter(|role| roles >> role & 1 == 1).filter_map(last).max().expect("the roles carry a permission") as u64
 }
 
-/// Times open, close, show and explain; open, explain, ask and short ask over a deep hierarchy.
+/// Times open, close, show and explain; open, explain, ask and short ask over a deep hierarchy; open, show and ask of a user with
+/// one role over fifteen.
 #[cfg(feature = "calls")]
 pub fn calls() {
     let deep = deep(false);
@@ -241,11 +258,19 @@ pub fn calls() {
         #[cfg(feature = "asks")]
         Call::ShortAsk,
     ];
+    let one_role = [
+        Call::Open,
+        Call::Show,
+        #[cfg(feature = "asks")]
+        Call::Ask,
+    ];
+    let above = over_fifteen();
     let images = [
         (("13 words", ward::image_a(), 1, 1), None),
         (large("4,096 words, by kind", true), None),
         (large("4,096 words, in any order", false), None),
         (("4,096 words, deep hierarchy", deep.clone(), 64, some_own_roles(&deep, 63)), Some(&over_deep[..])),
+        (("one role over fifteen", above.clone(), 64, some_own_roles(&above, 63)), Some(&one_role[..])),
     ];
     for ((size, image, users, roles), calls) in images {
         let each = [Call::Open, Call::Close, Call::Show, Call::Explain(last_carried(&image, roles))];

@@ -71,6 +71,18 @@ def looped(dice):
     return policy.to_bytes([*words, policy.end_word(words)])
 
 
+def wide(dice):
+    """An image whose users reach about 16 roles, each below a role that is assigned or reached before it."""
+    words = [policy.encode(1, 3, 64, 1)]
+    for user in range(3):
+        roles = dice.sample(range(64), dice.choice([1, 15, 16, 17]))
+        assigned = dice.randrange(1, min(len(roles), 16) + 1)
+        words += [policy.encode(2, user, role) for role in roles[:assigned]]
+        if dice.randrange(3):
+            words += [policy.encode(4, dice.choice(roles[:place]), roles[place]) for place in range(assigned, len(roles))]
+    return policy.to_bytes([*words, policy.end_word(words)])
+
+
 def crowded(dice):
     """An image with about as many roles of a user and exclusions as may be."""
     words = [policy.encode(1, 2, 20, 3)]
@@ -84,7 +96,7 @@ def main(folder, count):
     dice = random.Random(1)
     with open(os.path.join(folder, "expected"), "w", encoding="ascii") as expected:
         for number in range(count):
-            data = {0: crowded, 10: looped}.get(number % 20, sample)(dice)
+            data = {0: crowded, 5: wide, 10: looped}.get(number % 20, sample)(dice)
             with open(os.path.join(folder, f"{number:05}"), "wb") as file:
                 file.write(data)
             try:

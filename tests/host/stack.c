@@ -1,5 +1,5 @@
-/* Long and deep asks, on a thread whose stack is 64 KiB: a user with 16 roles, 64 roles in 16 chains of seniors,
-   256 permissions, 32 exclusions, under each pair of aims. Prints 'done' if every ask is answered. */
+/* Long and deep asks, on a thread whose stack is 64 KiB: a user of 16 roles, 64 roles in 16 chains of seniors, 256
+   permissions, 32 exclusions, under each pair of aims. Prints 'done' if every ask is answered. */
 #define _POSIX_C_SOURCE 200809L
 #include <pthread.h>
 #include <stdio.h>
@@ -13,13 +13,14 @@ static size_t image_len;
 static uint8_t ledger[NUTRAMEZA_LINE_BYTES];
 static int answered;
 
-/* Own role k is role 4k, and carries the permissions k, k + 16, .., 255; the roles from 4k up to 4k + 3 form a chain. */
+/* The roles from 4k up to 4k + 3 form a chain. The user has the first roles of four chains, and so may activate the roles below
+   16; role k of them is granted the permissions k, k + 16, .., up to 255. */
 static void make_image(void) {
     static uint32_t words[NUTRAMEZA_MAX_WORDS];
     size_t n = 0;
     words[n++] = nutrameza_head_word(1, 64, 256);
     for (uint32_t role = 0; role < 64; role++) {
-        if (role % 4 == 0) {
+        if (role % 4 == 0 && role < OWN) {
             words[n++] = nutrameza_assignment_word(0, role);
         }
         if (role % 4 != 3) {
@@ -27,7 +28,7 @@ static void make_image(void) {
         }
     }
     for (uint32_t permission = 0; permission < 256; permission++) {
-        words[n++] = nutrameza_grant_word(permission % OWN * 4 + 3, permission);
+        words[n++] = nutrameza_grant_word(permission % OWN, permission);
     }
     for (uint32_t k = 0; k < NUTRAMEZA_MAX_EXCLUSIONS; k++) {
         words[n++] = nutrameza_exclusion_word(k % 4, 64, 64);

@@ -42,7 +42,7 @@ static void test_words(void) {
 }
 
 static void test_returned_values(void) {
-    const char *last = nutrameza_word_of(NUTRAMEZA_LOOP);
+    const char *last = nutrameza_word_of(NUTRAMEZA_REACH);
     same("number", nutrameza_number_of(5u + 256u * 3u), NUTRAMEZA_RANGE);
     same("extra", nutrameza_extra_of(5u + 256u * 3u), 3);
     same("number of done", nutrameza_number_of(256u * 2u), NUTRAMEZA_DONE);
@@ -56,8 +56,9 @@ static void test_returned_values(void) {
     same("word of 14", (uint64_t)strcmp(nutrameza_word_of(NUTRAMEZA_FULL), "full"), 0);
     same("word of 20", (uint64_t)strcmp(nutrameza_word_of(NUTRAMEZA_NONE), "none"), 0);
     same("word of 21", (uint64_t)strcmp(nutrameza_word_of(NUTRAMEZA_SCRIPT), "script"), 0);
-    same("word of 22", (uint64_t)strcmp(last, "loop"), 0);
-    same("word of 23", (uint64_t)strcmp(nutrameza_word_of(23), "unknown"), 0);
+    same("word of 22", (uint64_t)strcmp(nutrameza_word_of(NUTRAMEZA_LOOP), "loop"), 0);
+    same("word of 23", (uint64_t)strcmp(last, "reach"), 0);
+    same("word of 24", (uint64_t)strcmp(nutrameza_word_of(24), "unknown"), 0);
 }
 
 static void test_sets(void) {

@@ -37,9 +37,9 @@ impl Tally {
 
     /// Sees an answer number.
     pub fn see_number(&mut self, number: u64) {
-        const NAMES: [&str; 23] = [
+        const NAMES: [&str; 24] = [
             "0", "1", "2", "3", "4", "5", "6", "7", "8", "9", "10", "11", "12", "13", "14", "15", "16", "17", "18", "19", "20",
-            "21", "22",
+            "21", "22", "23",
         ];
         self.see(NAMES.get(number as usize).copied().unwrap_or("other"));
     }

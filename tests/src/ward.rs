@@ -148,7 +148,7 @@ pub fn cases() -> Vec<Case> {
         "an explain names the lowest active role and the lowest granting role at or below it",
         two_grants(),
         vec![open(), explain(0, 0), ask(0, 1, 1, (0, 2)), explain(0, 0), explain(0, 1), explain(0, 2), explain(1, 2), show(0)],
-        vec![opened, none, (0, 0, 12, 1), (0, 2 * 64 + 1, 0, 0), none, (16, 0, 0, 0), (13, 0, 0, 0), (0, 0, 12, 1)],
+        vec![opened, none, (0, 0, 14, 1), (0, 64 + 1, 0, 0), none, (16, 0, 0, 0), (13, 0, 0, 0), (0, 0, 14, 1)],
     ));
     for (objectives, roles, carried) in [((2, 0), 3, 0xf), ((2, 2), 7, 0xf), ((1, 2), 1, 0x5)] {
         let calls = vec![open(), ask(0, 0x1, 0xf, objectives)];

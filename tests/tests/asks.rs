@@ -10,8 +10,8 @@ use nutrameza_tests::solver::policy::Policy;
 use nutrameza_tests::{ward, words};
 
 /// The numbers that an ask can give.
-const NUMBERS: [&str; 21] =
-    ["0", "1", "2", "3", "4", "5", "6", "7", "8", "9", "10", "11", "12", "13", "15", "16", "17", "18", "19", "20", "22"];
+const NUMBERS: [&str; 22] =
+    ["0", "1", "2", "3", "4", "5", "6", "7", "8", "9", "10", "11", "12", "13", "15", "16", "17", "18", "19", "20", "22", "23"];
 
 fn open(user: u64) -> Call {
     Call::Open { user }
@@ -165,7 +165,7 @@ fn see_search(tally: &mut Tally, policy: &Policy, call: &Call, played: &Played) 
         tally.see("empty upper bounds");
     }
     let upper = read_permissions(upper);
-    let own = &policy.assigned[user as usize];
+    let own = &policy.authorized(user as usize);
     if own.iter().any(|role| policy.carried_by(*role).into_iter().any(|permission| !upper[permission])) {
         tally.see("roles cut");
     }

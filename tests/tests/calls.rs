@@ -10,8 +10,8 @@ use nutrameza_tests::solver::policy::Policy;
 use nutrameza_tests::{ward, words};
 
 /// The numbers that open, close, show and explain can give.
-const NUMBERS: [&str; 19] =
-    ["0", "1", "2", "3", "4", "5", "6", "7", "8", "9", "10", "11", "12", "13", "14", "16", "19", "20", "22"];
+const NUMBERS: [&str; 20] =
+    ["0", "1", "2", "3", "4", "5", "6", "7", "8", "9", "10", "11", "12", "13", "14", "16", "19", "20", "22", "23"];
 
 /// The answers of calls under image A, from this line.
 fn answers(line: [u8; 80], calls: &[Call]) -> Vec<(u64, u64)> {

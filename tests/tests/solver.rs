@@ -67,6 +67,32 @@ fn refuses_a_loop_by_its_lowest_role_and_accepts_a_hierarchy_without_one() {
     assert_eq!(refused(2, &[]), None);
 }
 
+/// A policy of three users and these senior pairs, with these assignments.
+fn assigned(pairs: &[(u32, u32)], assignments: &[(u32, u32)]) -> Vec<u8> {
+    let mut image = vec![words::head(3, 20, 1)];
+    image.extend(pairs.iter().map(|(senior, junior)| words::senior(*senior, *junior)));
+    image.extend(assignments.iter().map(|(user, role)| words::assignment(*user, *role)));
+    words::bytes(&words::closed(image))
+}
+
+#[test]
+fn a_user_may_activate_the_roles_below_an_assigned_one_and_no_other() {
+    let policy = judge(&assigned(&[(0, 1), (1, 2), (3, 1), (2, 5)], &[(0, 1), (1, 3), (1, 4)])).expect("it is accepted");
+    assert_eq!(policy.authorized(0).into_iter().collect::<Vec<_>>(), [1, 2, 5]);
+    assert_eq!(policy.authorized(1).into_iter().collect::<Vec<_>>(), [1, 2, 3, 4, 5]);
+    assert!(policy.authorized(2).is_empty());
+}
+
+#[test]
+fn refuses_a_reach_of_seventeen_by_its_lowest_user_and_after_a_loop() {
+    let chain: Vec<(u32, u32)> = (0..16).map(|role| (role, role + 1)).collect();
+    let refused = |assignments| judge(&assigned(&chain, assignments)).err();
+    assert_eq!(refused(&[(2, 0), (1, 0), (0, 1)]), Some(Refused { number: 23, extra: 1 }));
+    assert_eq!(refused(&[(2, 1), (1, 2), (0, 16)]), None);
+    let looped: Vec<(u32, u32)> = chain.iter().copied().chain([(9, 8)]).collect();
+    assert_eq!(judge(&assigned(&looped, &[(2, 0)])).err(), Some(Refused { number: 22, extra: 8 }));
+}
+
 #[test]
 fn a_word_out_of_order_comes_before_a_loop() {
     let mut image = hierarchy(2, &[(0, 1), (1, 0)]);

@@ -94,7 +94,7 @@ fn some(rng: &mut Rng, set: &Permissions) -> Permissions {
 /// What some of the user's roles carry together.
 fn carried(rng: &mut Rng, policy: &Policy, user: usize, left_out: u64) -> Permissions {
     let mut set = Permissions::new();
-    for role in &policy.assigned[user] {
+    for role in &policy.authorized(user) {
         if !rng.one_in(left_out) {
             set.extend(policy.carried_by(*role));
         }

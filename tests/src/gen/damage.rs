@@ -1,5 +1,6 @@
 //! Damaged images: each refusal of the check aimed at, and damage at random.
 
+use super::hierarchy::reaching;
 use super::policy::{any, Draft};
 use super::Rng;
 use crate::words;
@@ -7,7 +8,7 @@ use crate::words;
 /// An image for the check: in good order, damaged towards one refusal, or damaged at random.
 pub fn image(rng: &mut Rng) -> Vec<u8> {
     let draft = any(rng);
-    let words = match rng.below(17) {
+    let words = match rng.below(18) {
         0..=1 => return words::bytes(&draft.words()),
         2 => return length(rng, draft),
         3 => head(rng, draft),
@@ -19,6 +20,7 @@ pub fn image(rng: &mut Rng) -> Vec<u8> {
         11 => return balance(rng, draft),
         12 => soup(rng),
         13 => tied(rng, draft),
+        14 => return words::bytes(&reaching(rng).words()),
         _ => return at_random(rng, draft),
     };
     balanced(rng, words)

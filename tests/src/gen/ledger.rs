@@ -30,13 +30,14 @@ pub fn sound_line(rng: &mut Rng, policy: &Policy, user: usize) -> Vec<u8> {
         return bytes;
     }
     let mut line = Line::read(&bytes);
+    let own = policy.authorized(user);
     line.history = some(rng, 3, |role| role < policy.roles);
     for session in &mut line.sessions {
         session.open = !rng.one_in(3);
         if session.open {
             session.history = some(rng, 4, |role| line.history[role]);
             let history = session.history;
-            session.active = some(rng, 3, |role| history[role] && policy.assigned[user].contains(&role));
+            session.active = some(rng, 3, |role| history[role] && own.contains(&role));
         }
     }
     loop {
@@ -57,7 +58,7 @@ pub enum Damage {
     ClosedSession,
     ActiveOutsideHistory,
     HistoryOutsideUsers,
-    NotAssigned,
+    NotAuthorized,
     NoSuchRole,
     Excluded(Kind),
     AnyBit,
@@ -70,7 +71,7 @@ pub const DAMAGES: [Damage; 13] = [
     Damage::ClosedSession,
     Damage::ActiveOutsideHistory,
     Damage::HistoryOutsideUsers,
-    Damage::NotAssigned,
+    Damage::NotAuthorized,
     Damage::NoSuchRole,
     Damage::Excluded(Kind::SessionActive),
     Damage::Excluded(Kind::UserActive),
@@ -108,8 +109,9 @@ pub fn damage(rng: &mut Rng, policy: &Policy, user: usize, bytes: &mut [u8], how
             line.history[role] = false;
             line.write(bytes);
         }
-        Damage::NotAssigned => {
-            let others: Vec<usize> = (0..policy.roles).filter(|role| !policy.assigned[user].contains(role)).collect();
+        Damage::NotAuthorized => {
+            let own = policy.authorized(user);
+            let others: Vec<usize> = (0..policy.roles).filter(|role| !own.contains(role)).collect();
             if !others.is_empty() {
                 activate(&mut line, session, rng.pick(&others));
                 line.write(bytes);
@@ -151,7 +153,8 @@ fn exclude(rng: &mut Rng, policy: &Policy, user: usize, line: &mut Line, kind: K
     let mut members: Vec<usize> = exclusion.members.iter().copied().collect();
     rng.shuffle(&mut members);
     if matches!(exclusion.kind, Kind::SessionActive | Kind::UserActive) {
-        members.retain(|role| policy.assigned[user].contains(role));
+        let own = policy.authorized(user);
+        members.retain(|role| own.contains(role));
     }
     members.truncate(exclusion.limit - usize::from(rng.one_in(4)));
     let one = rng.place(SESSIONS);

@@ -1,4 +1,5 @@
-//! Images that say something in good order: policies of all sizes, entries in any order, repeats, hierarchies without a loop.
+//! Images that say something in good order: policies of all sizes, entries in any order, repeats, hierarchies without a loop in which
+//! no user reaches more than 16 roles.
 
 use super::Rng;
 use crate::words;
@@ -76,25 +77,52 @@ impl Draft {
 
     /// A senior word between two different roles, where there are two, and the way round that closes no loop.
     pub fn order(&mut self, rng: &mut Rng) {
-        if let [one, other] = self.some_roles(rng, 2)[..] {
-            let (senior, junior) = if self.reaches(other, one) { (other, one) } else { (one, other) };
+        let two = self.some_roles(rng, 2);
+        self.order_two(&two);
+    }
+
+    /// The same between two of these roles.
+    pub fn order_of(&mut self, rng: &mut Rng, roles: &[u32]) {
+        let mut roles = roles.to_vec();
+        rng.shuffle(&mut roles);
+        roles.truncate(2);
+        self.order_two(&roles);
+    }
+
+    fn order_two(&mut self, roles: &[u32]) {
+        if let [one, other] = *roles {
+            let below = reached(&self.rows(4), 1 << other);
+            let (senior, junior) = if below >> one & 1 == 1 { (other, one) } else { (one, other) };
             self.entries.push(vec![words::senior(senior, junior)]);
         }
     }
 
-    /// A chain of senior words leads from one role to another.
-    fn reaches(&self, from: u32, to: u32) -> bool {
-        let mut juniors = [0u64; 64];
-        for entry in self.entries.iter().filter(|entry| entry[0] >> 28 == 4) {
-            juniors[(entry[0] >> 22 & 63) as usize] |= 1 << (entry[0] >> 16 & 63);
+    /// What the entries of a kind say by their first two fields: a row of second numbers for each first one.
+    fn rows(&self, kind: u32) -> [u64; 64] {
+        let mut rows = [0u64; 64];
+        for entry in self.entries.iter().filter(|entry| entry[0] >> 28 == kind) {
+            rows[(entry[0] >> 22 & 63) as usize] |= 1 << (entry[0] >> 16 & 63);
         }
-        let (mut found, mut waiting) = (1u64 << from, vec![from]);
-        while let Some(senior) = waiting.pop() {
-            let new = juniors[senior as usize] & !found;
-            found |= new;
-            waiting.extend((0..64).filter(|role| new >> role & 1 == 1));
+        rows
+    }
+
+    /// How many roles each user may activate.
+    pub fn reaches(&self) -> Vec<u32> {
+        let juniors = self.rows(4);
+        self.rows(2)[..self.users as usize].iter().map(|own| reached(&juniors, *own).count_ones()).collect()
+    }
+
+    /// Takes assignments away until no user reaches more than 16 roles.
+    pub fn fit(&mut self, rng: &mut Rng) {
+        let (juniors, mut assigned) = (self.rows(4), self.rows(2));
+        for own in &mut assigned {
+            while reached(&juniors, *own).count_ones() > 16 {
+                let roles: Vec<u32> = (0..64).filter(|role| *own >> role & 1 == 1).collect();
+                *own &= !(1 << rng.pick(&roles));
+            }
         }
-        found >> to & 1 == 1
+        let kept = |word: u32| assigned[(word >> 22 & 63) as usize] >> (word >> 16 & 63) & 1 == 1;
+        self.entries.retain(|entry| entry[0] >> 28 != 2 || kept(entry[0]));
     }
 
     /// A loop of senior words through some roles, in any order, where there are two roles.
@@ -130,6 +158,7 @@ impl Draft {
             let count = rng.from_to(0, 8) as usize;
             draft.assign(rng, other, count);
         }
+        draft.fit(rng);
         rng.shuffle(&mut draft.entries);
         draft
     }
@@ -143,6 +172,17 @@ impl Draft {
             }
         }
     }
+}
+
+/// The roles that chains of senior words reach from these, themselves among them.
+fn reached(juniors: &[u64; 64], from: u64) -> u64 {
+    let (mut found, mut waiting) = (from, from);
+    while waiting != 0 {
+        let new = juniors[waiting.trailing_zeros() as usize] & !found;
+        found |= new;
+        waiting = waiting & (waiting - 1) | new;
+    }
+    found
 }
 
 /// A policy of at most this size.
@@ -167,6 +207,7 @@ pub fn policy(rng: &mut Rng, size: Size) -> Draft {
     for _ in 0..rng.below(4) {
         draft.repeat(rng);
     }
+    draft.fit(rng);
     rng.shuffle(&mut draft.entries);
     draft
 }
@@ -191,11 +232,12 @@ pub fn limits(rng: &mut Rng) -> Draft {
     if rng.one_in(3) {
         return Draft::blank(rng.pick(&[1, 64]), rng.pick(&[1, 64]), rng.pick(&[1, 256]));
     }
+    draft.fit(rng);
     rng.shuffle(&mut draft.entries);
     draft
 }
 
-/// A user 0 of 16 roles under `exclusions` exclusions over them, permissions spread over the roles.
+/// A user 0 of 16 roles, with none below them but themselves, under `exclusions` exclusions over them, permissions spread over the roles.
 pub fn crowded(rng: &mut Rng, exclusions: u64) -> Draft {
     let mut draft = Draft::blank(rng.from_to(1, 3) as u32, rng.from_to(16, 64) as u32, rng.from_to(8, 256) as u32);
     let own = draft.some_roles(rng, 16);
@@ -210,9 +252,12 @@ pub fn crowded(rng: &mut Rng, exclusions: u64) -> Draft {
             draft.grant(rng, *role);
         }
     }
+    let others: Vec<u32> = (0..draft.roles).filter(|role| !own.contains(role)).collect();
     for _ in 0..rng.below(10) {
-        draft.order(rng);
+        let among = rng.pick(&[&own, &others]);
+        draft.order_of(rng, among);
     }
+    draft.fit(rng);
     for _ in 0..exclusions {
         let mut members = own.clone();
         rng.shuffle(&mut members);

@@ -65,7 +65,7 @@ fn rank(objectives: (u64, u64), left: &Candidate, right: &Candidate) -> std::cmp
 /// The subsets under trial: roles taken so far, and for each permission how many of them carry it.
 struct Trial<'a> {
     request: &'a Request<'a>,
-    /// The user's roles, each with the permissions that it carries.
+    /// The roles that the user may activate, each with the permissions that it carries.
     own: Vec<(usize, Vec<usize>)>,
     roles: RoleFlags,
     carriers: [usize; 256],
@@ -78,7 +78,7 @@ pub fn choose(request: &Request) -> Option<Choice> {
     let carried = |role: &usize| (*role, policy.carried_by(*role).into_iter().collect());
     let mut trial = Trial {
         request,
-        own: policy.assigned[request.user].iter().map(carried).collect(),
+        own: policy.authorized(request.user).iter().map(carried).collect(),
         roles: [false; 64],
         carriers: [0; 256],
         choice: None,

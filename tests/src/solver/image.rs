@@ -1,8 +1,9 @@
-//! The judgement of a policy image: refusals 1 to 8 with their place, 22 with a role, or the policy that it says.
+//! The judgement of a policy image: refusals 1 to 8 with their place, 22 with a role, 23 with a user, or the policy that it says.
 
 use super::policy::{Exclusion, Kind, Policy, Roles};
 
-/// Why an image is refused; the extra is the place of the refused word, for 22 the lowest role on a loop.
+/// Why an image is refused; the extra is the place of the refused word, for 22 the lowest role on a loop, for 23 the lowest user who
+/// may activate more than 16 roles.
 #[derive(Clone, Copy, Debug, PartialEq, Eq)]
 pub struct Refused {
     pub number: u64,
@@ -41,13 +42,16 @@ struct Reading {
     due: usize,
 }
 
-/// Judges an image: by 1 to 8, then by 22.
+/// Judges an image: by 1 to 8, then by 22, then by 23.
 pub fn judge(bytes: &[u8]) -> Judged {
     let policy = read(bytes)?;
-    match policy.lowest_on_loop() {
-        Some(role) => Err(Refused { number: 22, extra: role }),
-        None => Ok(policy),
+    if let Some(role) = policy.lowest_on_loop() {
+        return Err(Refused { number: 22, extra: role });
     }
+    if let Some(user) = policy.lowest_over_reach() {
+        return Err(Refused { number: 23, extra: user });
+    }
+    Ok(policy)
 }
 
 /// Judges an image by 1 to 8 alone.

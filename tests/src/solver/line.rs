@@ -124,13 +124,14 @@ pub fn sound(policy: &Policy, user: usize, bytes: &[u8]) -> bool {
         return false;
     }
     let line = Line::read(bytes);
+    let own = policy.authorized(user);
     for (number, session) in line.sessions.iter().enumerate() {
         let start = 16 + 16 * number;
         let zero = bytes[start..start + 16].iter().all(|byte| *byte == 0);
         let in_history = within(&session.active, |role| session.history[role]);
         let in_users = within(&session.history, |role| line.history[role]);
-        let assigned = within(&session.active, |role| policy.assigned[user].contains(&role));
-        if !(session.open || zero) || !in_history || !in_users || !assigned {
+        let authorized = within(&session.active, |role| own.contains(&role));
+        if !(session.open || zero) || !in_history || !in_users || !authorized {
             return false;
         }
     }

@@ -1,4 +1,4 @@
-//! What an accepted image means: who is assigned what, what roles carry, what excludes what.
+//! What an accepted image means: who is assigned what and may activate what, what roles carry, what excludes what.
 
 use std::collections::BTreeSet;
 
@@ -80,6 +80,21 @@ impl Policy {
     /// The lowest role on a loop, if there is a loop.
     pub fn lowest_on_loop(&self) -> Option<usize> {
         (0..self.roles).find(|role| self.on_loop(*role))
+    }
+
+    /// The roles that a user may activate: those assigned, and every role below one of them.
+    pub fn authorized(&self, user: usize) -> Roles {
+        let mut found = self.assigned[user].clone();
+        let mut waiting: Vec<usize> = found.iter().copied().collect();
+        while let Some(role) = waiting.pop() {
+            waiting.extend(self.juniors[role].iter().filter(|junior| found.insert(**junior)));
+        }
+        found
+    }
+
+    /// The lowest user who may activate more than 16 roles, if there is one.
+    pub fn lowest_over_reach(&self) -> Option<usize> {
+        (0..self.users).find(|user| self.authorized(*user).len() > 16)
     }
 
     /// The lowest-numbered role at or below a role that holds the grant of a permission, if one does.
