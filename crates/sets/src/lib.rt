@@ -84,12 +84,29 @@ pub struct Spot {
     pub bit: u8,
 }
 
+// There are 256 permissions, so that three comparisons find the place, and a subtraction the bit.
 pub fn split(p: Permission) -> Spot
     ensures { λ s. ⌜ Splits (p .0) (s .place) (s .bit) ⌝ }
 {
+    let n = p.0;
+    if n < 64 {
+        return Spot { place: 0, bit: n };
+    }
+    if n < 128 {
+        return Spot {
+            place: 1,
+            bit: n - 64,
+        };
+    }
+    if n < 192 {
+        return Spot {
+            place: 2,
+            bit: n - 128,
+        };
+    }
     Spot {
-        place: (p.0 / 64) as usize,
-        bit: p.0 % 64,
+        place: 3,
+        bit: n - 192,
     }
 }
 
