@@ -6,6 +6,7 @@ use lib.Dec.{lit<}
 use Rattle.model.specs.declared.Head.{Head}
 use Rattle.model.specs.declared.Kind.the-variants.{MsDmer}
 use Rattle.model.specs.Policy.{policyOf, onlyFor, excludes, sameExclusion, Agree}
+use Rattle.model.specs.Line.{SESSIONS}
 use Rattle.model.specs.Independence.{Run, SameFor, callsOf, firstLine}
 use Rattle.model.specs.Apart.{oneImage, otherImage, oneLedger, otherLedger, oneList, otherList, Apart}
 use Rattle.model.proofs.Computing.{computing}
@@ -13,11 +14,11 @@ use Rattle.model.proofs.Computing.{computing}
 two-users : Head
 two-users = record { users = 2; roles = 2; permissions = 5 }
 
-one : Run 4
+one : Run SESSIONS
 unfolding computing two-users oneImage oneLedger oneList
 one = record { image = oneImage; head = two-users; accepted = refl; ledger = oneLedger; fits = refl; calls = oneList }
 
-other : Run 4
+other : Run SESSIONS
 unfolding computing two-users otherImage otherLedger otherList
 other = record { image = otherImage; head = two-users; accepted = refl; ledger = otherLedger; fits = refl; calls = otherList }
 
@@ -37,7 +38,7 @@ agree =
       exclusions = λ x. twice (sameExclusion (record { kind = MsDmer; limit = 2; members = 3 }) x);
     }
 
-same-for-user : SameFor 4 0 one other
+same-for-user : SameFor SESSIONS 0 one other
 unfolding computing one other two-users callsOf firstLine oneImage otherImage oneLedger otherLedger oneList otherList
 same-for-user = record { agree = agree; below = lit< tt; line = refl; calls = refl }
 

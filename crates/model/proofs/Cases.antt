@@ -6,6 +6,7 @@ use Rattle.model.specs.Tests.{all}
 use Rattle.model.specs.Ward.{holds, starred, settled}
 use Rattle.model.specs.Refusals.{isJudged, judgedImages, isLooped, loopedImages}
 use Rattle.model.specs.Returned.{isSeen, returnedCases, isChecked, checkedCases}
+use Rattle.model.specs.MoveCases.{movesSo, moveCases}
 use Rattle.model.proofs.Computing.{computing}
 
 pub starred-hold : all holds starred ≡ true
@@ -31,3 +32,7 @@ returned-so = refl
 pub checked-so : all isChecked checkedCases ≡ true
 unfolding computing
 checked-so = refl
+
+pub moves-so : all movesSo moveCases ≡ true
+unfolding computing
+moves-so = refl

@@ -7,63 +7,25 @@ use Prim.Native.Nat.{ℕ, zero, suc, _+_, _%_, _^_, _≤_, _<_, zero-le}
 use native.Mathlib.Decide.{decLt}
 use native.Mathlib.Omega.{arith}
 use lib.Dec.{eqb, ltb}
-use lib.ListN.{length, getD}
+use lib.ListN.{getD}
 use borrow.Author.Tests.{ltb-true, ltb-false, lt-ltb}
 use Rattle.model.specs.declared.Head.{Head}
-use Rattle.model.specs.declared.Word.{Word}
-use Rattle.model.specs.declared.Scan.{Scan}
 use Rattle.model.specs.declared.Checked.{Checked}
 use Rattle.model.specs.declared.Checked.the-variants.{Accepted, Refused}
 use Rattle.model.specs.Tests.{lowest}
 use Rattle.model.specs.Sets.{has, count}
-use Rattle.model.specs.Image.{wordAt, behindHead, decode, fault, entryFault, assigning, next, balanced, scan, headOf, headRight, lengthRight, emptyRows, start, judgeWords}
+use Rattle.model.specs.Image.{judgeWords}
 use Rattle.model.specs.Policy.{Policy, policyOf, belowTable, authorized}
 use Rattle.model.specs.Judgement.{lowestOnLoop, lowestOverReach, barred, judgeMeaning, judge}
 use Rattle.model.specs.Chains.{Below, LowestOnLoop}
-use Rattle.model.specs.Ranges.{InRange}
+use Rattle.model.specs.Ranges.{OneTo, InRange}
 use Rattle.model.specs.Ordered.{WordsPass, Loopless, FewRoles, LowestOverReach, JudgeIs}
-use Rattle.model.proofs.Bools.{pick-case, not-both}
+use Rattle.model.proofs.Bools.{not-both}
+use Rattle.model.proofs.ImageNumbers.{Numbered, words-numbered}
 use Rattle.model.proofs.Accepted.{words-head, words-in-range}
 use Rattle.model.proofs.Closure.{below, below-is}
 use Rattle.model.proofs.Reaches.{no-user}
 use Rattle.model.proofs.LowestLaws.{lowest-is, lowest-found}
-
--- ---- the judgement by words refuses by 8 or a lower number
-abbrev pub UpTo8 : Checked → Type 0
-UpTo8 (Accepted h) = Unit {0}
-UpTo8 (Refused n place) = n ≤ 8
-
-fault-small : (h : Head) (rows : List ℕ) (t : Scan) (final : Bool) (w : Word) → fault h rows t final w ≤ 8
-unfolding fault entryFault
-fault-small h rows t final w =
-    let P : ℕ → Type 0 = λ n. n ≤ 8 in
-    pick-case P _ _ _ (λ _. omega arith)
-    (λ _. pick-case P _ _ _ (λ _. omega arith)
-    (λ _. pick-case P _ _ _ (λ _. omega arith)
-    (λ _. pick-case P _ _ _ (λ _. omega arith) (λ _. pick-case P _ _ _ (λ _. omega arith) (λ _. omega arith)))))
-
-scan-small : (s : List ℕ) (h : Head) (n place : ℕ) (rows : List ℕ) (t : Scan) (sum : ℕ) → UpTo8 (scan s h n place rows t sum)
-unfolding scan balanced
-scan-small s h zero place rows t sum = pick-case UpTo8 (eqb (sum % 2 ^ 28) 0) _ _ (λ _. tt) (λ _. omega arith)
-scan-small s h (suc n) place rows t sum =
-    let w = decode (wordAt s place) in
-    go _ (eqb (fault h rows t (eqb n 0) w) 0)
-    (scan-small s h n (place + 1) (assigning rows (w .entry)) (next t (w .entry)) ((sum + wordAt s place) % 2 ^ 32))
-  where
-    go : (v : Checked) (b : Bool) → UpTo8 v → UpTo8 (elim b [ true ↦ v | false ↦ Refused (fault h rows t (eqb n 0) (decode (wordAt s place))) place ])
-    go v true k = k
-    go v false k = fault-small h rows t (eqb n 0) (decode (wordAt s place))
-
-pub words-small : (s : List ℕ) → UpTo8 (judgeWords s)
-unfolding judgeWords
-words-small s =
-    go _ (lengthRight (length s)) (headRight (wordAt s 0)) (scan-small s (headOf (wordAt s 0)) (behindHead s) 1 emptyRows start (wordAt s 0))
-  where
-    go : (v : Checked) (a b : Bool) → UpTo8 v
-        → UpTo8 (elim a [ false ↦ Refused 1 0 | true ↦ elim b [ false ↦ Refused 2 0 | true ↦ v ] ])
-    go v false b k = omega arith
-    go v true false k = omega arith
-    go v true true k = k
 
 -- there is one lowest
 one-loop : {p : Policy} (a b : ℕ) → LowestOnLoop p a → LowestOnLoop p b → a ≡ b
@@ -136,7 +98,7 @@ module _ (p : Policy) (range : InRange p) where
 
 -- ---- how an image is judged: one of four
 data Verdict (s : List ℕ) : Type 0 where
-  words : (n place : ℕ) → n ≤ 8 → judgeWords s ≡ Refused n place → judge s ≡ Refused n place → Verdict s
+  words : (n place : ℕ) → OneTo 8 n → judgeWords s ≡ Refused n place → judge s ≡ Refused n place → Verdict s
   loops : (h : Head) (r : ℕ) → judgeWords s ≡ Accepted h → LowestOnLoop (policyOf s) r → judge s ≡ Refused 22 r → Verdict s
   reaches : (h : Head) (u : ℕ) → judgeWords s ≡ Accepted h → Loopless (policyOf s) → LowestOverReach (policyOf s) u → judge s ≡ Refused 23 u
       → Verdict s
@@ -169,8 +131,18 @@ module _ (s : List ℕ) where
   verdict = go (judgeWords s) refl
     where
       go : (v : Checked) → judgeWords s ≡ v → Verdict s
-      go (Refused n place) e = words n place (subst UpTo8 e (words-small s)) e (ap (judgeMeaning (policyOf s)) e)
+      go (Refused n place) e = words n place (subst (Numbered 8) e (words-numbered s)) e (ap (judgeMeaning (policyOf s)) e)
       go (Accepted h) e = by-meaning h e
+
+  -- a refusal has one of the numbers from 1 to 23
+  pub judge-numbered : Numbered 23 (judge s)
+  judge-numbered = go verdict
+    where
+      go : Verdict s → Numbered 23 (judge s)
+      go (words n place k e t) = subst (Numbered 23) (sym t) (omega arith, omega arith)
+      go (loops h r e w t) = subst (Numbered 23) (sym t) (omega arith, omega arith)
+      go (reaches h u e n w t) = subst (Numbered 23) (sym t) (omega arith, omega arith)
+      go (passes h e n f t) = subst (Numbered 23) (sym t) tt
 
   -- what each answer tells
   by-loop : (r : ℕ) → judge s ≡ Refused 22 r → Verdict s → WordsPass s × LowestOnLoop (policyOf s) r

@@ -10,6 +10,7 @@ pub mod UnionLaws
 pub mod LowestLaws
 pub mod Closure
 pub mod Reaches
+pub mod ImageNumbers
 pub mod Judgements
 pub mod Levels
 pub mod OrderedProof
@@ -38,4 +39,10 @@ pub mod ZeroLaws
 pub mod CallLaws
 pub mod CallsKept
 pub mod KeptProof
+pub mod Resizing
+pub mod Agreeing
+pub mod AgreeingCalls
+pub mod MoveLines
+pub mod Padding
+pub mod MovesProof
 pub mod Theorems

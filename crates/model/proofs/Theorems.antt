@@ -19,6 +19,7 @@ use Rattle.model.specs.Sets.{has, count}
 use Rattle.model.specs.Judgement.{judge}
 use Rattle.model.specs.Policy.{Meaning, policyOf, entriesOf, withMembers, reached, carriedTable, granter, authorized, meaning}
 use Rattle.model.specs.Choice.{carriedBy, admissible}
+use Rattle.model.specs.Line.{lineSize}
 use Rattle.model.specs.Session.{explanation}
 use Rattle.model.specs.Ward.{holds, starred, settled}
 use Rattle.model.specs.Refusals.{isJudged, judgedImages, isLooped, loopedImages}
@@ -34,6 +35,8 @@ use Rattle.model.specs.Independence.{Run, SameFor, Independent}
 use Rattle.model.specs.Apart.{Apart}
 use Rattle.model.specs.Kept.{LineKept, RunKept}
 use Rattle.model.specs.Frames.{LineBytes, StepFrame, ShowKeeps, ExplainKeeps, AnswerKeepsLength, SessionFrames}
+use Rattle.model.specs.Moves.{Resized, move, MoveIs}
+use Rattle.model.specs.MoveCases.{movesSo, moveCases}
 use Rattle.model.proofs.Cases
 use Rattle.model.proofs.Tables
 use Rattle.model.proofs.Accepted
@@ -53,6 +56,9 @@ use Rattle.model.proofs.RoundTrip
 use Rattle.model.proofs.FramesProof
 use Rattle.model.proofs.SessionFrameProof
 use Rattle.model.proofs.AnswerProof
+use Rattle.model.proofs.MetLaws
+use Rattle.model.proofs.Padding
+use Rattle.model.proofs.MovesProof
 
 -- ---- listed cases, by computation from the bytes of images
 
@@ -79,6 +85,10 @@ returned-cases = Cases.returned-so
 -- what a check returns
 pub checked-cases : all isChecked checkedCases ≡ true
 checked-cases = Cases.checked-so
+
+-- moves of a ledger of two users, done and refused
+pub move-cases : all movesSo moveCases ≡ true
+move-cases = Cases.moves-so
 
 -- ---- the order of role sets
 
@@ -236,3 +246,13 @@ answer-keeps-length = AnswerProof.answer-keeps-length
 -- a call changes no byte of another session
 pub session-frame : (W : ℕ) → SessionFrames W
 session-frame = SessionFrameProof.session-frame
+
+-- ---- moves between ledgers of F and of W sessions a user
+
+-- a line of F sessions with zero sessions behind it is sound for more exactly if it is sound for F
+pub resized-is : (F : ℕ) → 0 < F → (s : List ℕ) (u : ℕ) (bs : List ℕ) → length bs ≡ lineSize F → Resized F (meaning (policyOf s) u) bs
+resized-is F pos s u bs fits = Padding.resizing F pos (meaning (policyOf s) u) (MetLaws.meaning-antitone (policyOf s) u) bs fits
+
+-- a move that is done makes sound lines with the same bytes and the same shows, and the move back is done and gives the ledger back
+pub move-is : (F W : ℕ) → 0 < F → (image old new : List ℕ) → MoveIs F W image old new (move F W image old new)
+move-is = MovesProof.moves

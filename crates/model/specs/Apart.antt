@@ -6,6 +6,7 @@ use mathlib.Core.List.{List, [], _∷_, _++_}
 use Prim.Native.Nat.{ℕ}
 use lib.ListN.{replicate}
 use Rattle.model.specs.Policy.{policyOf, onlyFor}
+use Rattle.model.specs.Line.{SESSIONS}
 use Rattle.model.specs.Run.{Call, openBy, closeBy}
 use Rattle.model.specs.Independence.{Run, SameFor}
 use Rattle.model.specs.Ward.{imageBytes, ended, opens, asks, shows, damaged}
@@ -29,10 +30,10 @@ otherImage =
 
 -- the second user's line is zero, or damaged
 unfoldable pub oneLedger : List ℕ
-oneLedger = replicate 80 0 ++ replicate 80 0
+oneLedger = replicate 144 0 ++ replicate 144 0
 
 unfoldable pub otherLedger : List ℕ
-otherLedger = replicate 80 0 ++ damaged
+otherLedger = replicate 144 0 ++ damaged
 
 -- the first user's calls alone, and with others before, between and behind them, some by a user without a line
 unfoldable pub oneList : List Call
@@ -43,10 +44,10 @@ otherList = openBy 1 ∷ opens ∷ closeBy 1 0 ∷ openBy 2 ∷ asks 0 0x3 0x1f 
 
 -- these are two runs, and they are the same for the first user; the session rules are fed no other user's assignments, so the same ones
 pub record Apart : Type 0 where
-  pub one : Run 4
-  pub other : Run 4
+  pub one : Run SESSIONS
+  pub other : Run SESSIONS
   pub images : (one .image ≡ oneImage) × (other .image ≡ otherImage)
   pub ledgers : (one .ledger ≡ oneLedger) × (other .ledger ≡ otherLedger)
   pub calls : (one .calls ≡ oneList) × (other .calls ≡ otherList)
-  pub same : SameFor 4 0 one other
+  pub same : SameFor SESSIONS 0 one other
   pub fed : onlyFor 0 (policyOf oneImage) .assigned ≡ onlyFor 0 (policyOf otherImage) .assigned

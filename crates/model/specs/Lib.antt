@@ -23,3 +23,5 @@ pub mod Conditions
 pub mod Ranges
 pub mod Kept
 pub mod Explained
+pub mod Moves
+pub mod MoveCases

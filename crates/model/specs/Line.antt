@@ -16,7 +16,7 @@ use Rattle.model.specs.Policy.{Meaning}
 
 -- how many sessions the calls' lines have; the definitions and laws here are over any number of them
 abbrev pub SESSIONS : ℕ
-SESSIONS = 4
+SESSIONS = 8
 
 -- ---- bytes: 8 of open sessions, 8 of the user's history, then for each session 8 of active roles and 8 of its history
 

@@ -65,9 +65,9 @@ session active history = setBytes 8 active ++ setBytes 8 history
 unfoldable pub idle : List ℕ
 idle = session [] []
 
--- a line: its open sessions, the user's history, and the four sessions
-unfoldable pub line : List ℕ → List ℕ → List ℕ → List ℕ → List ℕ → List ℕ → List ℕ
-line opened history s0 s1 s2 s3 = setBytes 8 opened ++ (setBytes 8 history ++ (s0 ++ (s1 ++ (s2 ++ s3))))
+-- a line: its open sessions, the user's history, the first two sessions, five that are zero, and the last
+unfoldable pub line : List ℕ → List ℕ → List ℕ → List ℕ → List ℕ → List ℕ
+line opened history s0 s1 s7 = setBytes 8 opened ++ (setBytes 8 history ++ (s0 ++ (s1 ++ (replicate 80 0 ++ s7))))
 
 -- ---- cases
 
@@ -127,7 +127,7 @@ allOfA = 0 ∷ 1 ∷ 2 ∷ 3 ∷ 4 ∷ []
 
 -- lines of image A's one user: the sessions 0 and 1 with their active roles and histories
 unfoldable pub two : List ℕ → List ℕ → List ℕ → List ℕ → List ℕ
-two opened history s0 s1 = line opened history s0 s1 idle idle
+two opened history s0 s1 = line opened history s0 s1 idle
 
 unfoldable pub doctor : List ℕ
 doctor = session (0 ∷ []) (0 ∷ [])
@@ -138,7 +138,7 @@ manager = session (1 ∷ []) (1 ∷ [])
 -- 01's six lines, and a show of what they leave
 unfoldable pub sixLines : HostCase
 sixLines =
-    under (imageBytes imageA) (replicate 80 0)
+    under (imageBytes imageA) (replicate 144 0)
     (changes opens 0 (two (0 ∷ []) [] idle idle)
     ∷ fills (asksFor 0 (0 ∷ 1 ∷ []) allOfA 1 0) (full (0 ∷ []) (0 ∷ 1 ∷ 2 ∷ 3 ∷ [])) (two (0 ∷ []) (0 ∷ []) doctor idle)
     ∷ changes opens 256 (two (0 ∷ 1 ∷ []) (0 ∷ []) doctor idle)
@@ -159,18 +159,26 @@ shortAsks =
     ∷ fills (shows 0) (full [] []) (two (0 ∷ []) (0 ∷ 1 ∷ []) (session [] (0 ∷ 1 ∷ [])) idle)
     ∷ [])
 
--- open takes the lowest closed session, up to session 3
-unfoldable pub fourSessions : HostCase
-fourSessions =
+-- the numbers of all sessions
+unfoldable pub eight : List ℕ
+eight = 0 ∷ 1 ∷ 2 ∷ 3 ∷ 4 ∷ 5 ∷ 6 ∷ 7 ∷ []
+
+-- open takes the lowest closed session, up to session 7
+unfoldable pub eightSessions : HostCase
+eightSessions =
     under (imageBytes imageA) (two (0 ∷ []) (0 ∷ []) doctor idle)
     (changes opens 256 (two (0 ∷ 1 ∷ []) (0 ∷ []) doctor idle)
     ∷ changes opens 512 (two (0 ∷ 1 ∷ 2 ∷ []) (0 ∷ []) doctor idle)
     ∷ changes (closes 1) 0 (two (0 ∷ 2 ∷ []) (0 ∷ []) doctor idle)
     ∷ changes opens 256 (two (0 ∷ 1 ∷ 2 ∷ []) (0 ∷ []) doctor idle)
-    ∷ changes opens 768 (two (0 ∷ 1 ∷ 2 ∷ 3 ∷ []) (0 ∷ []) doctor idle)
-    ∷ leaves (two (0 ∷ 1 ∷ 2 ∷ 3 ∷ []) (0 ∷ []) doctor idle) opens 0 14
-    ∷ fills (asksFor 3 (0 ∷ []) allOfA 0 0) (full (0 ∷ []) (0 ∷ 1 ∷ 2 ∷ 3 ∷ [])) (line (0 ∷ 1 ∷ 2 ∷ 3 ∷ []) (0 ∷ []) doctor idle idle doctor)
-    ∷ changes (closes 3) 0 (two (0 ∷ 1 ∷ 2 ∷ []) (0 ∷ []) doctor idle)
+    ∷ changes opens 768 (two (take 4 eight) (0 ∷ []) doctor idle)
+    ∷ changes opens 1024 (two (take 5 eight) (0 ∷ []) doctor idle)
+    ∷ changes opens 1280 (two (take 6 eight) (0 ∷ []) doctor idle)
+    ∷ changes opens 1536 (two (take 7 eight) (0 ∷ []) doctor idle)
+    ∷ changes opens 1792 (two eight (0 ∷ []) doctor idle)
+    ∷ leaves (two eight (0 ∷ []) doctor idle) opens 0 14
+    ∷ fills (asksFor 7 (0 ∷ []) allOfA 0 0) (full (0 ∷ []) (0 ∷ 1 ∷ 2 ∷ 3 ∷ [])) (line eight (0 ∷ []) doctor idle doctor)
+    ∷ changes (closes 7) 0 (two (take 7 eight) (0 ∷ []) doctor idle)
     ∷ [])
 
 -- ---- refusals
@@ -258,15 +266,15 @@ unfoldable pub linesJudged : List HostCase
 linesJudged =
     -- a history may hold a role that is not authorized
     soundLine plain (two (0 ∷ []) (0 ∷ 2 ∷ []) (session (0 ∷ []) (0 ∷ 2 ∷ [])) idle) (0 ∷ []) (0 ∷ [])
-    -- open bits beyond session 3
-    ∷ unsoundLine plain (two (0 ∷ 4 ∷ []) [] idle idle)
+    -- open bits beyond session 7
+    ∷ unsoundLine plain (two (0 ∷ 8 ∷ []) [] idle idle)
     ∷ unsoundLine plain (two (0 ∷ 63 ∷ []) [] idle idle)
     -- a history not below R
     ∷ unsoundLine plain (two (0 ∷ []) (3 ∷ []) idle idle)
     -- a closed session's bytes
     ∷ unsoundLine plain (two (0 ∷ []) (0 ∷ []) idle doctor)
     ∷ unsoundLine plain (two (0 ∷ []) (0 ∷ []) idle (session [] (0 ∷ [])))
-    ∷ unsoundLine plain (line (0 ∷ []) (0 ∷ []) idle idle idle (session [] (0 ∷ [])))
+    ∷ unsoundLine plain (line (0 ∷ []) (0 ∷ []) idle idle (session [] (0 ∷ [])))
     -- active beyond the session's history, that beyond the user's, active beyond the authorized roles
     ∷ unsoundLine plain (two (0 ∷ []) (0 ∷ []) (session (0 ∷ []) []) idle)
     ∷ unsoundLine plain (two (0 ∷ []) [] (session [] (0 ∷ [])) idle)
@@ -347,21 +355,21 @@ far =
 
 -- a ledger of 64 users, zero but for the last line
 unfoldable pub lastLine : List ℕ → List ℕ
-lastLine bs = replicate (63 * 80) 0 ++ bs
+lastLine bs = replicate (63 * 144) 0 ++ bs
 
--- the line of user 63 with the sessions open and, in session 3, the roles active that were ever so
+-- the line of user 63 with the sessions open and, in session 7, the roles active that were ever so
 unfoldable pub lineOf63 : List ℕ → List ℕ → List ℕ
-lineOf63 opened roles = lastLine (line opened roles idle idle idle (session roles roles))
+lineOf63 opened roles = lastLine (line opened roles idle idle (session roles roles))
 
 unfoldable pub lastUser : HostCase
 lastUser =
     let upper = bound (0 ∷ 1 ∷ 127 ∷ 192 ∷ 255 ∷ []) in
-    let after = lineOf63 (0 ∷ 1 ∷ 2 ∷ 3 ∷ []) (16 ∷ 32 ∷ 62 ∷ 63 ∷ []) in
-    under far (lineOf63 (0 ∷ 1 ∷ 2 ∷ []) [])
-    (changes (openBy 63) 768 (lineOf63 (0 ∷ 1 ∷ 2 ∷ 3 ∷ []) [])
+    let after = lineOf63 eight (16 ∷ 32 ∷ 62 ∷ 63 ∷ []) in
+    under far (lineOf63 (take 7 eight) [])
+    (changes (openBy 63) 1792 (lineOf63 eight [])
     -- most roles: 63 and those below it count
-    ∷ fills (askBy 63 3 (bound (1 ∷ [])) upper 0 2 40) (full (16 ∷ 32 ∷ 62 ∷ 63 ∷ []) (1 ∷ 127 ∷ 192 ∷ 255 ∷ [])) after
-    ∷ leaves after (shortAskBy 63 3 (bound (0 ∷ [])) upper 40) 40 20
+    ∷ fills (askBy 63 7 (bound (1 ∷ [])) upper 0 2 40) (full (16 ∷ 32 ∷ 62 ∷ 63 ∷ []) (1 ∷ 127 ∷ 192 ∷ 255 ∷ [])) after
+    ∷ leaves after (shortAskBy 63 7 (bound (0 ∷ [])) upper 40) 40 20
     ∷ leaves after (openBy 64) 0 10
     ∷ [])
 
@@ -376,7 +384,7 @@ unfoldable pub explanations : HostCase
 explanations =
     under (imageBytes widest) bothActive
     (changes (explains 0 64) 266240 bothActive ∷ changes (explains 0 255) 1048064 bothActive ∷ leaves bothActive (explains 0 1) 0 20
-    ∷ leaves bothActive (explains 0 256) 0 16 ∷ leaves bothActive (explains 1 256) 0 13 ∷ leaves bothActive (explains 4 256) 0 12 ∷ [])
+    ∷ leaves bothActive (explains 0 256) 0 16 ∷ leaves bothActive (explains 1 256) 0 13 ∷ leaves bothActive (explains 8 256) 0 12 ∷ [])
 
 -- ---- a loop
 
@@ -399,7 +407,7 @@ reaching n = imageOf (headWord 64 64 1 ∷ assignWord 63 40 ∷ overHigher n)
 
 unfoldable pub returnedCases : List HostCase
 returnedCases =
-    sixLines ∷ shortAsks ∷ fourSessions ∷ explanations
+    sixLines ∷ shortAsks ∷ eightSessions ∷ explanations
     -- a last word that is no end, at place 11; a length; a head
     ∷ refusedImage (imageBytes (take 12 imageA)) 2819
     ∷ refusedImage [] 1
@@ -410,15 +418,17 @@ returnedCases =
     ∷ refusedImage (reaching 16) 16151
     -- tests run in number order: 9 to 13, with nothing behind them right
     ∷ under (imageBytes imageA) damaged (leaves damaged (openBy 1) 0 10 ∷ [])
-    ∷ under (imageBytes imageA) (take 79 damaged) (leaves (take 79 damaged) (openBy 1) 0 9 ∷ [])
-    ∷ refusesAll (replicate 79 0) 1 4 9
-    ∷ refusesAll (replicate 81 0) 1 4 9
-    ∷ refusesAll [] 1 4 9
-    ∷ refusesAll damaged 1 4 10
-    ∷ refusesAll damaged 0 4 11
-    ∷ refusesAll (two (1 ∷ []) [] idle idle) 0 4 12
+    ∷ under (imageBytes imageA) (take 143 damaged) (leaves (take 143 damaged) (openBy 1) 0 9 ∷ [])
+    ∷ refusesAll (replicate 143 0) 1 8 9
+    ∷ refusesAll (replicate 145 0) 1 8 9
+    -- a line of four sessions, which is one to be moved
+    ∷ refusesAll (replicate 80 0) 1 8 9
+    ∷ refusesAll [] 1 8 9
+    ∷ refusesAll damaged 1 8 10
+    ∷ refusesAll damaged 0 8 11
+    ∷ refusesAll (two (1 ∷ []) [] idle idle) 0 8 12
     ∷ refusesAll (two (1 ∷ []) [] idle idle) 0 0 13
-    ∷ refusesAll (two (1 ∷ []) [] idle idle) 0 3 13
+    ∷ refusesAll (two (1 ∷ []) [] idle idle) 0 7 13
     ∷ unsoundLine (imageBytes imageA) damaged
     ∷ refusedAsks
     ∷ (linesJudged ++ (objectives ++ (shortObjectives ++ (lastUser ∷ []))))

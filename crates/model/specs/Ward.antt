@@ -8,6 +8,7 @@ use lib.Dec.{eqb}
 use lib.ListN.{replicate, take, drop}
 use Rattle.model.specs.Tests.{all}
 use Rattle.model.specs.Bytes.{number, bytesOf}
+use Rattle.model.specs.Line.{SESSIONS}
 use Rattle.model.specs.Run.{Call, Event, run, openBy, closeBy, askBy, shortAskBy, showBy, explainBy}
 
 -- ---- images as words
@@ -131,11 +132,11 @@ sameLists (x ∷ xs) [] = false
 sameLists (x ∷ xs) (y ∷ ys) = sameList x y && sameLists xs ys
 
 unfoldable pub holds : Case → Bool
-holds c = sameLists (map printed (run 4 (imageBytes (c .image)) (c .ledger) (c .calls))) (c .answers)
+holds c = sameLists (map printed (run SESSIONS (imageBytes (c .image)) (c .ledger) (c .calls))) (c .answers)
 
 -- a case of one user, from the zero ledger
 unfoldable pub case : List ℕ → List Call → List (List ℕ) → Case
-case image calls answers = record { image = image; ledger = replicate 80 0; calls = calls; answers = answers }
+case image calls answers = record { image = image; ledger = replicate 144 0; calls = calls; answers = answers }
 
 -- the six lines of 01's example, and their answers
 unfoldable pub lines : List Call
@@ -167,19 +168,20 @@ starred =
     ∷ case imageA (opens ∷ asks 0 0 0 1 0 ∷ []) (opened 0 ∷ chose 0 0 ∷ [])
     ∷ case imageOfOne (opens ∷ asks 0 0x3 0x1f 0 0 ∷ []) (opened 0 ∷ refused 20 ∷ [])
     ∷ case imageOfOne (opens ∷ asks 0 0 0 0 0 ∷ []) (opened 0 ∷ chose 0 0 ∷ [])
-    ∷ case imageA (opens ∷ opens ∷ opens ∷ opens ∷ opens ∷ []) (opened 0 ∷ opened 1 ∷ opened 2 ∷ opened 3 ∷ refused 14 ∷ [])
+    ∷ case imageA (replicate 9 opens)
+    (opened 0 ∷ opened 1 ∷ opened 2 ∷ opened 3 ∷ opened 4 ∷ opened 5 ∷ opened 6 ∷ opened 7 ∷ refused 14 ∷ [])
     ∷ case threeRoles (opens ∷ asks 0 0x1 0xf 2 0 ∷ []) (opened 0 ∷ chose 3 0xf ∷ [])
     ∷ case threeRoles (opens ∷ asks 0 0x1 0xf 2 2 ∷ []) (opened 0 ∷ chose 7 0xf ∷ [])
     ∷ case threeRoles (opens ∷ asks 0 0x1 0xf 1 2 ∷ []) (opened 0 ∷ chose 1 0x5 ∷ [])
     ∷ []
 
--- a line that is not sound, of 80 bytes
+-- a line that is not sound, of 144 bytes
 unfoldable pub damaged : List ℕ
-damaged = replicate 80 255
+damaged = replicate 144 255
 
 -- the ledger of one user with the roles s active in session 0
 unfoldable pub activeRole : ℕ → List ℕ
-activeRole s = bytesOf 8 1 ++ (bytesOf 8 s ++ (bytesOf 8 s ++ (bytesOf 8 s ++ replicate 48 0)))
+activeRole s = bytesOf 8 1 ++ (bytesOf 8 s ++ (bytesOf 8 s ++ (bytesOf 8 s ++ replicate 112 0)))
 
 unfoldable pub settled : List Case
 settled =
@@ -207,7 +209,7 @@ settled =
     ∷ record { image = wardHead; ledger = activeRole 0x4; calls = shows 0 ∷ []; answers = refused 11 ∷ [] }
     -- a loop is refused, before the ledger's length is looked at
     ∷ case loop (opens ∷ asks 0 0x1 0x7 1 1 ∷ []) (refused 22 ∷ refused 22 ∷ [])
-    ∷ record { image = loop; ledger = replicate 79 0; calls = opens ∷ []; answers = refused 22 ∷ [] }
+    ∷ record { image = loop; ledger = replicate 143 0; calls = opens ∷ []; answers = refused 22 ∷ [] }
     -- a short ask takes the fewest permissions, and of sets with as many the fewest roles, where the objectives 0, 0 take the lowest number
     ∷ case threeRoles (opens ∷ asks 0 0x6 0xf 0 0 ∷ asksShort 0 0x6 0xf ∷ []) (opened 0 ∷ chose 3 0xf ∷ chose 4 0x6 ∷ [])
     ∷ case twoAndBoth (opens ∷ asks 0 0x3 0x3 0 0 ∷ asks 0 0x3 0x3 1 0 ∷ asksShort 0 0x3 0x3 ∷ [])
@@ -222,7 +224,7 @@ settled =
       calls = explains 0 0 ∷ explains 0 1 ∷ explains 0 2 ∷ shows 0 ∷ [];
       answers = opened 129 ∷ refused 20 ∷ refused 16 ∷ chose 12 0x1 ∷ [];
     }
-    ∷ case hierarchy (opens ∷ asks 0 0x4 0x7 2 1 ∷ explains 0 0 ∷ explains 0 2 ∷ explains 0 (2 ^ 64 - 1) ∷ explains 1 3 ∷ explains 4 3 ∷ [])
+    ∷ case hierarchy (opens ∷ asks 0 0x4 0x7 2 1 ∷ explains 0 0 ∷ explains 0 2 ∷ explains 0 (2 ^ 64 - 1) ∷ explains 1 3 ∷ explains 8 3 ∷ [])
     (opened 0 ∷ chose 1 0x7 ∷ opened 0 ∷ opened 2 ∷ refused 16 ∷ refused 13 ∷ refused 12 ∷ [])
     ∷ case widest
     (opens ∷ asks 0 (2 ^ 255) (2 ^ 255 + 2 ^ 64) 0 2 ∷ explains 0 64 ∷ explains 0 255 ∷ explains 0 1 ∷ explains 0 256 ∷ asks 0 (2 ^ 255) (2 ^ 255 + 2 ^ 64) 2 1
@@ -233,21 +235,21 @@ settled =
     -- another user's damaged line does not refuse this one's calls
     ∷ record {
       image = imageOfTwo;
-      ledger = replicate 80 0 ++ damaged;
+      ledger = replicate 144 0 ++ damaged;
       calls = opens ∷ asks 0 0x3 0x1f 0 0 ∷ openBy 1 ∷ openBy 2 ∷ shows 0 ∷ [];
       answers = opened 0 ∷ chose 1 0xf ∷ refused 11 ∷ refused 10 ∷ chose 1 0xf ∷ [];
     }
     ∷ record {
       image = imageOfTwo;
-      ledger = damaged ++ replicate 80 0;
+      ledger = damaged ++ replicate 144 0;
       calls = opens ∷ openBy 1 ∷ [];
       answers = refused 11 ∷ opened 0 ∷ [];
     }
     -- a refused call leaves the line as it was
     ∷ case imageA (opens ∷ askBy 0 0 (bytesOf 32 0x3) (bytesOf 32 0x1f) 0 0 39 ∷ shows 0 ∷ []) (opened 0 ∷ refused 19 ∷ chose 0 0 ∷ [])
     -- tests run in number order
-    ∷ record { image = imageA; ledger = replicate 79 0; calls = openBy 1 ∷ []; answers = refused 9 ∷ [] }
-    ∷ case imageA (openBy 1 ∷ closes 4 ∷ closes 0 ∷ showBy 0 0 39 ∷ opens ∷ showBy 0 0 39 ∷ [])
+    ∷ record { image = imageA; ledger = replicate 143 0; calls = openBy 1 ∷ []; answers = refused 9 ∷ [] }
+    ∷ case imageA (openBy 1 ∷ closes 8 ∷ closes 0 ∷ showBy 0 0 39 ∷ opens ∷ showBy 0 0 39 ∷ [])
     (refused 10 ∷ refused 12 ∷ refused 13 ∷ refused 13 ∷ opened 0 ∷ refused 19 ∷ [])
     ∷ case imageA
     (opens ∷ askBy 0 0 (bytesOf 31 0) (bytesOf 32 0x20) 3 3 0 ∷ askBy 0 0 (bytesOf 32 0) (bytesOf 33 0) 3 3 0 ∷ asks 0 0x3f 0x3 3 3

@@ -77,7 +77,7 @@ pub enum Checked {
 // ---- the ledger
 
 // The number of sessions (01: windows) of a user.
-pub const SESSIONS: usize = 4;
+pub const SESSIONS: usize = 8;
 
 // A session: its active roles, and those active at any time since it was opened (01: its past), as role sets.
 pub struct Session {

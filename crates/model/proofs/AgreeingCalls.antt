@@ -1,0 +1,92 @@
+-- Calls that only read a session answer alike on sound lines that agree, whatever the number of their sessions.
+-- Assumes nothing.
+use mathlib.Core.Path.{_≡_, refl, sym, ap, ap₂, _∙_}
+use mathlib.Core.Bool.{Bool, true, false, not}
+use mathlib.Core.Option.{Option, none, some}
+use mathlib.Core.List.{List, [], _∷_}
+use Prim.Native.Nat.{ℕ, _<_}
+use borrow.Author.Tests.{lt-leb}
+use Rattle.model.specs.declared.Session.{Session}
+use Rattle.model.specs.Tests.{first}
+use Rattle.model.specs.Sets.{has}
+use Rattle.model.specs.Policy.{Meaning}
+use Rattle.model.specs.Choice.{carriedBy}
+use Rattle.model.specs.Line.{readLine, sessionAt, isOpen, sound}
+use Rattle.model.specs.Session.{Operation, show, explain, Query, queryOf, sessionOf, Reply, given, Refusal, bad-line, bad-session, is-closed, bad-room, not-below, not-carried, canGive, applies, isNone, explanation, explained, Result, perform, unless, rule}
+use Rattle.model.proofs.Resizing.{Agreeing}
+
+-- ---- the first refusal that holds
+
+-- two tests that agree on a list find the same in it
+first-same : (f g : Refusal → Bool) (x : Refusal) (xs : List Refusal) → f x ≡ g x → first f xs ≡ first g xs → first f (x ∷ xs) ≡ first g (x ∷ xs)
+unfolding first
+first-same f g x xs e h =
+    ap₂ (λ (b : Bool) (r : Option Refusal). let v : Option Refusal = elim b [ true ↦ some x | false ↦ r ] in v) e h
+
+-- the answer is the refusal's, or that of the work done
+unless-same : (o : Option Refusal) (bs cs : List ℕ) (r s : Result) → r .reply ≡ s .reply → unless o bs r .reply ≡ unless o cs s .reply
+unfolding unless
+unless-same none bs cs r s e = e
+unless-same (some f) bs cs r s e = refl
+
+-- what an explain tells is no matter of the line's bytes
+told-same : (bs cs : List ℕ) (x : Option ℕ) → explained bs x .reply ≡ explained cs x .reply
+unfolding explained
+told-same bs cs none = refl
+told-same bs cs (some k) = refl
+
+-- ---- a line of F sessions and one of W that agree
+module _ (F W : ℕ) (m : Meaning) (bs cs : List ℕ) (before : sound F m (readLine F bs) ≡ true) (after : sound W m (readLine W cs) ≡ true)
+    (h : Agreeing (readLine F bs) (readLine W cs)) (j : ℕ) (f : j < F) (w : j < W) where
+  -- the active roles of the session, and whether it is open
+  active-same : sessionAt (readLine W cs) j .active ≡ sessionAt (readLine F bs) j .active
+  unfolding sessionAt
+  active-same = sym (ap (λ (s : Session). s .active) (h .sessions j))
+
+  open-same : isOpen (readLine W cs) j ≡ isOpen (readLine F bs) j
+  unfolding isOpen
+  open-same = ap (λ (x : ℕ). has x j) (sym (h .opened))
+
+  abbrev late : Query → Refusal → Bool
+  late q = applies W m (readLine W cs) j q
+
+  abbrev early : Query → Refusal → Bool
+  early q = applies F m (readLine F bs) j q
+
+  -- neither is refused for its line or its session's number; each is for a closed session where the other is
+  first-three : (q : Query) (xs : List Refusal) → first (late q) xs ≡ first (early q) xs
+      → first (late q) (bad-line ∷ bad-session ∷ is-closed ∷ xs) ≡ first (early q) (bad-line ∷ bad-session ∷ is-closed ∷ xs)
+  first-three q xs e =
+      first-same (late q) (early q) bad-line _ (unfold applies in (ap not (after ∙ sym before)))
+      (first-same (late q) (early q) bad-session _ (unfold applies in (lt-leb W j w ∙ sym (lt-leb F j f)))
+      (first-same (late q) (early q) is-closed xs (unfold applies in (ap not open-same)) e))
+
+  rule-same : (op : Operation) → sessionOf op ≡ j
+      → first (late (queryOf op)) (canGive op) ≡ first (early (queryOf op)) (canGive op)
+      → perform W m (readLine W cs) cs op .reply ≡ perform F m (readLine F bs) bs op .reply → rule W m cs op .reply ≡ rule F m bs op .reply
+  unfolding rule
+  rule-same op s e r =
+      rw s
+      (ap (λ (o : Option Refusal). unless o cs (perform W m (readLine W cs) cs op) .reply) e
+      ∙ unless-same (first (early (queryOf op)) (canGive op)) cs bs (perform W m (readLine W cs) cs op) (perform F m (readLine F bs) bs op) r)
+
+  none-same : (q : Query) → first (late q) [] ≡ first (early q) []
+  unfolding first
+  none-same q = refl
+
+  pub show-same : (room : ℕ) → rule W m cs (show j room) .reply ≡ rule F m bs (show j room) .reply
+  unfolding sessionOf canGive applies perform
+  show-same room =
+      let q = queryOf (show j room) in
+      rule-same (show j room) refl (first-three q (bad-room ∷ []) (first-same (late q) (early q) bad-room [] refl (none-same q)))
+      (ap (λ (s : ℕ). given s (carriedBy m s)) active-same)
+
+  pub explain-same : (n : ℕ) → rule W m cs (explain j n) .reply ≡ rule F m bs (explain j n) .reply
+  unfolding sessionOf canGive applies perform
+  explain-same n =
+      let q = queryOf (explain j n) in
+      rule-same (explain j n) refl
+      (first-three q (not-below n ∷ not-carried n ∷ [])
+      (first-same (late q) (early q) (not-below n) (not-carried n ∷ []) refl
+      (first-same (late q) (early q) (not-carried n) [] (ap (λ (s : ℕ). isNone (explanation (m .granter n) s)) active-same) (none-same q))))
+      (ap (λ (s : ℕ). explained cs (explanation (m .granter n) s) .reply) active-same ∙ told-same cs bs (explanation (m .granter n) _))
