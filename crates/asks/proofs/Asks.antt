@@ -13,7 +13,7 @@ use Rattle.model.specs.Tests.{pick, first}
 use Rattle.model.specs.Sets.{within}
 use Rattle.model.specs.Bytes.{number, bytesOf}
 use Rattle.model.specs.Policy.{Policy, meaning}
-use Rattle.model.specs.Line.{lineSize, writeLine, isOpen, putIn}
+use Rattle.model.specs.Line.{SESSIONS, lineSize, writeLine, isOpen, putIn}
 use Rattle.model.specs.Choice.{carriedBy, choose}
 use Rattle.model.specs.Session.{Refusal, bad-line, bad-session, is-closed, bad-set, bad-permission, bad-bounds, bad-aim, bad-room, no-set, refuse, given, refusalNumber, canGive, applies, perform, asked, chosen, isNone, sessionOf, queryOf}
 use Rattle.model.specs.Session as rules
@@ -144,11 +144,11 @@ pub answers-none : (p : Policy) (ledger : List ℕ) (u k : ℕ) (room : List ℕ
 unfolding askedOn asked
 answers-none p ledger u k room o e =
     answers-refusal _ 20 ledger room
-    (ap (askedOn p ledger u k) (sym e) ∙ ap (λ (l : List ℕ). record { reply = refuse 20 0; ledger = l }) (own-line (lineSize 4) u ledger))
+    (ap (askedOn p ledger u k) (sym e) ∙ ap (λ (l : List ℕ). record { reply = refuse 20 0; ledger = l }) (own-line (lineSize SESSIONS) u ledger))
 
 -- the set s, which carries c
 pub answers-some : (p : Policy) (ledger : List ℕ) (u k s c : ℕ) (after room answer : List ℕ) (o : Option ℕ) → some s ≡ o
-    → c ≡ carriedBy (meaning p u) s → after ≡ withLine (lineSize 4) u (writeLine (putIn k s (lineOf 4 ledger u))) ledger
+    → c ≡ carriedBy (meaning p u) s → after ≡ withLine (lineSize SESSIONS) u (writeLine (putIn k s (lineOf SESSIONS ledger u))) ledger
     → answer ≡ bytesOf 8 s ++ bytesOf 32 c → Answers (askedOn p ledger u k o) 0 after room answer
 unfolding askedOn asked returned given answered filledWith bytesOf
 answers-some p ledger u k s c after room answer o e f g h =
@@ -161,11 +161,11 @@ answers-some p ledger u k s c after room answer o e f g h =
 
 -- the call's answers are the search's
 pub answers-searched : (p : Policy) (ledger : List ℕ) (u k : ℕ) (lower upper : List ℕ) (a b room lo hi n : ℕ) (after before answer : List ℕ)
-    → AskReady 4 p ledger u k lower upper a b room → lo ≡ number lower → hi ≡ number upper
-    → Answers (askedOn p ledger u k (choose (meaning p u) (lineOf 4 ledger u) k lo hi a b)) n after before answer
-    → Answers (stepOn 4 p ledger (askBy u k lower upper a b room)) n after before answer
+    → AskReady SESSIONS p ledger u k lower upper a b room → lo ≡ number lower → hi ≡ number upper
+    → Answers (askedOn p ledger u k (choose (meaning p u) (lineOf SESSIONS ledger u) k lo hi a b)) n after before answer
+    → Answers (stepOn SESSIONS p ledger (askBy u k lower upper a b room)) n after before answer
 unfolding askedOn
 answers-searched p ledger u k lower upper a b room lo hi n after before answer r e f g =
     subst (λ (x : Event). Answers x n after before answer)
-    (ap₂ (λ (x y : ℕ). askedOn p ledger u k (choose (meaning p u) (lineOf 4 ledger u) k x y a b)) e f
-    ∙ sym (ask-searched 4 p ledger u k lower upper a b room r)) g
+    (ap₂ (λ (x y : ℕ). askedOn p ledger u k (choose (meaning p u) (lineOf SESSIONS ledger u) k x y a b)) e f
+    ∙ sym (ask-searched SESSIONS p ledger u k lower upper a b room r)) g

@@ -13,7 +13,7 @@ use Rattle.model.specs.declared.Line.{Line}
 use Rattle.model.specs.Tests.{pick}
 use Rattle.model.specs.Sets.{has, within, unionAt}
 use Rattle.model.specs.Policy.{Policy, authorized, meaning, belowTable, withSelves, reached, carriedTable}
-use Rattle.model.specs.Line.{exclusionsMet}
+use Rattle.model.specs.Line.{SESSIONS, exclusionsMet}
 use Rattle.model.specs.Choice.{admissible, choose}
 use Rattle.model.proofs.Bools.{and-l}
 use Rattle.model.proofs.SetLaws.{within-has}
@@ -94,7 +94,7 @@ given-of p u own xs l k n masks rooms row e d g =
 
 -- what the search is given, with the rows
 pub asked-of : (p : Policy) (u : ℕ) (ledger granted below : List ℕ) (own : ℕ) (xs : Exclusions) (rows : List (List ℕ)) (l : Line)
-    → Searched p u ledger granted below own xs → own < 2 ^ 64 → values rows ≡ carriedRows granted below own → l ≡ lineOf 4 ledger u
+    → Searched p u ledger granted below own xs → own < 2 ^ 64 → values rows ≡ carriedRows granted below own → l ≡ lineOf SESSIONS ledger u
     → Asked p u l own xs (rowsOf rows)
 asked-of p u ledger granted below own xs rows l s w e f =
     record {
@@ -106,7 +106,7 @@ asked-of p u ledger granted below own xs rows l s w e f =
 
 -- the same, of what code holds of the policy and of a call that is not refused
 pub searched-of : (p : Policy) (head : Head) (rows : List ℕ) (xs : Exclusions) (ledger granted below : List ℕ) (u own : ℕ)
-    → Known head rows xs p → granted ≡ p .granted → below ≡ belowTable p → (own ≡ getD rows u 0) × (own < 2 ^ 64) → Ready 4 p ledger u
+    → Known head rows xs p → granted ≡ p .granted → below ≡ belowTable p → (own ≡ getD rows u 0) × (own < 2 ^ 64) → Ready SESSIONS p ledger u
     → Searched p u ledger granted below own xs
 searched-of p head rows xs ledger granted below u own k g j o r =
     record {
@@ -114,16 +114,16 @@ searched-of p head rows xs ledger granted below u own k g j o r =
       below-is = j;
       own-is = sym (own-known head rows xs p u own k (r .below) o);
       exclusions-are = sym (k .exclusions-are);
-      met = sound-parts (meaning p u) (lineOf 4 ledger u) 4 (r .sound-line) .met;
+      met = sound-parts (meaning p u) (lineOf SESSIONS ledger u) SESSIONS (r .sound-line) .met;
     }
 
 -- ---- the search's choice, for the line that code holds
-module _ (p : Policy) (u : ℕ) (ledger : List ℕ) (l : Line) (f : l ≡ lineOf 4 ledger u) (o : Choice) (k lower upper a b : ℕ)
+module _ (p : Policy) (u : ℕ) (ledger : List ℕ) (l : Line) (f : l ≡ lineOf SESSIONS ledger u) (o : Choice) (k lower upper a b : ℕ)
     (e : answered o ≡ choose (meaning p u) l k lower upper a b) where
-  pub chosen-none : o ≡ Nothing → none ≡ choose (meaning p u) (lineOf 4 ledger u) k lower upper a b
+  pub chosen-none : o ≡ Nothing → none ≡ choose (meaning p u) (lineOf SESSIONS ledger u) k lower upper a b
   unfolding answered
   chosen-none g = ap answered (sym g) ∙ e ∙ ap (λ (x : Line). choose (meaning p u) x k lower upper a b) f
 
-  pub chosen-some : (s : ℕ) → o ≡ Roles s → some s ≡ choose (meaning p u) (lineOf 4 ledger u) k lower upper a b
+  pub chosen-some : (s : ℕ) → o ≡ Roles s → some s ≡ choose (meaning p u) (lineOf SESSIONS ledger u) k lower upper a b
   unfolding answered
   chosen-some s g = ap answered (sym g) ∙ e ∙ ap (λ (x : Line). choose (meaning p u) x k lower upper a b) f

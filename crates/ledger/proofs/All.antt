@@ -53,6 +53,13 @@ unfolding all
 all-true [] = refl
 all-true (x ∷ xs) = all-true xs
 
+-- a test that is the same of every member, of whom there is one
+pub all-same : {A : Type 0} (f : A → Bool) (b : Bool) (xs : List A) → 0 < length xs → ((x : A) → f x ≡ b) → all f xs ≡ b
+unfolding all
+all-same f b [] h e = absurd (omega arith)
+all-same f true (x ∷ xs) h e = all-cong f (λ x. true) (x ∷ xs) e ∙ all-true xs
+all-same f false (x ∷ xs) h e = ap (λ (a : Bool). a && all f xs) (e x)
+
 shuffle : (a b c d : Bool) → ((a && b) && (c && d)) ≡ ((a && c) && (b && d))
 shuffle true true c d = refl
 shuffle true false true d = refl

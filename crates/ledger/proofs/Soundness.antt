@@ -7,18 +7,23 @@ use mathlib.Core.List.{List}
 use Prim.Native.Nat.{ℕ, suc, _+_, _-_, _≤_, _<_}
 use native.Mathlib.Omega.{arith}
 use native.Mathlib.Numerals.{add-one}
-use lib.Bits.{bitOr}
+use lib.Bits.{bitOr, bitAnd, and-zero-r}
+use lib.Dec.{ltb}
 use lib.ListN.{length, getD, take, drop, drop-of-length-le}
 use lib.Seq.{drop-cons}
+use Rattle.model.specs.declared.Kind.{Kind}
+use Rattle.model.specs.declared.Kind.the-variants.{MsDmer, MsHmer}
 use Rattle.model.specs.declared.Exclusion.{Exclusion}
 use Rattle.model.specs.declared.Exclusions.{Exclusions}
 use Rattle.model.specs.declared.Session.{Session}
 use Rattle.model.specs.declared.Line.{Line}
 use Rattle.model.specs.Tests.{all}
+use Rattle.model.specs.Sets.{count}
 use Rattle.model.specs.Policy.{Meaning, met}
 use Rattle.model.specs.Line.{activeIn, counted, exclusionsMet, sessionSound, sessionsSound}
+use Rattle.model.proofs.TableLaws.{count-empty}
 use Rattle.ledger.specs.Held.{metAt, Listed}
-use Rattle.ledger.proofs.All.{all-cong, all-swap}
+use Rattle.ledger.proofs.All.{all-cong, all-same, all-swap}
 
 -- ---- the roles active in the sessions from k on
 pub active-next : (ss : List Session) (d : Session) (k : ℕ) → 0 < k → k ≤ length ss
@@ -49,6 +54,22 @@ module _ (m : Meaning) (l : Line) (d : Session) (ss : List Session) (k : ℕ) wh
   pub sound-end : length ss ≤ k → true ≡ sessionsSound m l k (drop k ss)
   unfolding sessionsSound
   sound-end h = rw (drop-of-length-le ss h)
+
+-- ---- an exclusion where no role is counted
+pub met-none : (counted : Kind → ℕ) (x : Exclusion) → counted (x .kind) ≡ 0 → ltb 0 (x .limit) ≡ met counted x
+unfolding met
+met-none counted x e =
+    ap (λ (n : ℕ). ltb n (x .limit)) (sym (ap (λ (s : ℕ). count 64 (bitAnd (x .members) s)) e ∙ ap (count 64) (and-zero-r (x .members)) ∙ count-empty 64))
+
+-- ---- an exclusion of a kind over all sessions, tested at one of them
+module _ (l : Line) (x : Exclusion) (s : Session) (some : 0 < length (l .sessions)) where
+  pub met-once-active : x .kind ≡ MsDmer → met (counted l s) x ≡ metAt l x
+  unfolding metAt met counted
+  met-once-active e = sym (all-same (λ t. met (counted l t) x) (met (counted l s) x) (l .sessions) some (λ t. rw e))
+
+  pub met-once-history : x .kind ≡ MsHmer → met (counted l s) x ≡ metAt l x
+  unfolding metAt met counted
+  met-once-history e = sym (all-same (λ t. met (counted l t) x) (met (counted l s) x) (l .sessions) some (λ t. rw e))
 
 -- ---- every exclusion at every session, by the exclusions
 pub by-exclusion : (m : Meaning) (l : Line) (xs : Exclusions) → Listed xs m → all (metAt l) (take (xs .count) (xs .list)) ≡ exclusionsMet m l

@@ -16,7 +16,7 @@ pub const LINE: usize = 16 + 16 * SESSIONS;
 // ---- reads
 
 // The session whose bytes start at the offset.
-fn session_at(s: &[u8], at: usize) -> Session
+pub fn session_at(s: &[u8], at: usize) -> Session
     requires { ⌜ at + 16 ≤ length (now s) ⌝ }
     ensures { λ r. ⌜ r ≡ sessionIn (drop at (now (s .entry))) ⌝ }
 {

@@ -43,16 +43,20 @@ pub fn counted(l: Line, s: Session, kind: Kind) -> u64
     }
 }
 
-// The exclusion is met at the session.
+// The exclusion is met at the session. Where none is counted, as at closed sessions, none is a member.
 fn met_at(l: Line, s: Session, x: Exclusion) -> bool
     ensures { λ r. ⌜ r ≡ met (countedBy l s) x ⌝ }
 {
     let kind = x.kind;
-    sets::fewer(x.members, counted(l, s, kind), x.limit as u32)
+    let roles = counted(l, s, kind);
+    if roles == 0 {
+        return 0 < x.limit;
+    }
+    sets::fewer(x.members, roles, x.limit as u32)
 }
 
-// The exclusion is met at every session.
-fn exclusion_met(l: Line, x: Exclusion) -> bool
+// The exclusion is met at every session, each tested.
+fn met_at_each(l: Line, x: Exclusion) -> bool
     ensures { λ r. ⌜ r ≡ metAt l x ⌝ }
 {
     for k in 0..SESSIONS {
@@ -62,6 +66,20 @@ fn exclusion_met(l: Line, x: Exclusion) -> bool
         }
     }
     true
+}
+
+// The exclusion is met at every session. A kind over all of the user's sessions counts the same at each, so one test is enough.
+fn exclusion_met(l: Line, x: Exclusion) -> bool
+    ensures { λ r. ⌜ r ≡ metAt l x ⌝ }
+{
+    let s = l.sessions[0];
+    let kind = x.kind;
+    match kind {
+        Kind::SsDmer => met_at_each(l, x),
+        Kind::MsDmer => met_at(l, s, x),
+        Kind::SsHmer => met_at_each(l, x),
+        Kind::MsHmer => met_at(l, s, x),
+    }
 }
 
 // Every exclusion is met at every session.
@@ -109,7 +127,7 @@ fn sessions_sound(l: Line, authorized: u64) -> bool
 // ---- the line
 
 // The set has numbers below n alone.
-fn below(set: u64, n: u8) -> bool
+pub fn below(set: u64, n: u8) -> bool
     ensures { λ r. ⌜ r ≡ ltb set (2 ^ n) ⌝ }
 {
     if n < 64 {

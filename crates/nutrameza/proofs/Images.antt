@@ -10,6 +10,7 @@ use Rattle.model.specs.Image.{emptyRows, checkNumber}
 use Rattle.model.specs.Judgement.{judge}
 use Rattle.model.specs.Policy.{policyOf}
 use Rattle.model.specs.Session.{refuse}
+use Rattle.model.specs.Moves.{moveOn, moveBy, move}
 use Rattle.model.specs.Run.{Call, Event, stepOn, stepBy, step, returned, filledWith, answered}
 use Rattle.model.proofs.Judgements.{accepted-head, accepted-in-range}
 use Rattle.sets.specs.Words.{value, values}
@@ -95,3 +96,14 @@ module _ (W : ℕ) (s ledger : List ℕ) (c : Call) where
       → Answers (stepOn W (policyOf s) ledger c) n after room answer → Answers (step W s ledger c) n after room answer
   answers-accepted h n after room answer e g =
       subst (λ (x : Event). Answers x n after room answer) (sym (step-accepted h e)) g
+
+-- ---- a move, which is no call on a line
+module _ (F W : ℕ) (s old new : List ℕ) where
+  pub move-judged : (n place r : ℕ) → judge s ≡ Refused n place → r ≡ checkNumber (Refused n place) → Gives (move F W s old new) r new
+  unfolding checkNumber returned refuse move moveBy
+  move-judged n place r e q = rw e (record { number = q; bytes = refl })
+
+  pub move-accepted : (h : Head) (n : ℕ) (after : List ℕ) → judge s ≡ Accepted h → Gives (moveOn F W (policyOf s) old new) n after
+      → Gives (move F W s old new) n after
+  unfolding move moveBy
+  move-accepted h n after e g = rw e g

@@ -1,12 +1,15 @@
 // The calls of the session kit, as a C host makes them: numbers are u64, a slice is a pointer and a length, and the answer is a number
 // plus 256 times an extra. No call requires anything of its arguments.
 ghost use mathlib.Core.Path.{_≡_};
+ghost use Prim.Native.Nat.{_≤_, _<_};
 ghost use lib.ListN.{length};
 ghost use Rattle.model.specs.Line.{SESSIONS};
 ghost use Rattle.model.specs.Image.{checkNumber};
 ghost use Rattle.model.specs.Judgement.{judge};
 ghost use Rattle.model.specs.Loop.{loopCall};
+ghost use Rattle.model.specs.Moves.{move, widened, narrowed};
 ghost use Rattle.model.specs.Run.{step, openBy, closeBy, showBy, askBy, shortAskBy, explainBy, returned, answered};
+ghost use Rattle.calls.specs.Calls.{Gives};
 use calls::given::Rules;
 use calls::given::Window;
 use model::Checked;
@@ -221,4 +224,43 @@ pub extern "C" fn nutrameza_short_ask(
         × (now (answer .exit) ≡ answered (now (answer .entry)) (step SESSIONS (now (image .entry)) (now (ledger .entry)) (shortAskBy user session (now (lower .entry)) (now (upper .entry)) (length (now (answer .entry)))) .reply)) ⌝ }
 {
     nutrameza_ask(image, ledger, user, session, lower, upper, 1, 1, answer)
+}
+
+// Carries a ledger from so many sessions a user to so many.
+fn moved(image: &[u8], old: &[u8], new: &mut [u8], from: u8, to: u8) -> u64
+    requires { ⌜ (0 < from) × (from ≤ SESSIONS) × (to ≤ SESSIONS) ⌝ }
+    ensures { λ r. ⌜ Gives (move from to (now (image .entry)) (now (old .entry)) (now (new .entry))) r (now (new .exit)) ⌝ }
+{
+    let mut authorized = [0u64; 64];
+    let mut granted = [[0u64; 4]; 64];
+    let mut below = [0u64; 64];
+    let mut xs = [[0u64; 2]; 32];
+    let all = tables::read::read(image, &mut authorized, &mut granted, &mut below, &mut xs);
+    let c = all.checked;
+    let Checked::Accepted(head) = c else {
+        return refusal_of(c);
+    };
+    let count = all.count;
+    let rules = Rules { head, count };
+    moves::lines::move_lines(old, from, to, rules, &authorized, &xs, new)
+}
+
+// Carries a ledger of four sessions a user over to one of eight: open bits, histories and each session's bytes stand as they were, and
+// the new sessions are closed. 9 is by 80 bytes a user, 19 by 144; the extra of 11 is the user.
+#[no_mangle]
+pub extern "C" fn nutrameza_widen(image: &[u8], old: &[u8], new: &mut [u8]) -> u64
+    ensures { λ r. ⌜ (r ≡ returned (widened (now (image .entry)) (now (old .entry)) (now (new .entry)) .reply))
+        × (now (new .exit) ≡ widened (now (image .entry)) (now (old .entry)) (now (new .entry)) .ledger) ⌝ }
+{
+    moved(image, old, new, 4, 8)
+}
+
+// Carries a ledger of eight sessions a user back to one of four. 9 is by 144 bytes a user, 19 by 80; 24 where any of the sessions 4 to 7
+// is open; the extra of 11 and 24 is the user.
+#[no_mangle]
+pub extern "C" fn nutrameza_narrow(image: &[u8], old: &[u8], new: &mut [u8]) -> u64
+    ensures { λ r. ⌜ (r ≡ returned (narrowed (now (image .entry)) (now (old .entry)) (now (new .entry)) .reply))
+        × (now (new .exit) ≡ narrowed (now (image .entry)) (now (old .entry)) (now (new .entry)) .ledger) ⌝ }
+{
+    moved(image, old, new, 8, 4)
 }

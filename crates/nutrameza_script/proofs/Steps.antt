@@ -12,7 +12,7 @@ use Rattle.model.specs.declared.Head.{Head}
 use Rattle.model.specs.declared.Checked.{Checked}
 use Rattle.model.specs.declared.Checked.the-variants.{Accepted, Refused}
 use Rattle.model.specs.Judgement.{judge}
-use Rattle.model.specs.Line.{lineSize}
+use Rattle.model.specs.Line.{SESSIONS, lineSize}
 use Rattle.nutrameza.proofs.Images.{accepted-users}
 use Rattle.script.specs.Script.{answerTo, printed, firstLedger}
 use Rattle.text.specs.Writing.{Puts}
@@ -109,16 +109,17 @@ last-answered image l ledger out k calls out′ r e m h n p =
 
 -- ---- the first ledger
 
--- none under a refused image; 80 bytes for each user under an accepted one, of whom there are at most 64
+-- none under a refused image; a line for each user under an accepted one, of whom there are at most 64
 pub refused-length : (image : List ℕ) (n place : ℕ) → judge image ≡ Refused n place → 0 ≡ length (firstLedger (judge image))
 unfolding firstLedger
 refused-length image n place e = rw e
 
-pub accepted-length : (image : List ℕ) (h : Head) → judge image ≡ Accepted h → 80 * h .users ≡ length (firstLedger (judge image))
-unfolding firstLedger lineSize
-accepted-length image h e = rw e (sym (length-replicate (80 * h .users) 0))
+pub accepted-length : (image : List ℕ) (h : Head) → judge image ≡ Accepted h → lineSize SESSIONS * h .users ≡ length (firstLedger (judge image))
+unfolding firstLedger
+accepted-length image h e = rw e (sym (length-replicate (lineSize SESSIONS * h .users) 0))
 
-pub accepted-most : (image : List ℕ) (h : Head) → judge image ≡ Accepted h → 80 * h .users ≤ 5120
+pub accepted-most : (image : List ℕ) (h : Head) → judge image ≡ Accepted h → lineSize SESSIONS * h .users ≤ 64 * (16 + 16 * SESSIONS)
+unfolding lineSize
 accepted-most image h e = omega (arith, accepted-users image h e)
 
 -- it is as many zeros as it is long
@@ -132,7 +133,7 @@ zeros-taken (suc k) (suc n) h = ap (λ x. 0 ∷ x) (zeros-taken k n (omega arith
 
 ledger-zeros : (c : Checked) → firstLedger c ≡ zeros (length (firstLedger c))
 unfolding firstLedger
-ledger-zeros (Accepted h) = ap zeros (sym (length-replicate {A = ℕ} (lineSize 4 * h .users) 0))
+ledger-zeros (Accepted h) = ap zeros (sym (length-replicate {A = ℕ} (lineSize SESSIONS * h .users) 0))
 ledger-zeros (Refused n place) = refl
 
 pub first-zeros : (image : List ℕ) (k n : ℕ) → k ≡ length (firstLedger (judge image)) → k ≤ n → take (k - 0) (zeros n) ≡ firstLedger (judge image)

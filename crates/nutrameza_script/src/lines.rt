@@ -1,13 +1,18 @@
 // The lines of a script, answered from the chunks in which it is read.
 ghost use mathlib.Core.Path.{_≡_};
 ghost use mathlib.Core.List.{[]};
-ghost use Prim.Native.Nat.{_+_, _≤_, _<_};
+ghost use Prim.Native.Nat.{_+_, _*_, _≤_, _<_};
 ghost use lib.ListN.{length, take};
 ghost use Rattle.model.specs.Judgement.{judge};
+ghost use Rattle.model.specs.Line.{SESSIONS};
 ghost use Rattle.script.specs.Script.{firstLedger};
 ghost use Rattle.nutrameza_script.specs.Progress.{keeping, ended};
 ghost use Rattle.nutrameza_script.specs.Buffers.{during, Gathers, Ready, AnswersLines};
+use ledger::bytes::LINE;
 use model::Checked;
+
+// The bytes of the longest ledger: a line for each of 64 users.
+pub const LEDGER: usize = 64 * LINE;
 
 // A line that is begun: the place of the next byte in the chunk, and how many bytes of the line are kept.
 pub struct Begun {
@@ -23,15 +28,15 @@ pub struct Place {
     pub filled: usize,
 }
 
-// The length of the ledger under an image: 80 bytes for each user, none where the image is refused.
+// The length of the ledger under an image: a line for each user, none where the image is refused.
 pub fn ledger_length(image: &[u8]) -> usize
-    ensures { λ r. ⌜ (r ≡ length (firstLedger (judge (now (image .entry))))) × (r ≤ 5120) ⌝ }
+    ensures { λ r. ⌜ (r ≡ length (firstLedger (judge (now (image .entry))))) × (r ≤ 64 * (16 + 16 * SESSIONS)) ⌝ }
 {
     let checked = tables::judge::judge(image);
     let Checked::Accepted(h) = checked else {
         return 0;
     };
-    80 * (h.users as usize)
+    LINE * (h.users as usize)
 }
 
 // Keeps one byte of a line, unless 174 are kept already, and returns how many are.

@@ -7,7 +7,7 @@ fn main() {
     let mut file = [0u8; 16385];
     let size = input::read_image(&mut file);
     let image = &file[..size];
-    let mut ledger = [0u8; 5120];
+    let mut ledger = [0u8; lines::LEDGER];
     let used = lines::ledger_length(image);
     input::answer_all(image, &mut ledger[0..used]);
 }

@@ -9,6 +9,7 @@ use Rattle.model.specs.declared.Checked.{Checked}
 use Rattle.model.specs.declared.Checked.the-variants.{Accepted, Refused}
 use Rattle.model.specs.Judgement.{judge}
 use Rattle.model.specs.Policy.{Policy, Meaning, policyOf}
+use Rattle.model.specs.Line.{SESSIONS}
 use Rattle.model.specs.Session.{Refusal, Result, Reply, refuse, done, perform, unless, rule}
 use Rattle.model.specs.Run.{Call, Event, ruled, stepOn, stepBy, step, openBy, closeBy, showBy, shortAskBy, askBy, returned, filledWith, answered}
 use Rattle.model.proofs.Bools.{pick-case}
@@ -41,13 +42,13 @@ module _ (W : ℕ) (c : Call) (h : (m : Meaning) (bs : List ℕ) → rule W m bs
   unfolding step
   step-empty image ledger = stepBy-empty (judge image) (policyOf image) ledger
 
-open-empty : (u : ℕ) (image ledger : List ℕ) → Empty (step 4 image ledger (openBy u))
+open-empty : (u : ℕ) (image ledger : List ℕ) → Empty (step SESSIONS image ledger (openBy u))
 unfolding openBy rule perform done
-open-empty u image ledger = step-empty 4 (openBy u) (λ m bs. unless-empty _ bs _ refl) image ledger
+open-empty u image ledger = step-empty SESSIONS (openBy u) (λ m bs. unless-empty _ bs _ refl) image ledger
 
-close-empty : (u k : ℕ) (image ledger : List ℕ) → Empty (step 4 image ledger (closeBy u k))
+close-empty : (u k : ℕ) (image ledger : List ℕ) → Empty (step SESSIONS image ledger (closeBy u k))
 unfolding closeBy rule perform done
-close-empty u k image ledger = step-empty 4 (closeBy u k) (λ m bs. unless-empty _ bs _ refl) image ledger
+close-empty u k image ledger = step-empty SESSIONS (closeBy u k) (λ m bs. unless-empty _ bs _ refl) image ledger
 
 left-alone : (room : List ℕ) (r : Reply) → r .filled ≡ [] → room ≡ answered room r
 unfolding answered filledWith
@@ -63,14 +64,14 @@ module _ (image ledger room₀ : List ℕ) (p : Parsed) where
   by-form f n after answer g a = rw g a
 
   pub answers-open : (u n : ℕ) (after : List ℕ) → p .form ≡ Open u
-      → (n ≡ returned (step 4 image ledger (openBy u) .reply)) × (after ≡ step 4 image ledger (openBy u) .ledger)
+      → (n ≡ returned (step SESSIONS image ledger (openBy u) .reply)) × (after ≡ step SESSIONS image ledger (openBy u) .ledger)
       → Answers (answerBy image ledger (callIn p)) n after room₀ room₀
   unfolding answerBy formed
   answers-open u n after g k =
       by-form (Open u) n after room₀ g (record { number = k .0; bytes = k .1; buffer = left-alone room₀ _ (open-empty u image ledger) })
 
   pub answers-close : (u s n : ℕ) (after : List ℕ) → p .form ≡ Close u s
-      → (n ≡ returned (step 4 image ledger (closeBy u s) .reply)) × (after ≡ step 4 image ledger (closeBy u s) .ledger)
+      → (n ≡ returned (step SESSIONS image ledger (closeBy u s) .reply)) × (after ≡ step SESSIONS image ledger (closeBy u s) .ledger)
       → Answers (answerBy image ledger (callIn p)) n after room₀ room₀
   unfolding answerBy formed
   answers-close u s n after g k =
@@ -84,23 +85,23 @@ module _ (image ledger room₀ : List ℕ) (p : Parsed) where
   -- where the answer buffer has the program's room
   module _ (h : length room₀ ≡ 40) where
     -- what a call with the buffer's room gives, the call with 40 bytes of room gives
-    in-room : (c : ℕ → Call) (n : ℕ) (after answer : List ℕ) → Answers (step 4 image ledger (c (length room₀))) n after room₀ answer
-        → Answers (step 4 image ledger (c 40)) n after room₀ answer
-    in-room c n after answer a = subst (λ x. Answers (step 4 image ledger (c x)) n after room₀ answer) h a
+    in-room : (c : ℕ → Call) (n : ℕ) (after answer : List ℕ) → Answers (step SESSIONS image ledger (c (length room₀))) n after room₀ answer
+        → Answers (step SESSIONS image ledger (c 40)) n after room₀ answer
+    in-room c n after answer a = subst (λ x. Answers (step SESSIONS image ledger (c x)) n after room₀ answer) h a
 
     pub answers-show : (u s n : ℕ) (answer : List ℕ) → p .form ≡ Show u s
-        → (n ≡ returned (step 4 image ledger (showBy u s (length room₀)) .reply))
-        × (answer ≡ answered room₀ (step 4 image ledger (showBy u s (length room₀)) .reply))
+        → (n ≡ returned (step SESSIONS image ledger (showBy u s (length room₀)) .reply))
+        × (answer ≡ answered room₀ (step SESSIONS image ledger (showBy u s (length room₀)) .reply))
         → Answers (answerBy image ledger (callIn p)) n ledger room₀ answer
     unfolding answerBy formed room
     answers-show u s n answer g k =
         by-form (Show u s) n ledger answer g
-        (in-room (showBy u s) n ledger answer (record { number = k .0; bytes = sym (show-keeps 4 image ledger u s (length room₀)); buffer = k .1 }))
+        (in-room (showBy u s) n ledger answer (record { number = k .0; bytes = sym (show-keeps SESSIONS image ledger u s (length room₀)); buffer = k .1 }))
 
     pub answers-short-ask : (u s n : ℕ) (after answer : List ℕ) → p .form ≡ ShortAsk u s
-        → (n ≡ returned (step 4 image ledger (shortAskBy u s (p .lower) (p .upper) (length room₀)) .reply))
-        × (after ≡ step 4 image ledger (shortAskBy u s (p .lower) (p .upper) (length room₀)) .ledger)
-        × (answer ≡ answered room₀ (step 4 image ledger (shortAskBy u s (p .lower) (p .upper) (length room₀)) .reply))
+        → (n ≡ returned (step SESSIONS image ledger (shortAskBy u s (p .lower) (p .upper) (length room₀)) .reply))
+        × (after ≡ step SESSIONS image ledger (shortAskBy u s (p .lower) (p .upper) (length room₀)) .ledger)
+        × (answer ≡ answered room₀ (step SESSIONS image ledger (shortAskBy u s (p .lower) (p .upper) (length room₀)) .reply))
         → Answers (answerBy image ledger (callIn p)) n after room₀ answer
     unfolding answerBy formed room
     answers-short-ask u s n after answer g k =
@@ -108,9 +109,9 @@ module _ (image ledger room₀ : List ℕ) (p : Parsed) where
         (in-room (shortAskBy u s (p .lower) (p .upper)) n after answer (record { number = k .0; bytes = k .1; buffer = k .2 }))
 
     pub answers-ask : (u s a b n : ℕ) (after answer : List ℕ) → p .form ≡ Ask u s a b
-        → (n ≡ returned (step 4 image ledger (askBy u s (p .lower) (p .upper) a b (length room₀)) .reply))
-        × (after ≡ step 4 image ledger (askBy u s (p .lower) (p .upper) a b (length room₀)) .ledger)
-        × (answer ≡ answered room₀ (step 4 image ledger (askBy u s (p .lower) (p .upper) a b (length room₀)) .reply))
+        → (n ≡ returned (step SESSIONS image ledger (askBy u s (p .lower) (p .upper) a b (length room₀)) .reply))
+        × (after ≡ step SESSIONS image ledger (askBy u s (p .lower) (p .upper) a b (length room₀)) .ledger)
+        × (answer ≡ answered room₀ (step SESSIONS image ledger (askBy u s (p .lower) (p .upper) a b (length room₀)) .reply))
         → Answers (answerBy image ledger (callIn p)) n after room₀ answer
     unfolding answerBy formed room
     answers-ask u s a b n after answer g k =

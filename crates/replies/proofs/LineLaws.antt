@@ -6,6 +6,7 @@ use mathlib.Core.List.{List, [], _∷_}
 use Prim.Native.Nat.{ℕ, _/_, _%_}
 use lib.ListN.{take, drop, replicate}
 use Rattle.model.specs.Bytes.{number}
+use Rattle.model.specs.Line.{SESSIONS}
 use Rattle.model.specs.Session.{Reply, refuse}
 use Rattle.model.specs.Run.{Call, Event, step, returned, filledWith, answered}
 use Rattle.script.specs.declared.Parsed.{Parsed}
@@ -44,8 +45,8 @@ parts : (image ledger : List ℕ) (o : Option Call) → Parts (answerBy image le
 unfolding answerBy returned refuse
 parts image ledger none = record { number-is = refl; extra-is = refl }
 parts image ledger (some c) =
-    let r = step 4 image ledger c .reply in
-    let s = step-small 4 image ledger c in
+    let r = step SESSIONS image ledger c .reply in
+    let s = step-small SESSIONS image ledger c in
     record { number-is = number-returned r s; extra-is = extra-returned r s }
 
 module _ (image ledger line : List ℕ) (p : Parsed) (n code : ℕ) (after answer : List ℕ) (q : callIn p ≡ parse line)

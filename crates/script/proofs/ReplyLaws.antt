@@ -1,22 +1,19 @@
 -- An answer's number is one of the register's, so it and the extra can be told apart in what a call returns.
 -- Assumes nothing.
 use mathlib.Core.Path.{_≡_}
-use mathlib.Core.Bool.{Bool, true, false}
 use mathlib.Core.Option.{Option, none, some}
 use mathlib.Core.List.{List}
 use Prim.Native.Nat.{ℕ, _/_, _%_, _<_}
 use native.Mathlib.Omega.{arith}
-use lib.Dec.{ltb}
-use Rattle.model.specs.declared.Head.{Head}
 use Rattle.model.specs.declared.Checked.{Checked}
 use Rattle.model.specs.declared.Checked.the-variants.{Accepted, Refused}
-use Rattle.model.specs.Image.{judgeWords}
 use Rattle.model.specs.Policy.{Policy, Meaning, policyOf, meaning}
-use Rattle.model.specs.Judgement.{lowestOnLoop, lowestOverReach, barred, judgeMeaning, judge}
+use Rattle.model.specs.Judgement.{judge}
 use Rattle.model.specs.Session.{Operation, open-session, close-session, ask, short-ask, show, explain, Reply, refuse, done, given, Result, Refusal, bad-line, bad-session, is-closed, is-full, bad-set, bad-permission, bad-bounds, bad-aim, bad-room, no-set, not-below, not-carried, refusalNumber, asked, explained, perform, unless, rule}
 use Rattle.model.specs.Run.{Call, Event, step, stepBy, stepOn, ruled, returned}
 use Rattle.model.proofs.Bools.{pick-case}
-use Rattle.model.proofs.Judgements.{UpTo8, words-small}
+use Rattle.model.proofs.ImageNumbers.{Numbered}
+use Rattle.model.proofs.Judgements.{judge-numbered}
 
 -- ---- of an image
 
@@ -26,19 +23,12 @@ Small (Accepted h) = 0 < 256
 Small (Refused n x) = n < 256
 
 judge-small : (s : List ℕ) → Small (judge s)
-unfolding judge judgeMeaning barred Small
-judge-small s = go (judgeWords s) (words-small s)
+unfolding Small
+judge-small s = go (judge s) (judge-numbered s)
   where
-    either : (h : Head) (x y : ℕ) (a b : Bool) → Small (elim a [ true ↦ Refused 22 x | false ↦ elim b [ true ↦ Refused 23 y | false ↦ Accepted h ] ])
-    either h x y true b = omega arith
-    either h x y false true = omega arith
-    either h x y false false = omega arith
-
-    go : (c : Checked) → UpTo8 c → Small (judgeMeaning (policyOf s) c)
+    go : (c : Checked) → Numbered 23 c → Small c
     go (Refused n place) k = omega arith
-    go (Accepted h) k =
-        let p = policyOf s in
-        either h (lowestOnLoop p) (lowestOverReach p) (ltb (lowestOnLoop p) (p .head .roles)) (ltb (lowestOverReach p) (p .head .users))
+    go (Accepted h) k = omega arith
 
 -- ---- of the session rules
 

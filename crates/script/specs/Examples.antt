@@ -32,7 +32,7 @@ examples =
     -- a short ask and a show; digits of either size and leading zeros; an unreadable line between
     ∷ underA "open 0\nask 0 0 3 1F\n\nshow 000000000 00\nask 0 0 0012 1f" "1 0 0 0 0\n2 0 0 1 f\n3 21 0 0 0\n4 0 0 1 f\n5 0 0 2 12\n"
     -- the numbers that a line sends on are judged by the call
-    ∷ underA "open 1\nopen 999999999\nclose 0 4\nclose 0 0\nopen 0\nask 0 0 20 3f\nask 0 0 3 1f 3 0\n"
+    ∷ underA "open 1\nopen 999999999\nclose 0 8\nclose 0 0\nopen 0\nask 0 0 20 3f\nask 0 0 3 1f 3 0\n"
     "1 10 0 0 0\n2 10 0 0 0\n3 12 0 0 0\n4 13 0 0 0\n5 0 0 0 0\n6 16 0 0 0\n7 18 0 0 0\n"
     -- a refused image: the refusal with its place for a readable line, 21 for any other; an image file that can't be read is empty
     ∷ under [] "open 0\nopen\nshow 7 7\n" "1 1 0 0 0\n2 21 0 0 0\n3 1 0 0 0\n"
@@ -43,7 +43,7 @@ examples =
     ∷ underA "open 0\n\nopen 0" "1 0 0 0 0\n2 21 0 0 0\n3 0 1 0 0\n"
     -- sets up to role 63 and permission 255, and a bound of 64 digits
     ∷ under ranked
-    "open 0\nask 0 0 1000000000000000000000000000000010000000000000000 8000000000000001000000000000000180000000000000010000000000000000 1 0\nask 0 0 0 8000000000000001000000000000000180000000000000010000000000000000 2 0\nshow 0 4\n"
+    "open 0\nask 0 0 1000000000000000000000000000000010000000000000000 8000000000000001000000000000000180000000000000010000000000000000 1 0\nask 0 0 0 8000000000000001000000000000000180000000000000010000000000000000 2 0\nshow 0 8\n"
     "1 0 0 0 0\n2 0 0 8000000000000000 1000000000000000100000000000000010000000000000000\n3 0 0 c000000000000000 8000000000000001000000000000000180000000000000010000000000000000\n4 12 0 0 0\n"
     -- the first objective is that on permissions; a capital digit and a small one mean the same
     ∷ under (imageBytes threeRoles) "open 0\nask 0 0 1 f 2 0\nask 0 0 1 F 1 2\nask 0 0 A E 0 0\nask 0 0 a e 0 0\n"

@@ -4,6 +4,7 @@ use mathlib.Core.Path.{refl, sym, ap, _∙_}
 use borrow.Author.Needs.{needs}
 use Rattle.model.specs.Image.{checkNumber}
 use Rattle.model.specs.Policy.{policyOf}
+use Rattle.model.specs.Line.{SESSIONS}
 use Rattle.model.specs.Run.{closeBy}
 use Rattle.nutrameza.proofs.Images.{fresh, accepted-users, known-of, gives-judged, gives-accepted}
 use Rattle.nutrameza.proofs.nutrameza_close.Statement.{statement}
@@ -17,7 +18,7 @@ returns c =
     let g = c .before .enum-told .given .1 in
     let k = c .before .before .before .read .ensures .0 in
     let a = c .before .before .before .before .before .before .before .before .before .before .args in
-    let e = gives-judged 4 (a .image .now) (a .ledger .now) (closeBy (a .user) (a .session)) _ _ _ (sym k ∙ g) (c .refusal-of .ensures ∙ ap checkNumber g) in
+    let e = gives-judged SESSIONS (a .image .now) (a .ledger .now) (closeBy (a .user) (a .session)) _ _ _ (sym k ∙ g) (c .refusal-of .ensures ∙ ap checkNumber g) in
     (e .number, e .bytes)
 
 close-requires : tie.Need-close-session-requires
@@ -33,7 +34,7 @@ returns-2 c =
     let k = o .before .before .before .before .before .before .before .read .ensures in
     let a = o .before .before .before .before .before .before .before .before .before .before .before .before .before .before .args in
     let j = sym (k .0) ∙ g in
-    let e = gives-accepted 4 (a .image .now) (a .ledger .now) (closeBy (a .user) (a .session)) _ _ _ j
+    let e = gives-accepted SESSIONS (a .image .now) (a .ledger .now) (closeBy (a .user) (a .session)) _ _ _ j
     (o .close-session .ensures (policyOf (a .image .now)) (known-of (a .image .now) _ _ _ _ _ _ j (k .1 _ g))) in
     (e .number, e .bytes)
 

@@ -2,6 +2,7 @@
 -- Assumes nothing.
 use lib.ListN.{length}
 use borrow.Author.Needs.{needs}
+use Rattle.model.specs.Line.{SESSIONS}
 use Rattle.model.specs.Session.{shortAim}
 use Rattle.nutrameza.proofs.ShortAsks.{short-given}
 use Rattle.nutrameza.proofs.nutrameza_short_ask.Statement.{statement}
@@ -11,7 +12,7 @@ returns : tie.Need-returns
 unfolding shortAim
 returns c =
     let a = c .before .before .before .before .before .before .before .before .before .before .before .before .args in
-    short-given 4 (a .session) (a .lower .now) (a .upper .now) (length (a .answer .now)) (a .user) (a .image .now) (a .ledger .now) _ _ (a .answer .now) _
+    short-given SESSIONS (a .session) (a .lower .now) (a .upper .now) (length (a .answer .now)) (a .user) (a .image .now) (a .ledger .now) _ _ (a .answer .now) _
     (c .before .before .before .before .nutrameza-ask .ensures)
 
 pub nutrameza-short-ask-spec : {M : Type 1} → statement M

@@ -5,6 +5,7 @@ use lib.ListN.{length}
 use borrow.Author.Needs.{needs}
 use Rattle.model.specs.Image.{checkNumber}
 use Rattle.model.specs.Policy.{policyOf}
+use Rattle.model.specs.Line.{SESSIONS}
 use Rattle.model.specs.Run.{showBy}
 use Rattle.nutrameza.proofs.Images.{fresh, accepted-users, known-of, shows-judged, shows-accepted}
 use Rattle.nutrameza.proofs.nutrameza_show.Statement.{statement}
@@ -18,7 +19,7 @@ returns c =
     let g = c .before .enum-told .given .1 in
     let k = c .before .before .before .read .ensures .0 in
     let a = c .before .before .before .before .before .before .before .before .before .before .before .args in
-    let e = shows-judged 4 (a .image .now) (a .ledger .now) (showBy (a .user) (a .session) (length (a .answer .now))) _ _ _ (a .answer .now)
+    let e = shows-judged SESSIONS (a .image .now) (a .ledger .now) (showBy (a .user) (a .session) (length (a .answer .now))) _ _ _ (a .answer .now)
     (sym k ∙ g) (c .refusal-of .ensures ∙ ap checkNumber g) in
     (e .number, e .buffer)
 
@@ -36,7 +37,7 @@ returns-2 c =
     let a = o .before .before .before .before .before .before .before .before .before .before .before .before .before .before .before .before .before .args in
     let j = sym (k .0) ∙ g in
     let t = k .1 _ g in
-    let e = shows-accepted 4 (a .image .now) (a .ledger .now) (showBy (a .user) (a .session) (length (a .answer .now))) _ _ _ _ j
+    let e = shows-accepted SESSIONS (a .image .now) (a .ledger .now) (showBy (a .user) (a .session) (length (a .answer .now))) _ _ _ _ j
     (o .show-session .ensures (policyOf (a .image .now)) (known-of (a .image .now) _ _ _ _ _ _ j t) (t .granted-is) (t .below-is)) in
     (e .number, e .buffer)
 

@@ -2,6 +2,7 @@
 -- Assumes nothing.
 use native.Mathlib.Omega.{arith}
 use borrow.Author.Needs.{needs}
+use Rattle.model.specs.Line.{SESSIONS}
 use Rattle.sets.specs.Words.{values}
 use Rattle.rows.specs.Rows.{exclusionsIn}
 use Rattle.asks.proofs.Asks.{answers-refusal, ask-stopped, answers-searched}
@@ -14,38 +15,38 @@ returns : tie.Need-returns
 returns c p h g j =
     let a = c .before .before .before .before .before .before .before .args in
     answers-refusal _ _ _ _
-    (ask-stopped 4 p (a .ledger .now) (a .window .user) (a .window .session) (a .lower .now) (a .upper .now) (a .first) (a .second) _ _ (c .before .ask-refusal .ensures p h) (c .if1 .taken))
+    (ask-stopped SESSIONS p (a .ledger .now) (a .window .user) (a .window .session) (a .lower .now) (a .upper .now) (a .first) (a .second) _ _ (c .before .ask-refusal .ensures p h) (c .if1 .taken))
 
 roles-of-requires : tie.Need-roles-of-requires
 roles-of-requires c κs =
     let a = c .before .before .before .before .before .before .before .args in
-    let b = user-below 4 (a .rules .head) (a .authorized .now) (exclusionsIn (a .xs .now) (a .rules .count)) (a .ledger .now) (a .window .user) (a .window .session) (a .lower .now) (a .upper .now) (a .first) (a .second) _ _
+    let b = user-below SESSIONS (a .rules .head) (a .authorized .now) (exclusionsIn (a .xs .now) (a .rules .count)) (a .ledger .now) (a .window .user) (a .window .session) (a .lower .now) (a .upper .now) (a .first) (a .second) _ _
     (c .before .ask-refusal .ensures) (c .if1 .left) in
     omega (arith, b, c .before .before .before .before .before .before .before .pre .0)
 
 bound-requires : tie.Need-bound-requires
 bound-requires c κs =
     let a = c .before .before .before .before .before .before .before .before .args in
-    lower-32 4 (a .rules .head) (a .authorized .now) (exclusionsIn (a .xs .now) (a .rules .count)) (a .ledger .now) (a .window .user) (a .window .session) (a .lower .now) (a .upper .now) (a .first) (a .second) _ _
+    lower-32 SESSIONS (a .rules .head) (a .authorized .now) (exclusionsIn (a .xs .now) (a .rules .count)) (a .ledger .now) (a .window .user) (a .window .session) (a .lower .now) (a .upper .now) (a .first) (a .second) _ _
     (c .before .before .ask-refusal .ensures) (c .before .if1 .left)
 
 bound-requires-2 : tie.Need-bound-requires-2
 bound-requires-2 c κs =
     let a = c .before .before .before .before .before .before .before .before .before .args in
-    upper-32 4 (a .rules .head) (a .authorized .now) (exclusionsIn (a .xs .now) (a .rules .count)) (a .ledger .now) (a .window .user) (a .window .session) (a .lower .now) (a .upper .now) (a .first) (a .second) _ _
+    upper-32 SESSIONS (a .rules .head) (a .authorized .now) (exclusionsIn (a .xs .now) (a .rules .count)) (a .ledger .now) (a .window .user) (a .window .session) (a .lower .now) (a .upper .now) (a .first) (a .second) _ _
     (c .before .before .before .ask-refusal .ensures) (c .before .before .if1 .left)
 
 cast-first : tie.Need-cast-first
 cast-first c =
     let a = c .before .before .before .before .before .before .before .before .before .before .args in
-    let b = first-small 4 (a .rules .head) (a .authorized .now) (exclusionsIn (a .xs .now) (a .rules .count)) (a .ledger .now) (a .window .user) (a .window .session) (a .lower .now) (a .upper .now) (a .first) (a .second) _ _
+    let b = first-small SESSIONS (a .rules .head) (a .authorized .now) (exclusionsIn (a .xs .now) (a .rules .count)) (a .ledger .now) (a .window .user) (a .window .session) (a .lower .now) (a .upper .now) (a .first) (a .second) _ _
     (c .before .before .before .before .ask-refusal .ensures) (c .before .before .before .if1 .left) in
     omega (arith, b)
 
 cast-second : tie.Need-cast-second
 cast-second c =
     let a = c .before .before .before .before .before .before .before .before .before .before .args in
-    let b = second-small 4 (a .rules .head) (a .authorized .now) (exclusionsIn (a .xs .now) (a .rules .count)) (a .ledger .now) (a .window .user) (a .window .session) (a .lower .now) (a .upper .now) (a .first) (a .second) _ _
+    let b = second-small SESSIONS (a .rules .head) (a .authorized .now) (exclusionsIn (a .xs .now) (a .rules .count)) (a .ledger .now) (a .window .user) (a .window .session) (a .lower .now) (a .upper .now) (a .first) (a .second) _ _
     (c .before .before .before .before .ask-refusal .ensures) (c .before .before .before .if1 .left) in
     omega (arith, b)
 
@@ -54,11 +55,11 @@ put-best-requires c κs =
     let s = c .before .before .before .before .before .before .before .before .before .before .before .before in
     let a = s .args in (
       s .pre .1,
-      line-room 4 (a .rules .head) (a .authorized .now) (exclusionsIn (a .xs .now) (a .rules .count)) (a .ledger .now) (a .window .user) (a .window .session) (a .lower .now) (a .upper .now) (a .first) (a .second) _ _
+      line-room SESSIONS (a .rules .head) (a .authorized .now) (exclusionsIn (a .xs .now) (a .rules .count)) (a .ledger .now) (a .window .user) (a .window .session) (a .lower .now) (a .upper .now) (a .first) (a .second) _ _
           (c .before .before .before .before .before .before .ask-refusal .ensures) (c .before .before .before .before .before .if1 .left),
-      ask-by 4 (a .rules .head) (a .authorized .now) (exclusionsIn (a .xs .now) (a .rules .count)) (a .ledger .now) (a .window .user) (a .window .session) (a .lower .now) (a .upper .now) (a .first) (a .second) _ _
+      ask-by SESSIONS (a .rules .head) (a .authorized .now) (exclusionsIn (a .xs .now) (a .rules .count)) (a .ledger .now) (a .window .user) (a .window .session) (a .lower .now) (a .upper .now) (a .first) (a .second) _ _
           (c .before .before .before .before .before .before .ask-refusal .ensures) (c .before .before .before .before .before .if1 .left) .session .below,
-      room-40 4 (a .rules .head) (a .authorized .now) (exclusionsIn (a .xs .now) (a .rules .count)) (a .ledger .now) (a .window .user) (a .window .session) (a .lower .now) (a .upper .now) (a .first) (a .second) _ _
+      room-40 SESSIONS (a .rules .head) (a .authorized .now) (exclusionsIn (a .xs .now) (a .rules .count)) (a .ledger .now) (a .window .user) (a .window .session) (a .lower .now) (a .upper .now) (a .first) (a .second) _ _
           (c .before .before .before .before .before .before .ask-refusal .ensures) (c .before .before .before .before .before .if1 .left),
       s .pre .2,
     )
@@ -66,7 +67,7 @@ put-best-requires c κs =
 returns-2 : tie.Need-returns-2
 returns-2 c p h g j =
     let a = c .before .before .before .before .before .before .before .before .before .before .before .before .before .before .before .before .before .args in
-    let r = ask-for 4 (a .rules .head) (a .authorized .now) (exclusionsIn (a .xs .now) (a .rules .count)) (a .ledger .now) (a .window .user) (a .window .session) (a .lower .now) (a .upper .now) (a .first) (a .second) _ _
+    let r = ask-for SESSIONS (a .rules .head) (a .authorized .now) (exclusionsIn (a .xs .now) (a .rules .count)) (a .ledger .now) (a .window .user) (a .window .session) (a .lower .now) (a .upper .now) (a .first) (a .second) _ _
     (c .before .before .before .before .before .before .before .before .before .before .before .ask-refusal .ensures) (c .before .before .before .before .before .before .before .before .before .before .if1 .left) p h in
     answers-searched p (a .ledger .now) (a .window .user) (a .window .session) (a .lower .now) (a .upper .now) (a .first) (a .second) _ _ _ _ _ (a .answer .now) _ r
     (c .before .before .before .before .before .before .before .before .bound .ensures) (c .before .before .before .before .before .before .before .bound2 .ensures)

@@ -4,7 +4,7 @@ use mathlib.Core.Path.{ap, _∙_}
 use borrow.Author.Needs.{needs}
 use Rattle.model.specs.declared.Line.{Line}
 use Rattle.model.specs.Policy.{meaning}
-use Rattle.model.specs.Line.{lineSize, putIn, writeLine}
+use Rattle.model.specs.Line.{SESSIONS, lineSize, putIn, writeLine}
 use Rattle.model.specs.Run.{withLine}
 use Rattle.sets.specs.Words.{value, values}
 use Rattle.calls.specs.Calls.{lineOf}
@@ -40,7 +40,7 @@ returns-2 c p g =
     let k = c .before .before .before .carried-by .ensures (meaning p (a .window .user)) (carry-within p (a .window .user) (a .authorized) _ _ (q .carry) w) in
     answers-some p (a .ledger .now) (a .window .user) (a .window .session) _ _ _ _ _ _ o k
     (c .before .before .before .before .before .before .before .before .put-line .ensures
-    ∙ ap (λ (x : Line). withLine (lineSize 4) (a .window .user) (writeLine x) (a .ledger .now)) (c .before .before .before .before .before .before .before .before .before .before .put-in .ensures ∙ ap (putIn (a .window .session) _) l))
+    ∙ ap (λ (x : Line). withLine (lineSize SESSIONS) (a .window .user) (writeLine x) (a .ledger .now)) (c .before .before .before .before .before .before .before .before .before .before .put-in .ensures ∙ ap (putIn (a .window .session) _) l))
     (c .before .before .fill .ensures)
 
 fill-requires : tie.Need-fill-requires

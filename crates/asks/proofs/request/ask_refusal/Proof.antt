@@ -4,6 +4,7 @@ use mathlib.Core.Path.{sym, ap, _∙_}
 use borrow.Author.Needs.{needs}
 use Rattle.model.specs.declared.Head.{Head}
 use Rattle.model.specs.declared.Line.{Line}
+use Rattle.model.specs.Line.{SESSIONS}
 use Rattle.calls.specs.Calls.{lineOf}
 use Rattle.rows.specs.Rows.{exclusionsIn}
 use Rattle.asks.specs.Asks.{sessionRefusal, queryRefusal, askRefusal}
@@ -19,21 +20,21 @@ returns c p h = or-first _ _ _ (c .before .first-refusal .ensures p h) (c .if1 .
 line-of-requires : tie.Need-line-of-requires
 line-of-requires c κs =
     let a = c .before .before .before .before .before .args in
-    room-for 4 (a .rules .head) (a .authorized .now) (exclusionsIn (a .xs .now) (a .rules .count)) (a .ledger .now) (a .window .user) _ (c .before .first-refusal .ensures) (c .if1 .left)
+    room-for SESSIONS (a .rules .head) (a .authorized .now) (exclusionsIn (a .xs .now) (a .rules .count)) (a .ledger .now) (a .window .user) _ (c .before .first-refusal .ensures) (c .if1 .left)
 
 returns-2 : tie.Need-returns-2
 unfolding askRefusal lineOf
 returns-2 c p h =
     let a = c .before .before .before .before .before .before .before .before .args in
     or-second _ _ _ _ (c .before .before .before .before .first-refusal .ensures p h) (c .before .before .before .if1 .left)
-    (or-first _ _ _ (c .before .session-refusal .ensures ∙ ap (λ (x : Line). sessionRefusal 4 x (a .window .session)) (c .before .before .line-of .ensures)) (c .if2 .taken))
+    (or-first _ _ _ (c .before .session-refusal .ensures ∙ ap (λ (x : Line). sessionRefusal SESSIONS x (a .window .session)) (c .before .before .line-of .ensures)) (c .if2 .taken))
 
 returns-3 : tie.Need-returns-3
 unfolding askRefusal lineOf
 returns-3 c p h =
     let a = c .before .before .before .before .before .before .before .before .before .before .args in
     or-second _ _ _ _ (c .before .before .before .before .before .before .first-refusal .ensures p h) (c .before .before .before .before .before .if1 .left)
-    (or-second _ _ _ _ (c .before .before .before .session-refusal .ensures ∙ ap (λ (x : Line). sessionRefusal 4 x (a .window .session)) (c .before .before .before .before .line-of .ensures))
+    (or-second _ _ _ _ (c .before .before .before .session-refusal .ensures ∙ ap (λ (x : Line). sessionRefusal SESSIONS x (a .window .session)) (c .before .before .before .before .line-of .ensures))
     (c .before .before .if2 .left)
     (_∙_ {b = queryRefusal (a .rules .head .permissions) (a .lower .now) (a .upper .now) (a .first) (a .second) (a .room)} (c .query-refusal .ensures)
     (ap (λ (x : Head). queryRefusal (x .permissions) (a .lower .now) (a .upper .now) (a .first) (a .second) (a .room)) (sym (h .head-is)))))

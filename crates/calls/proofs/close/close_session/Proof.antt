@@ -4,7 +4,7 @@ use mathlib.Core.Path.{sym, ap, _∙_}
 use borrow.Author.Needs.{needs}
 use borrow.Author.Tests.{not-true, not-false}
 use Rattle.model.specs.declared.Line.{Line}
-use Rattle.model.specs.Line.{lineSize, isOpen, closing, writeLine}
+use Rattle.model.specs.Line.{SESSIONS, lineSize, isOpen, closing, writeLine}
 use Rattle.model.specs.Run.{closeBy, withLine}
 use Rattle.rows.specs.Rows.{exclusionsIn}
 use Rattle.calls.specs.Calls.{lineOf}
@@ -19,28 +19,28 @@ returns c p h =
     let f = c .before in
     let a = f .before .before .before .args in
     gives-refusal _ _ _
-    (stopped 4 p (a .ledger .now) (closeBy (a .window .user) (a .window .session)) (f .first-refusal .result) (f .first-refusal .ensures p h) (c .if1 .taken))
+    (stopped SESSIONS p (a .ledger .now) (closeBy (a .window .user) (a .window .session)) (f .first-refusal .result) (f .first-refusal .ensures p h) (c .if1 .taken))
 
 returns-2 : tie.Need-returns-2
 returns-2 c p h =
     let f = c .before .before in
     let a = f .before .before .before .args in
-    let r = ready-for 4 (a .rules .head) (a .authorized .now) (exclusionsIn (a .xs .now) (a .rules .count)) (a .ledger .now) (a .window .user) _ (f .first-refusal .ensures) (c .before .if1 .left) p h in
-    close12 4 p (a .ledger .now) (a .window .user) (a .window .session) r (c .if2 .taken)
+    let r = ready-for SESSIONS (a .rules .head) (a .authorized .now) (exclusionsIn (a .xs .now) (a .rules .count)) (a .ledger .now) (a .window .user) _ (f .first-refusal .ensures) (c .before .if1 .left) p h in
+    close12 SESSIONS p (a .ledger .now) (a .window .user) (a .window .session) r (c .if2 .taken)
 
 line-of-requires : tie.Need-line-of-requires
 line-of-requires c κs =
     let f = c .before .before .before in
     let a = f .before .before .before .args in
-    room-for 4 (a .rules .head) (a .authorized .now) (exclusionsIn (a .xs .now) (a .rules .count)) (a .ledger .now) (a .window .user) _ (f .first-refusal .ensures) (c .before .before .if1 .left)
+    room-for SESSIONS (a .rules .head) (a .authorized .now) (exclusionsIn (a .xs .now) (a .rules .count)) (a .ledger .now) (a .window .user) _ (f .first-refusal .ensures) (c .before .before .if1 .left)
 
 returns-3 : tie.Need-returns-3
 unfolding lineOf
 returns-3 c p h =
     let f = c .before .before .before .before .before .before in
     let a = f .before .before .before .args in
-    let r = ready-for 4 (a .rules .head) (a .authorized .now) (exclusionsIn (a .xs .now) (a .rules .count)) (a .ledger .now) (a .window .user) _ (f .first-refusal .ensures) (c .before .before .before .before .before .if1 .left) p h in
-    close13 4 p (a .ledger .now) (a .window .user) (a .window .session) r (c .before .before .before .before .if2 .left)
+    let r = ready-for SESSIONS (a .rules .head) (a .authorized .now) (exclusionsIn (a .xs .now) (a .rules .count)) (a .ledger .now) (a .window .user) _ (f .first-refusal .ensures) (c .before .before .before .before .before .if1 .left) p h in
+    close13 SESSIONS p (a .ledger .now) (a .window .user) (a .window .session) r (c .before .before .before .before .if2 .left)
     (ap (λ (x : Line). isOpen x (a .window .session)) (sym (c .before .before .line-of .ensures)) ∙ sym (c .before .is-open .ensures) ∙ not-true _ (c .if3 .taken))
 
 closed-requires : tie.Need-closed-requires
@@ -50,7 +50,7 @@ put-line-requires : tie.Need-put-line-requires
 put-line-requires c κs =
     let f = c .before .before .before .before .before .before .before .before in
     let a = f .before .before .before .args in
-    room-for 4 (a .rules .head) (a .authorized .now) (exclusionsIn (a .xs .now) (a .rules .count)) (a .ledger .now) (a .window .user) _ (f .first-refusal .ensures) (c .before .before .before .before .before .before .before .if1 .left)
+    room-for SESSIONS (a .rules .head) (a .authorized .now) (exclusionsIn (a .xs .now) (a .rules .count)) (a .ledger .now) (a .window .user) _ (f .first-refusal .ensures) (c .before .before .before .before .before .before .before .if1 .left)
 
 returns-4 : tie.Need-returns-4
 unfolding lineOf
@@ -58,14 +58,14 @@ returns-4 c p h =
     let f = c .before .before .before .before .before .before .before .before .before .before .before in
     let a = f .before .before .before .args in
     let l = c .before .before .before .before .before .before .before .line-of .ensures in
-    let r = ready-for 4 (a .rules .head) (a .authorized .now) (exclusionsIn (a .xs .now) (a .rules .count)) (a .ledger .now) (a .window .user) _ (f .first-refusal .ensures) (c .before .before .before .before .before .before .before .before .before .before .if1 .left) p h in
-    let g = close0 4 p (a .ledger .now) (a .window .user) (a .window .session) r (c .before .before .before .before .before .before .before .before .before .if2 .left)
+    let r = ready-for SESSIONS (a .rules .head) (a .authorized .now) (exclusionsIn (a .xs .now) (a .rules .count)) (a .ledger .now) (a .window .user) _ (f .first-refusal .ensures) (c .before .before .before .before .before .before .before .before .before .before .if1 .left) p h in
+    let g = close0 SESSIONS p (a .ledger .now) (a .window .user) (a .window .session) r (c .before .before .before .before .before .before .before .before .before .if2 .left)
     (ap (λ (x : Line). isOpen x (a .window .session)) (sym l) ∙ sym (c .before .before .before .before .before .before .is-open .ensures) ∙ not-false _ (c .before .before .before .before .before .if3 .left)) in
     record {
       number = g .number;
       bytes =
           c .before .before .put-line .ensures
-          ∙ ap (λ (x : Line). withLine (lineSize 4) (a .window .user) (writeLine x) (a .ledger .now)) (c .before .before .before .before .closed .ensures ∙ ap (closing (a .window .session)) l)
+          ∙ ap (λ (x : Line). withLine (lineSize SESSIONS) (a .window .user) (writeLine x) (a .ledger .now)) (c .before .before .before .before .closed .ensures ∙ ap (closing (a .window .session)) l)
           ∙ g .bytes;
     }
 

@@ -5,7 +5,7 @@ use borrow.Author.Needs.{needs}
 use borrow.Author.Tests.{not-true, not-false}
 use Rattle.model.specs.declared.Line.{Line}
 use Rattle.model.specs.Policy.{granter}
-use Rattle.model.specs.Line.{emptySession, sessionAt, isOpen}
+use Rattle.model.specs.Line.{SESSIONS, emptySession, sessionAt, isOpen}
 use Rattle.model.specs.Session.{explanation}
 use Rattle.model.specs.Run.{explainBy}
 use Rattle.rows.specs.Rows.{exclusionsIn}
@@ -22,21 +22,21 @@ returns c p h eg ej =
     let f = c .before in
     let a = f .before .before .args in
     returns-refusal _ _ (a .ledger .now)
-    (stopped 4 p (a .ledger .now) (explainBy (a .window .user) (a .window .session) (a .permission)) (f .first-refusal .result)
+    (stopped SESSIONS p (a .ledger .now) (explainBy (a .window .user) (a .window .session) (a .permission)) (f .first-refusal .result)
     (f .first-refusal .ensures p h) (c .if1 .taken))
 
 returns-2 : tie.Need-returns-2
 returns-2 c p h eg ej =
     let f = c .before .before in
     let a = f .before .before .args in
-    let r = ready-for 4 (a .rules .head) (a .authorized .now) (exclusionsIn (a .xs .now) (a .rules .count)) (a .ledger .now) (a .window .user) _ (f .first-refusal .ensures) (c .before .if1 .left) p h in
-    explain12 4 p (a .ledger .now) (a .window .user) (a .window .session) (a .permission) r (c .if2 .taken)
+    let r = ready-for SESSIONS (a .rules .head) (a .authorized .now) (exclusionsIn (a .xs .now) (a .rules .count)) (a .ledger .now) (a .window .user) _ (f .first-refusal .ensures) (c .before .if1 .left) p h in
+    explain12 SESSIONS p (a .ledger .now) (a .window .user) (a .window .session) (a .permission) r (c .if2 .taken)
 
 line-of-requires : tie.Need-line-of-requires
 line-of-requires c κs =
     let f = c .before .before in
     let a = f .before .before .args in
-    room-for 4 (a .rules .head) (a .authorized .now) (exclusionsIn (a .xs .now) (a .rules .count)) (a .ledger .now) (a .window .user) _ (f .first-refusal .ensures) (c .before .if1 .left)
+    room-for SESSIONS (a .rules .head) (a .authorized .now) (exclusionsIn (a .xs .now) (a .rules .count)) (a .ledger .now) (a .window .user) _ (f .first-refusal .ensures) (c .before .if1 .left)
 
 returns-3 : tie.Need-returns-3
 unfolding lineOf
@@ -44,8 +44,8 @@ returns-3 c p h eg ej =
     let n = c .before .before in
     let f = n .before .before .before in
     let a = f .before .before .args in
-    let r = ready-for 4 (a .rules .head) (a .authorized .now) (exclusionsIn (a .xs .now) (a .rules .count)) (a .ledger .now) (a .window .user) _ (f .first-refusal .ensures) (n .before .before .if1 .left) p h in
-    explain13 4 p (a .ledger .now) (a .window .user) (a .window .session) (a .permission) r (n .before .if2 .left)
+    let r = ready-for SESSIONS (a .rules .head) (a .authorized .now) (exclusionsIn (a .xs .now) (a .rules .count)) (a .ledger .now) (a .window .user) _ (f .first-refusal .ensures) (n .before .before .if1 .left) p h in
+    explain13 SESSIONS p (a .ledger .now) (a .window .user) (a .window .session) (a .permission) r (n .before .if2 .left)
     (ap (λ (x : Line). isOpen x (a .window .session)) (sym (n .line-of .ensures)) ∙ sym (c .before .is-open .ensures) ∙ not-true _ (c .if3 .taken))
 
 returns-4 : tie.Need-returns-4
@@ -55,8 +55,8 @@ returns-4 c p h eg ej =
     let n = o .before in
     let f = n .before .before .before in
     let a = f .before .before .args in
-    let r = ready-for 4 (a .rules .head) (a .authorized .now) (exclusionsIn (a .xs .now) (a .rules .count)) (a .ledger .now) (a .window .user) _ (f .first-refusal .ensures) (n .before .before .if1 .left) p h in
-    explain16 4 p (a .ledger .now) (a .window .user) (a .window .session) (a .permission) r (n .before .if2 .left)
+    let r = ready-for SESSIONS (a .rules .head) (a .authorized .now) (exclusionsIn (a .xs .now) (a .rules .count)) (a .ledger .now) (a .window .user) _ (f .first-refusal .ensures) (n .before .before .if1 .left) p h in
+    explain16 SESSIONS p (a .ledger .now) (a .window .user) (a .window .session) (a .permission) r (n .before .if2 .left)
     (ap (λ (x : Line). isOpen x (a .window .session)) (sym (n .line-of .ensures)) ∙ sym (o .is-open .ensures) ∙ not-false _ (c .before .before .if3 .left))
     (rw (h .head-is) (c .if4 .taken))
 
@@ -70,11 +70,11 @@ returns-5 c p h eg ej =
     let f = n .before .before .before in
     let a = f .before .before .args in
     let l = n .line-of .ensures in
-    let r = ready-for 4 (a .rules .head) (a .authorized .now) (exclusionsIn (a .xs .now) (a .rules .count)) (a .ledger .now) (a .window .user) _ (f .first-refusal .ensures) (n .before .before .if1 .left) p h in
+    let r = ready-for SESSIONS (a .rules .head) (a .authorized .now) (exclusionsIn (a .xs .now) (a .rules .count)) (a .ledger .now) (a .window .user) _ (f .first-refusal .ensures) (n .before .before .if1 .left) p h in
     let e = set-explains p (sessionAt (n .line-of .result) (a .window .session) .active) (a .permission) _ _ eg ej in
     c .explain .ensures ∙ ap told e
     ∙ ap (λ (x : Line). told (explanation (granter p (a .permission)) (sessionAt x (a .window .session) .active))) l
-    ∙ explain0 4 p (a .ledger .now) (a .window .user) (a .window .session) (a .permission) r (n .before .if2 .left)
+    ∙ explain0 SESSIONS p (a .ledger .now) (a .window .user) (a .window .session) (a .permission) r (n .before .if2 .left)
     (ap (λ (x : Line). isOpen x (a .window .session)) (sym l) ∙ sym (o .is-open .ensures) ∙ not-false _ (i .if3 .left)) (rw (h .head-is) (t .if4 .left))
 
 pub explain-session-spec : {M : Type 1} → statement M

@@ -7,7 +7,7 @@ use borrow.Author.Needs.{needs}
 use borrow.Author.Tests.{not-true, not-false}
 use Rattle.model.specs.declared.Head.{Head}
 use Rattle.model.specs.Policy.{meaning}
-use Rattle.model.specs.Line.{lineSize, sound}
+use Rattle.model.specs.Line.{SESSIONS, lineSize, sound}
 use Rattle.rows.specs.Rows.{exclusionsIn}
 use Rattle.calls.specs.Calls.{lineOf}
 use Rattle.calls.proofs.FirstSteps.{first9, first10, first11, first0, held}
@@ -19,14 +19,14 @@ unfolding lineSize
 returns c p h =
     let a = c .before .before .before .before .args in
     let e : p .head .users ≡ a .rules .head .users = ap (λ (x : Head). x .users) (h .head-is) in
-    first9 4 p _ _ (λ q. c .if1 .taken (q ∙ ap (λ (n : ℕ). 80 * n) e))
+    first9 SESSIONS p _ _ (λ q. c .if1 .taken (q ∙ ap (λ (n : ℕ). lineSize SESSIONS * n) e))
 
 returns-2 : tie.Need-returns-2
 unfolding lineSize
 returns-2 c p h =
     let a = c .before .before .before .before .before .args in
     let e : p .head .users ≡ a .rules .head .users = ap (λ (x : Head). x .users) (h .head-is) in
-    first10 4 p _ _ (omega arith) (omega arith)
+    first10 SESSIONS p _ _ (omega arith) (omega arith)
 
 line-of-requires : tie.Need-line-of-requires
 unfolding lineSize
@@ -41,7 +41,7 @@ returns-3 c p h =
     let e : p .head .users ≡ a .rules .head .users = ap (λ (x : Head). x .users) (h .head-is) in
     let m = meaning p (a .user) in
     let s = c .before .sound .ensures m (held (a .rules .head) (a .authorized .now) (exclusionsIn (a .xs .now) (a .rules .count)) p (a .user) _ h (omega arith) (o .roles-of .ensures)) in
-    first11 4 p _ _ (omega arith) (omega arith) (ap (sound 4 m) (sym (l .line-of .ensures)) ∙ sym s ∙ not-true _ (c .if3 .taken))
+    first11 SESSIONS p _ _ (omega arith) (omega arith) (ap (sound SESSIONS m) (sym (l .line-of .ensures)) ∙ sym s ∙ not-true _ (c .if3 .taken))
 
 returns-4 : tie.Need-returns-4
 unfolding lineSize lineOf
@@ -52,7 +52,7 @@ returns-4 c p h =
     let e : p .head .users ≡ a .rules .head .users = ap (λ (x : Head). x .users) (h .head-is) in
     let m = meaning p (a .user) in
     let s = c .before .sound .ensures m (held (a .rules .head) (a .authorized .now) (exclusionsIn (a .xs .now) (a .rules .count)) p (a .user) _ h (omega arith) (o .roles-of .ensures)) in
-    first0 4 p _ _ (omega arith) (omega arith) (ap (sound 4 m) (sym (l .line-of .ensures)) ∙ sym s ∙ not-false _ (c .if3 .left))
+    first0 SESSIONS p _ _ (omega arith) (omega arith) (ap (sound SESSIONS m) (sym (l .line-of .ensures)) ∙ sym s ∙ not-false _ (c .if3 .left))
 
 pub first-refusal-spec : {M : Type 1} → statement M
 first-refusal-spec =

@@ -9,7 +9,7 @@ use borrow.Author.Tests.{not-true, not-false}
 use Rattle.model.specs.declared.Line.{Line}
 use Rattle.model.specs.Bytes.{bytesOf}
 use Rattle.model.specs.Policy.{meaning}
-use Rattle.model.specs.Line.{emptySession, sessionAt, isOpen}
+use Rattle.model.specs.Line.{SESSIONS, emptySession, sessionAt, isOpen}
 use Rattle.model.specs.Choice.{carriedBy}
 use Rattle.model.specs.Run.{showBy}
 use Rattle.rows.specs.Rows.{exclusionsIn}
@@ -25,29 +25,29 @@ returns c p h eg ej =
     let f = c .before in
     let a = f .before .before .before .args in
     shows-refusal _ _ (a .ledger .now) (a .answer .now)
-    (stopped 4 p (a .ledger .now) (showBy (a .window .user) (a .window .session) (length (a .answer .now))) (f .first-refusal .result)
+    (stopped SESSIONS p (a .ledger .now) (showBy (a .window .user) (a .window .session) (length (a .answer .now))) (f .first-refusal .result)
     (f .first-refusal .ensures p h) (c .if1 .taken))
 
 returns-2 : tie.Need-returns-2
 returns-2 c p h eg ej =
     let f = c .before .before in
     let a = f .before .before .before .args in
-    let r = ready-for 4 (a .rules .head) (a .authorized .now) (exclusionsIn (a .xs .now) (a .rules .count)) (a .ledger .now) (a .window .user) _ (f .first-refusal .ensures) (c .before .if1 .left) p h in
-    show12 4 p (a .ledger .now) (a .window .user) (a .window .session) (a .answer .now) r (c .if2 .taken)
+    let r = ready-for SESSIONS (a .rules .head) (a .authorized .now) (exclusionsIn (a .xs .now) (a .rules .count)) (a .ledger .now) (a .window .user) _ (f .first-refusal .ensures) (c .before .if1 .left) p h in
+    show12 SESSIONS p (a .ledger .now) (a .window .user) (a .window .session) (a .answer .now) r (c .if2 .taken)
 
 line-of-requires : tie.Need-line-of-requires
 line-of-requires c κs =
     let f = c .before .before in
     let a = f .before .before .before .args in
-    room-for 4 (a .rules .head) (a .authorized .now) (exclusionsIn (a .xs .now) (a .rules .count)) (a .ledger .now) (a .window .user) _ (f .first-refusal .ensures) (c .before .if1 .left)
+    room-for SESSIONS (a .rules .head) (a .authorized .now) (exclusionsIn (a .xs .now) (a .rules .count)) (a .ledger .now) (a .window .user) _ (f .first-refusal .ensures) (c .before .if1 .left)
 
 returns-3 : tie.Need-returns-3
 unfolding lineOf
 returns-3 c p h eg ej =
     let f = c .before .before .before .before .before in
     let a = f .before .before .before .args in
-    let r = ready-for 4 (a .rules .head) (a .authorized .now) (exclusionsIn (a .xs .now) (a .rules .count)) (a .ledger .now) (a .window .user) _ (f .first-refusal .ensures) (c .before .before .before .before .if1 .left) p h in
-    show13 4 p (a .ledger .now) (a .window .user) (a .window .session) (a .answer .now) r (c .before .before .before .if2 .left)
+    let r = ready-for SESSIONS (a .rules .head) (a .authorized .now) (exclusionsIn (a .xs .now) (a .rules .count)) (a .ledger .now) (a .window .user) _ (f .first-refusal .ensures) (c .before .before .before .before .if1 .left) p h in
+    show13 SESSIONS p (a .ledger .now) (a .window .user) (a .window .session) (a .answer .now) r (c .before .before .before .if2 .left)
     (ap (λ (x : Line). isOpen x (a .window .session)) (sym (c .before .before .line-of .ensures)) ∙ sym (c .before .is-open .ensures) ∙ not-true _ (c .if3 .taken))
 
 returns-4 : tie.Need-returns-4
@@ -55,8 +55,8 @@ unfolding lineOf
 returns-4 c p h eg ej =
     let f = c .before .before .before .before .before .before in
     let a = f .before .before .before .args in
-    let r = ready-for 4 (a .rules .head) (a .authorized .now) (exclusionsIn (a .xs .now) (a .rules .count)) (a .ledger .now) (a .window .user) _ (f .first-refusal .ensures) (c .before .before .before .before .before .if1 .left) p h in
-    show19 4 p (a .ledger .now) (a .window .user) (a .window .session) (a .answer .now) r (c .before .before .before .before .if2 .left)
+    let r = ready-for SESSIONS (a .rules .head) (a .authorized .now) (exclusionsIn (a .xs .now) (a .rules .count)) (a .ledger .now) (a .window .user) _ (f .first-refusal .ensures) (c .before .before .before .before .before .if1 .left) p h in
+    show19 SESSIONS p (a .ledger .now) (a .window .user) (a .window .session) (a .answer .now) r (c .before .before .before .before .if2 .left)
     (ap (λ (x : Line). isOpen x (a .window .session)) (sym (c .before .before .before .line-of .ensures)) ∙ sym (c .before .before .is-open .ensures)
     ∙ not-false _ (c .before .if3 .left)) (c .if4 .taken)
 
@@ -70,8 +70,8 @@ returns-5 c p h eg ej =
     let f = n .before .before .before in
     let a = f .before .before .before .args in
     let l = n .line-of .ensures in
-    let r = ready-for 4 (a .rules .head) (a .authorized .now) (exclusionsIn (a .xs .now) (a .rules .count)) (a .ledger .now) (a .window .user) _ (f .first-refusal .ensures) (n .before .before .if1 .left) p h in
-    let g = show0 4 p (a .ledger .now) (a .window .user) (a .window .session) (a .answer .now) r (n .before .if2 .left)
+    let r = ready-for SESSIONS (a .rules .head) (a .authorized .now) (exclusionsIn (a .xs .now) (a .rules .count)) (a .ledger .now) (a .window .user) _ (f .first-refusal .ensures) (n .before .before .if1 .left) p h in
+    let g = show0 SESSIONS p (a .ledger .now) (a .window .user) (a .window .session) (a .answer .now) r (n .before .if2 .left)
     (ap (λ (x : Line). isOpen x (a .window .session)) (sym l) ∙ sym (o .is-open .ensures) ∙ not-false _ (t .before .if3 .left)) (t .if4 .left) in
     let s = ap (λ (x : Line). sessionAt x (a .window .session) .active) l in
     let e = k .carried-by .ensures ∙ set-carries p (a .window .user) _ _ _ eg ej in

@@ -1,7 +1,7 @@
 -- `ledger::bytes::line_of` meets its contract.
 -- Assumes nothing.
 use native.Mathlib.Omega.{arith}
-use Rattle.model.specs.Line.{lineSize}
+use Rattle.model.specs.Line.{SESSIONS, lineSize}
 use Rattle.ledger.proofs.Places.{line-read}
 use Rattle.ledger.proofs.bytes.line_of.Statement.{statement}
 use Rattle.ledger.proofs.bytes.line_of.Tie as tie
@@ -34,7 +34,7 @@ returns : tie.Need-returns
 unfolding lineSize
 returns c =
     let a = c .before .before .before .before .args in
-    let h = line-read 4 (a .user) (a .ledger .now) in
+    let h = line-read SESSIONS (a .user) (a .ledger .now) in
     cc h
 
 pub line-of-spec : {M : Type 1} → statement M

@@ -4,7 +4,7 @@ use mathlib.Core.Path.{_≡_, sym, _∙_}
 use native.Mathlib.Omega.{arith}
 use lib.ListN.{length, length-map}
 use borrow.Author.Needs.{needs}
-use Rattle.model.specs.Line.{lineSize}
+use Rattle.model.specs.Line.{SESSIONS, lineSize}
 use Rattle.ledger.proofs.Places.{line-written}
 use Rattle.ledger.proofs.bytes.put_line.Statement.{statement}
 use Rattle.ledger.proofs.bytes.put_line.Tie as tie
@@ -38,8 +38,8 @@ unfolding lineSize
 returns c =
     let s = c .before .before .before .before .before .before .before .before .before .before .before .before .before .before in
     let a = s .args in
-    let n : length (a .l .sessions) ≡ 4 = sym (length-map (a .l .sessions) _) ∙ s .good .1 .1 .0 .1 .1 .1 .1 .0 .1 .0 .1 in
-    let h = line-written 4 (a .user) (a .l) (a .ledger .now) n (s .pre) in
+    let n : length (a .l .sessions) ≡ SESSIONS = sym (length-map (a .l .sessions) _) ∙ s .good .1 .1 .0 .1 .1 .1 .1 .0 .1 .0 .1 in
+    let h = line-written SESSIONS (a .user) (a .l) (a .ledger .now) n (s .pre) in
     cc h
 
 pub put-line-spec : {M : Type 1} → statement M

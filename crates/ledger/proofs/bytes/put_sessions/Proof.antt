@@ -8,7 +8,7 @@ use lib.ListN.{length, take}
 use lib.Seq.{take-all}
 use borrow.Author.Needs.{needs}
 use Rattle.model.specs.declared.Session.{Session}
-use Rattle.model.specs.Line.{emptySession, writeSessions}
+use Rattle.model.specs.Line.{SESSIONS, emptySession, writeSessions}
 use Rattle.octets.specs.Splice.{splice}
 use Rattle.octets.proofs.Splices.{splice-nil}
 use Rattle.ledger.proofs.Places.{write-next}
@@ -16,10 +16,10 @@ use Rattle.ledger.proofs.bytes.put_sessions.Statement.{statement}
 use Rattle.ledger.proofs.bytes.put_sessions.Tie as tie
 
 abbrev Inv-loop : tie.InvT-loop
-Inv-loop s₀ at sessions k₀ s k = (k ≤ 4) × (s ≡ splice s₀ at (writeSessions (take k sessions))) × (length s ≡ length s₀)
+Inv-loop s₀ at sessions k₀ s k = (k ≤ SESSIONS) × (s ≡ splice s₀ at (writeSessions (take k sessions))) × (length s ≡ length s₀)
 
 abbrev μ-loop : tie.MeasureT-loop
-μ-loop s₀ at sessions k₀ s k = 4 - k
+μ-loop s₀ at sessions k₀ s k = SESSIONS - k
 
 loop-holds : tie.Need-loop-holds Inv-loop μ-loop
 unfolding writeSessions

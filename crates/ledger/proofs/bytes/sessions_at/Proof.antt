@@ -7,16 +7,16 @@ use lib.ListN.{length, take, drop, length-set}
 use lib.Seq.{take-all}
 use borrow.Author.Needs.{needs}
 use Rattle.model.specs.declared.Session.{Session}
-use Rattle.model.specs.Line.{readSessions}
+use Rattle.model.specs.Line.{SESSIONS, readSessions}
 use Rattle.ledger.proofs.Places.{read-next}
 use Rattle.ledger.proofs.bytes.sessions_at.Statement.{statement}
 use Rattle.ledger.proofs.bytes.sessions_at.Tie as tie
 
 abbrev Inv-loop : tie.InvT-loop
-Inv-loop s at sessions₀ k₀ sessions k = (k ≤ 4) × (length sessions ≡ 4) × (take k sessions ≡ readSessions k (drop at s))
+Inv-loop s at sessions₀ k₀ sessions k = (k ≤ SESSIONS) × (length sessions ≡ SESSIONS) × (take k sessions ≡ readSessions k (drop at s))
 
 abbrev μ-loop : tie.MeasureT-loop
-μ-loop s at sessions₀ k₀ sessions k = 4 - k
+μ-loop s at sessions₀ k₀ sessions k = SESSIONS - k
 
 loop-holds : tie.Need-loop-holds Inv-loop μ-loop
 unfolding readSessions
@@ -33,7 +33,7 @@ returns : tie.Need-returns Inv-loop μ-loop
 returns c =
     let l = c .before in
     let a = l .before .before .args in
-    let e : l .loop .k ≡ 4 = omega arith in
+    let e : l .loop .k ≡ SESSIONS = omega arith in
     sym (take-all (l .loop .k) (l .loop .sessions) (omega arith)) ∙ l .loop .inv .2 ∙ ap (λ (k : ℕ). readSessions k (drop (a .at) (a .s .now))) e
 
 pub sessions-at-spec : {M : Type 1} → statement M

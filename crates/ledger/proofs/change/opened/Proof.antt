@@ -3,13 +3,13 @@
 use native.Mathlib.Omega.{arith}
 use lib.Pow.{pow-lt}
 use borrow.Author.Needs.{needs}
-use Rattle.model.specs.Line.{opening}
+use Rattle.model.specs.Line.{SESSIONS, opening}
 use Rattle.ledger.proofs.change.opened.Statement.{statement}
 use Rattle.ledger.proofs.change.opened.Tie as tie
 
 add-next : tie.Need-add-next
 add-next c =
-    let h = pow-lt {i = c .before .before .args .k} {j = 4} (search needs) in
+    let h = pow-lt {i = c .before .before .args .k} {j = SESSIONS} (search needs) in
     omega (arith, h)
 
 returns : tie.Need-returns

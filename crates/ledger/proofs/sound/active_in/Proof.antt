@@ -5,19 +5,19 @@ use Prim.Native.Nat.{ℕ, _-_, _≤_}
 use native.Mathlib.Omega.{arith}
 use lib.ListN.{drop}
 use borrow.Author.Needs.{needs}
-use Rattle.model.specs.Line.{activeIn, emptySession}
+use Rattle.model.specs.Line.{SESSIONS, activeIn, emptySession}
 use Rattle.ledger.proofs.Soundness.{active-next, active-none}
 use Rattle.ledger.proofs.sound.active_in.Statement.{statement}
 use Rattle.ledger.proofs.sound.active_in.Tie as tie
 
 abbrev Inv-loop : tie.InvT-loop
-Inv-loop sessions roles₀ k₀ roles k = (k ≤ 4) × (roles ≡ activeIn (drop k sessions))
+Inv-loop sessions roles₀ k₀ roles k = (k ≤ SESSIONS) × (roles ≡ activeIn (drop k sessions))
 
 abbrev μ-loop : tie.MeasureT-loop
 μ-loop sessions roles₀ k₀ roles k = k
 
 loop-holds : tie.Need-loop-holds Inv-loop μ-loop
-loop-holds c = let n = c .good .0 .1 .0 .1 in (omega arith, active-none (c .args .t1) 4 (omega arith))
+loop-holds c = let n = c .good .0 .1 .0 .1 in (omega arith, active-none (c .args .t1) SESSIONS (omega arith))
 
 loop-again : tie.Need-loop-again Inv-loop μ-loop
 unfolding emptySession

@@ -1,53 +1,29 @@
--- `ledger::sound::exclusion_met` meets its contract. The loop's invariant: it is met at all sessions where it is at those from k on.
+-- `ledger::sound::exclusion_met` meets its contract.
 -- Assumes nothing.
-use mathlib.Core.Path.{_≡_, refl, sym, _∙_}
-use Prim.Native.Nat.{_-_, _≤_}
+use mathlib.Core.Path.{_≡_, sym, _∙_}
 use native.Mathlib.Omega.{arith}
-use lib.ListN.{length, drop, length-map}
+use lib.ListN.{length, length-map}
 use borrow.Author.Needs.{needs}
-use borrow.Author.Tests.{not-true, not-false}
-use Rattle.model.specs.Tests.{all}
-use Rattle.model.specs.Policy.{met}
-use Rattle.model.specs.Line.{counted, emptySession}
-use Rattle.ledger.specs.Held.{metAt}
-use Rattle.ledger.proofs.All.{all-next, all-stop, all-end}
+use Rattle.model.specs.Line.{SESSIONS}
+use Rattle.ledger.proofs.Soundness.{met-once-active, met-once-history}
 use Rattle.ledger.proofs.sound.exclusion_met.Statement.{statement}
 use Rattle.ledger.proofs.sound.exclusion_met.Tie as tie
 
-abbrev Inv-loop : tie.InvT-loop
-Inv-loop x l k₀ k =
-    (k ≤ 4) × (all (λ s. met (counted l s) x) (drop k (l .sessions)) ≡ metAt l x)
-
-abbrev μ-loop : tie.MeasureT-loop
-μ-loop x l k₀ k = 4 - k
-
-loop-holds : tie.Need-loop-holds Inv-loop μ-loop
-unfolding metAt
-loop-holds c = (omega arith, refl)
-
-returns : tie.Need-returns Inv-loop μ-loop
-unfolding emptySession
-returns c =
-    let s = c .before .before .before .before in
-    let ss = s .before .args .t1 .sessions in
-    let n : length ss ≡ 4 = sym (length-map ss _) ∙ s .before .good .0 .1 .1 .1 .1 .0 .1 .0 .1 in
-    all-stop _ emptySession ss (s .loop .k) (omega arith) (sym (c .before .met-at .ensures) ∙ not-true _ (c .if1 .taken)) ∙ s .loop .inv .1
-
-loop-again : tie.Need-loop-again Inv-loop μ-loop
-unfolding emptySession
-loop-again c =
-    let s = c .before .before .before .before in
-    let ss = s .before .args .t1 .sessions in
-    let n : length ss ≡ 4 = sym (length-map ss _) ∙ s .before .good .0 .1 .1 .1 .1 .0 .1 .0 .1 in
-    (omega arith, all-next _ emptySession ss (s .loop .k) (omega arith) (sym (c .before .met-at .ensures) ∙ not-false _ (c .if1 .left)) ∙ s .loop .inv .1)
-
-returns-2 : tie.Need-returns-2 Inv-loop μ-loop
+returns-2 : tie.Need-returns-2
 returns-2 c =
-    let ss = c .before .before .args .t1 .sessions in
-    let n : length ss ≡ 4 = sym (length-map ss _) ∙ c .before .before .good .0 .1 .1 .1 .1 .0 .1 .0 .1 in
-    all-end _ emptySession ss (c .before .loop .k) (omega arith) ∙ c .before .loop .inv .1
+    let s = c .before .before .before .before in
+    let ss = s .args .t1 .sessions in
+    let n : length ss ≡ SESSIONS = sym (length-map ss _) ∙ s .good .0 .1 .1 .1 .1 .0 .1 .0 .1 in
+    c .met-at .ensures ∙ met-once-active (s .args .t1) (s .args .x) _ (omega arith) (c .before .enum-told2 .given .1)
+
+returns-4 : tie.Need-returns-4
+returns-4 c =
+    let s = c .before .before .before .before in
+    let ss = s .args .t1 .sessions in
+    let n : length ss ≡ SESSIONS = sym (length-map ss _) ∙ s .good .0 .1 .1 .1 .1 .0 .1 .0 .1 in
+    c .met-at2 .ensures ∙ met-once-history (s .args .t1) (s .args .x) _ (omega arith) (c .before .enum-told4 .given .1)
 
 pub exclusion-met-spec : {M : Type 1} → statement M
 exclusion-met-spec =
     tie.close
-    (tie.spec Inv-loop μ-loop loop-holds (λ c. search needs) (λ c. search needs) (λ c κs. search needs) returns (λ c. search needs) (λ c. search needs) loop-again returns-2)
+    (tie.spec (λ c. search needs) (λ c. search needs) (λ c κs. search needs) (λ c. search needs) (λ c κs. search needs) (λ c. search needs) (λ c κs. search needs) (λ c. search needs) (λ c κs. search needs) (λ c. search needs) returns-2 (λ c. search needs) returns-4)

@@ -7,18 +7,18 @@ use lib.ListN.{length, drop, length-map}
 use borrow.Author.Needs.{needs}
 use borrow.Author.Tests.{not-true, not-false}
 use Rattle.model.specs.Policy.{Meaning}
-use Rattle.model.specs.Line.{sessionsSound, emptySession}
+use Rattle.model.specs.Line.{SESSIONS, sessionsSound, emptySession}
 use Rattle.ledger.proofs.Soundness.{sound-next, sound-stop, sound-end}
 use Rattle.ledger.proofs.sound.sessions_sound.Statement.{statement}
 use Rattle.ledger.proofs.sound.sessions_sound.Tie as tie
 
 abbrev Inv-loop : tie.InvT-loop
 Inv-loop authorized l k₀ k =
-    (k ≤ 4)
+    (k ≤ SESSIONS)
     × ((m : Meaning) → m .authorized ≡ authorized → sessionsSound m l k (drop k (l .sessions)) ≡ sessionsSound m l 0 (l .sessions))
 
 abbrev μ-loop : tie.MeasureT-loop
-μ-loop authorized l k₀ k = 4 - k
+μ-loop authorized l k₀ k = SESSIONS - k
 
 loop-holds : tie.Need-loop-holds Inv-loop μ-loop
 loop-holds c = (omega arith, λ m e. refl)
@@ -28,7 +28,7 @@ unfolding emptySession
 returns c m e =
     let s = c .before .before .before .before in
     let ss = s .before .args .t1 .sessions in
-    let n : length ss ≡ 4 = sym (length-map ss _) ∙ s .before .good .0 .1 .1 .1 .1 .0 .1 .0 .1 in
+    let n : length ss ≡ SESSIONS = sym (length-map ss _) ∙ s .before .good .0 .1 .1 .1 .1 .0 .1 .0 .1 in
     sound-stop m _ emptySession ss (s .loop .k) (omega arith) (sym (c .before .session-sound .ensures m e) ∙ not-true _ (c .if1 .taken)) ∙ s .loop .inv .1 m e
 
 loop-again : tie.Need-loop-again Inv-loop μ-loop
@@ -36,7 +36,7 @@ unfolding emptySession
 loop-again c =
     let s = c .before .before .before .before in
     let ss = s .before .args .t1 .sessions in
-    let n : length ss ≡ 4 = sym (length-map ss _) ∙ s .before .good .0 .1 .1 .1 .1 .0 .1 .0 .1 in (
+    let n : length ss ≡ SESSIONS = sym (length-map ss _) ∙ s .before .good .0 .1 .1 .1 .1 .0 .1 .0 .1 in (
       omega arith,
       λ m e.
           sound-next m _ emptySession ss (s .loop .k) (omega arith) (sym (c .before .session-sound .ensures m e) ∙ not-false _ (c .if1 .left)) ∙ s .loop .inv .1 m e,
@@ -45,7 +45,7 @@ loop-again c =
 returns-2 : tie.Need-returns-2 Inv-loop μ-loop
 returns-2 c m e =
     let ss = c .before .before .args .t1 .sessions in
-    let n : length ss ≡ 4 = sym (length-map ss _) ∙ c .before .before .good .0 .1 .1 .1 .1 .0 .1 .0 .1 in
+    let n : length ss ≡ SESSIONS = sym (length-map ss _) ∙ c .before .before .good .0 .1 .1 .1 .1 .0 .1 .0 .1 in
     sound-end m _ emptySession ss (c .before .loop .k) (omega arith) ∙ c .before .loop .inv .1 m e
 
 pub sessions-sound-spec : {M : Type 1} → statement M

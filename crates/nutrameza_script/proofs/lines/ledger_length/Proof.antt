@@ -1,7 +1,8 @@
--- 80 bytes for each user of an accepted image, of whom there are at most 64.
+-- A line for each user of an accepted image, of whom there are at most 64.
 -- Assumes nothing.
 use borrow.Author.Needs.{needs}
 use mathlib.Core.Path.{sym, _∙_}
+use Rattle.model.specs.Line.{lineSize}
 use Rattle.nutrameza_script.proofs.Steps.{refused-length, accepted-length, accepted-most}
 use Rattle.nutrameza_script.proofs.lines.ledger_length.Statement.{statement}
 use Rattle.nutrameza_script.proofs.lines.ledger_length.Tie as tie
@@ -10,6 +11,7 @@ returns : tie.Need-returns
 returns c = (refused-length _ _ _ (sym (c .before .before .judge .ensures) ∙ c .enum-told .given .1), search needs)
 
 returns-2 : tie.Need-returns-2
+unfolding lineSize
 returns-2 c =
     let j = sym (c .before .before .before .before .judge .ensures) ∙ c .before .before .checked .given .1 in
     (accepted-length _ _ j, accepted-most _ _ j)

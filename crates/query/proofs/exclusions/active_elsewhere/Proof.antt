@@ -4,7 +4,7 @@ use borrow.Author.Needs.{needs}
 use native.Mathlib.Omega.{arith}
 use mathlib.Core.Path.{_≡_, _∙_}
 use lib.ListN.{length}
-use Rattle.model.specs.Line.{emptySession}
+use Rattle.model.specs.Line.{SESSIONS, emptySession}
 use Rattle.query.proofs.Reductions.{active-emptied}
 use Rattle.query.proofs.exclusions.active_elsewhere.Statement.{statement}
 use Rattle.query.proofs.exclusions.active_elsewhere.Tie as tie
@@ -13,7 +13,7 @@ returns : tie.Need-returns
 unfolding emptySession
 returns c =
     let s = c .before in
-    let n : length (s .args .sessions) ≡ 4 = search needs in
+    let n : length (s .args .sessions) ≡ SESSIONS = search needs in
     c .active-in .ensures ∙ active-emptied (s .args .sessions) (s .args .k) (omega arith)
 
 pub active-elsewhere-spec : {M : Type 1} → statement M

@@ -6,7 +6,7 @@ use mathlib.Core.Path.{_≡_, refl, sym, _∙_}
 use mathlib.Core.List.{[], map}
 use Prim.Native.Nat.{_-_, _≤_}
 use lib.ListN.{length, length-map}
-use Rattle.model.specs.Line.{emptySession, sessionAt}
+use Rattle.model.specs.Line.{SESSIONS, emptySession, sessionAt}
 use Rattle.rows.specs.Rows.{exclusionOf, exclusionsIn}
 use Rattle.rows.proofs.Packing.{row-at}
 use Rattle.query.proofs.Reductions.{Filled, filled-none, filled-next, reduces, length-mapped}
@@ -38,7 +38,7 @@ unfolding sessionAt emptySession exclusionsIn
 returns c =
     let l = c .before in
     let s = l .before .before .before in
-    let n : length (s .args .line .sessions) ≡ 4 = search (needs, length-mapped) in
+    let n : length (s .args .line .sessions) ≡ SESSIONS = search (needs, length-mapped) in
     let m : length (map exclusionOf (s .args .xs .now)) ≡ 32 = length-map (s .args .xs .now) exclusionOf ∙ s .pre .1 in (
       refl,
       reduces (exclusionsIn (s .args .xs .now) (s .args .count)) (exclusionOf []) (s .args .line) (s .args .k) _ _ (l .loop .i) (l .loop .masks) (l .loop .rooms)

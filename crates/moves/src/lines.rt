@@ -1,0 +1,86 @@
+// The lines of a ledger: all judged before the first is written, so that a refusal leaves the target alone.
+ghost use mathlib.Core.Path.{_≡_};
+ghost use Prim.Native.Nat.{_*_, _≤_, _<_};
+ghost use lib.ListN.{length};
+ghost use Rattle.model.specs.Policy.{Policy};
+ghost use Rattle.model.specs.Line.{SESSIONS, lineSize};
+ghost use Rattle.model.specs.Run.{returned};
+ghost use Rattle.model.specs.Moves.{moveAnswer, resizedLines, moveOn};
+ghost use Rattle.rows.specs.Rows.{exclusionsIn};
+ghost use Rattle.calls.specs.Calls.{Known, Gives};
+use crate::line::line_bytes;
+use crate::line::line_fault;
+use crate::line::line_size;
+use crate::line::put_resized;
+use calls::first::roles_of;
+use calls::given::Rules;
+
+// The first fault of a line, from user 0 up, with 256 times its user; 0 where none has one.
+fn first_fault(
+    old: &[u8],
+    from: u8,
+    to: u8,
+    rules: Rules,
+    authorized: &[u64; 64],
+    xs: &[[u64; 2]; 32],
+) -> u64
+    requires { ⌜ (length (now old) ≡ lineSize from * rules .head .users) × (0 < from) × (from ≤ SESSIONS)
+        × (rules .head .users ≤ 64) × (rules .count ≤ 32) × (length (now xs) ≡ 32) ⌝ }
+    ensures { λ r. ⌜ ((p : Policy) → Known (rules .head) (now (authorized .entry)) (exclusionsIn (now (xs .entry)) (rules .count)) p
+        → r ≡ returned (moveAnswer from to p (now (old .entry)) 0 (rules .head .users))) ⌝ }
+{
+    let head = rules.head;
+    let users = head.users as usize;
+    let size = line_size(from);
+    for u in 0..users {
+        let bytes = line_bytes(old, size, u);
+        let own = roles_of(authorized, u);
+        let n = line_fault(bytes, from, to, head.roles, own, xs, rules.count);
+        if n != 0 {
+            return n + 256 * (u as u64);
+        }
+    }
+    0
+}
+
+// Writes each line, with the sessions of the new ledger, at its user's place.
+fn put_lines(old: &[u8], from: u8, to: u8, users: usize, new: &mut [u8])
+    requires { ⌜ (length (now old) ≡ lineSize from * users) × (length (now new) ≡ lineSize to * users) ⌝ }
+    ensures { λ _. ⌜ now (new .exit) ≡ resizedLines from to (now (old .entry)) 0 users ⌝ }
+{
+    let size = line_size(from);
+    for u in 0..users {
+        let bytes = line_bytes(old, size, u);
+        put_resized(new, to, u, bytes);
+    }
+}
+
+// The ledger carried from so many sessions a user to so many: 9 where the old one does not fit, 19 where the new one does not, then the
+// first fault of a line; else the lines are written.
+pub fn move_lines(
+    old: &[u8],
+    from: u8,
+    to: u8,
+    rules: Rules,
+    authorized: &[u64; 64],
+    xs: &[[u64; 2]; 32],
+    new: &mut [u8],
+) -> u64
+    requires { ⌜ (0 < from) × (from ≤ SESSIONS) × (to ≤ SESSIONS) × (rules .head .users ≤ 64) × (rules .count ≤ 32) × (length (now xs) ≡ 32) ⌝ }
+    ensures { λ r. ⌜ ((p : Policy) → Known (rules .head) (now (authorized .entry)) (exclusionsIn (now (xs .entry)) (rules .count)) p
+        → Gives (moveOn from to p (now (old .entry)) (now (new .entry))) r (now (new .exit))) ⌝ }
+{
+    let users = rules.head.users as usize;
+    if old.len() != line_size(from) * users {
+        return 9;
+    }
+    if new.len() != line_size(to) * users {
+        return 19;
+    }
+    let n = first_fault(old, from, to, rules, authorized, xs);
+    if n != 0 {
+        return n;
+    }
+    put_lines(old, from, to, users, new);
+    0
+}
