@@ -1,4 +1,5 @@
-/* A small clinic against include/nutrameza.h: two windows of one doctor under the ward's policy (01, image A).
+/* A small clinic against include/nutrameza.h: the windows of one doctor under the ward's policy (01, image A), and its ledger
+ * carried over from four windows and back.
  *
  *     cc -std=c99 -Wall -Wextra -Werror -Iinclude examples/host.c target/staticlib/libnutrameza.a -o host && ./host
  *
@@ -142,6 +143,38 @@ static void day(void)
              nutrameza_open(image, sizeof image, ledger, NUTRAMEZA_LINE_BYTES, UINT64_MAX), NUTRAMEZA_PERSON, 0);
 }
 
+static uint64_t narrow(uint8_t *old_ledger)
+{
+    return nutrameza_narrow(image, sizeof image, ledger, NUTRAMEZA_LINE_BYTES, old_ledger, NUTRAMEZA_OLD_LINE_BYTES);
+}
+
+/* Eight windows at most; and a ledger carried back to four windows and over again, which comes out byte for byte. */
+static void moving(void)
+{
+    static const uint64_t next[] = {0, 2, 3, 4, 5, 6, 7};
+    uint8_t old_ledger[NUTRAMEZA_OLD_LINE_BYTES] = {0}, again[NUTRAMEZA_LINE_BYTES];
+
+    for (unsigned place = 0; place < sizeof next / sizeof next[0]; place++)
+        answered("open one more window", nutrameza_open(image, sizeof image, ledger, NUTRAMEZA_LINE_BYTES, USER), NUTRAMEZA_DONE,
+                 next[place]);
+    answered("open a ninth window", nutrameza_open(image, sizeof image, ledger, NUTRAMEZA_LINE_BYTES, USER), NUTRAMEZA_FULL, 0);
+    answered("carry the ledger back to four windows", narrow(old_ledger), NUTRAMEZA_UPPER_SESSIONS, USER);
+    for (uint64_t session = NUTRAMEZA_OLD_SESSIONS; session < NUTRAMEZA_SESSIONS; session++)
+        answered("  close a window above the fourth",
+                 nutrameza_close(image, sizeof image, ledger, NUTRAMEZA_LINE_BYTES, USER, session), NUTRAMEZA_DONE, 0);
+    answered("  carry the ledger back again", narrow(old_ledger), NUTRAMEZA_DONE, 0);
+    answered("carry it over to eight windows",
+             nutrameza_widen(image, sizeof image, old_ledger, sizeof old_ledger, again, sizeof again), NUTRAMEZA_DONE, 0);
+    if (memcmp(ledger, again, sizeof again) != 0) {
+        printf("    the ledger did not come out byte for byte\n");
+        wrong = 1;
+    }
+    answered("carry it over into a buffer of the old size",
+             nutrameza_widen(image, sizeof image, old_ledger, sizeof old_ledger, again, NUTRAMEZA_OLD_LINE_BYTES), NUTRAMEZA_ROOM, 0);
+    answered("carry over what is no old ledger",
+             nutrameza_widen(image, sizeof image, ledger, NUTRAMEZA_LINE_BYTES, again, sizeof again), NUTRAMEZA_LEDGER, 0);
+}
+
 /* Refusals that a host meets when it loads a policy. */
 static void loading(void)
 {
@@ -161,6 +194,7 @@ int main(void)
         return 2;
     loading();
     day();
+    moving();
     free(ledger);
     printf(wrong ? "an answer differs from the paper's\n" : "every answer is the paper's\n");
     return wrong;

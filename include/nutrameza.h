@@ -27,13 +27,17 @@ extern "C" {
 #define NUTRAMEZA_MAX_USER_ROLES 16
 
 /* Sessions of a user (01: windows), numbered from 0. */
-#define NUTRAMEZA_SESSIONS 4
+#define NUTRAMEZA_SESSIONS 8
 
 /* Sizes in bytes: a user's line of the ledger, a permission set, an answer (roles, then permissions). */
-#define NUTRAMEZA_LINE_BYTES 80
+#define NUTRAMEZA_LINE_BYTES 144
 #define NUTRAMEZA_SET_BYTES 32
 #define NUTRAMEZA_ROLES_BYTES 8
 #define NUTRAMEZA_ANSWER_BYTES 40
+
+/* Sessions of a user and bytes of a line in ledgers of earlier versions, which widen carries over and narrow back. */
+#define NUTRAMEZA_OLD_SESSIONS 4
+#define NUTRAMEZA_OLD_LINE_BYTES 80
 
 /* Size in bytes of a chain of roles, a byte a role. */
 #define NUTRAMEZA_CHAIN_BYTES 64
@@ -49,21 +53,22 @@ enum nutrameza_number {
     NUTRAMEZA_REPEAT = 6,      /* image: a member already in this exclusion; senior equal to junior */
     NUTRAMEZA_CROWD = 7,       /* image: a 17th different role for a user; a 33rd exclusion */
     NUTRAMEZA_BALANCE = 8,     /* image: low 28 bits of the sum not zero */
-    NUTRAMEZA_LEDGER = 9,      /* ledger: byte count not 80 times U */
+    NUTRAMEZA_LEDGER = 9,      /* ledger: byte count not 144 times U; to be widened: not 80 times U */
     NUTRAMEZA_PERSON = 10,     /* user not below U */
-    NUTRAMEZA_LINE = 11,       /* this user's line not sound */
-    NUTRAMEZA_SESSION = 12,    /* session above 3 */
+    NUTRAMEZA_LINE = 11,       /* this user's line not sound; of a move: a user's line not sound */
+    NUTRAMEZA_SESSION = 12,    /* session above 7 */
     NUTRAMEZA_CLOSED = 13,     /* session not open */
-    NUTRAMEZA_FULL = 14,       /* all four sessions open */
+    NUTRAMEZA_FULL = 14,       /* all eight sessions open */
     NUTRAMEZA_SET = 15,        /* a bound not 32 bytes */
     NUTRAMEZA_PERMISSION = 16, /* a bound with a permission not below P; a permission to be explained not below P */
     NUTRAMEZA_BOUNDS = 17,     /* lower bound not within the upper */
     NUTRAMEZA_AIM = 18,        /* an aim above 2 */
-    NUTRAMEZA_ROOM = 19,       /* answer buffer not 40 bytes; chain buffer not 64 bytes */
+    NUTRAMEZA_ROOM = 19,       /* answer buffer not 40 bytes; chain buffer not 64; a move's target not of the exact size */
     NUTRAMEZA_NONE = 20,       /* no admissible role set; no loop; no active role carries the permission */
     NUTRAMEZA_SCRIPT = 21,     /* unreadable line, given by the program nutrameza_script alone */
     NUTRAMEZA_LOOP = 22,       /* image: senior words lead from a role back to it; tested after 8 and before 9 */
-    NUTRAMEZA_REACH = 23       /* image: a user may activate more than 16 roles; tested after 22 and before 9 */
+    NUTRAMEZA_REACH = 23,      /* image: a user may activate more than 16 roles; tested after 22 and before 9 */
+    NUTRAMEZA_UPPER_SESSIONS = 24 /* ledger to be narrowed: a user has any of the sessions 4 to 7 open */
 };
 
 /* Aims of an ask. */
@@ -79,9 +84,9 @@ enum nutrameza_exclusion_kind {
 };
 
 /* A call returns its number plus 256 times its extra: the place of the refused word for 1 to 8 (the head is
- * place 0), the lowest role on a loop for 22, the lowest user who may activate more than 16 roles for 23, the session
- * that a done open took, the length of the chain that a done loop call gave, 64 times a role plus its granting role of
- * a done explain, else 0. */
+ * place 0), the lowest role on a loop for 22, the lowest user who may activate more than 16 roles for 23, the user for
+ * 24 and for 11 of a move, the session that a done open took, the length of the chain that a done loop call gave, 64
+ * times a role plus its granting role of a done explain, else 0. */
 static inline unsigned nutrameza_number_of(uint64_t returned) { return (unsigned)(returned % 256); }
 static inline uint64_t nutrameza_extra_of(uint64_t returned) { return returned / 256; }
 
@@ -101,7 +106,7 @@ static inline const char *nutrameza_word_of(unsigned number)
     static const char *const words[] = {
         "done", "length", "head", "kind", "spare", "range", "repeat", "crowd", "balance", "ledger", "person",
         "line", "session", "closed", "full", "set", "permission", "bounds", "aim", "room", "none", "script", "loop",
-        "reach",
+        "reach", "upper sessions",
     };
     return number < sizeof words / sizeof words[0] ? words[number] : "unknown";
 }
@@ -249,9 +254,21 @@ uint64_t nutrameza_show(const uint8_t *image, size_t image_len, const uint8_t *l
 
 /* Explain says through which roles an open session carries a permission: the extra is 64 times the lowest active role
  * that carries it plus its granting role, the lowest-numbered role at or below that one which holds the grant. It
- * changes no byte. Refusals 1 to 8, 22, 9 to 13, 16, and 20 if no active role carries the permission. */
+ * changes no byte. Refusals 1 to 8, 22, 23, 9 to 13, 16, and 20 if no active role carries the permission. */
 uint64_t nutrameza_explain(const uint8_t *image, size_t image_len, const uint8_t *ledger, size_t ledger_len,
                            uint64_t user, uint64_t session, uint64_t permission);
+
+/* Widen carries a ledger of four sessions a user, 80 bytes a line, over into one of eight, 144 bytes a line: each
+ * user's history and each session's bytes stand under their numbers, the new sessions are closed. It reads the old
+ * ledger and fills the new one. Refusals 1 to 8, 22, 23, 9 for the old ledger's length, 19 for the new one's, and from
+ * user 0 up 11 for a line that is not sound; the extra is that user. Narrowing what it fills gives the old bytes. */
+uint64_t nutrameza_widen(const uint8_t *image, size_t image_len, const uint8_t *old_ledger, size_t old_ledger_len,
+                         uint8_t *new_ledger, size_t new_ledger_len);
+
+/* Narrow carries a ledger of eight sessions a user back into one of four, likewise. Refusals as of widen, and for each
+ * user after 11 also 24 where any of the sessions 4 to 7 is open. Widening what it fills gives the old bytes. */
+uint64_t nutrameza_narrow(const uint8_t *image, size_t image_len, const uint8_t *old_ledger, size_t old_ledger_len,
+                          uint8_t *new_ledger, size_t new_ledger_len);
 
 #ifdef __cplusplus
 }

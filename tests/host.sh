@@ -85,24 +85,58 @@ host() {
   mkdir -p "$work/$name" && cd "$work/$name" && cc -std=c99 $strict $(flags --cflags) "$source" $(flags --libs) "$@" -o host
 }
 
-# block LANGUAGE: the only block of that language in docs/HOST.md
+# block LANGUAGE NUMBER: of the blocks of that language in docs/HOST.md the one of that number, from 1
 block() {
-  sed -n "/^\`\`\`$1\$/,/^\`\`\`\$/p" "$root/docs/HOST.md" | sed '1d;$d'
+  awk -v open="\`\`\`$1" -v number="$2" '$0 == "```" { inside = 0 } inside { print } $0 == open { inside = ++seen == number }' \
+    "$root/docs/HOST.md"
 }
 
 worked_example() {
-  block c > "$work/example.c" && block text > "$work/example.out" && test -s "$work/example.out" &&
+  block c 2 > "$work/example.c" && block text 2 > "$work/example.out" && test -s "$work/example.out" &&
     host example "$work/example.c" && ./host > said && diff said "$work/example.out"
 }
 
 # After the example the ledger has the second window open and both roles in the user's history.
 example_ledger() {
-  [ "$(od -An -v -tx8 "$work/example/ledger" | xargs)" = "$(printf '%016x ' 2 3 0 0 2 2 0 0 0 0 | xargs)" ]
+  [ "$(od -An -v -tx8 "$work/example/ledger" | xargs)" = "$(printf '%016x ' 2 3 0 0 2 2 0 0 0 0 0 0 0 0 0 0 0 0 | xargs)" ]
 }
 
 example_cxx() {
   g++ -x c++ -std=c++17 $strict $(flags --cflags) "$work/example.c" $(flags --libs) -o "$work/example_cxx" &&
     cd "$work/example" && "$work/example_cxx" | diff - "$work/example.out"
+}
+
+# numbers N..: a file of numbers below 256, eight bytes each
+numbers() {
+  local number
+  for number in "$@"; do printf "\\x$(printf %02x "$number")\\0\\0\\0\\0\\0\\0\\0"; done
+}
+
+# replayed: the commands of a transcript, each with what it prints
+replayed() {
+  local line
+  while IFS= read -r line; do
+    case $line in '$ '*) echo "$line" && eval "${line#?}" ;; esac
+  done
+}
+
+# A ledger of four windows, and one of eight with window 4 open beside window 1.
+carrying() {
+  block c 1 > "$work/carry.c" && block text 1 > "$work/carry.out" && test -s "$work/carry.out" &&
+    host carry "$work/carry.c" && mv host carry && cp "$work/ward.img" policy.img &&
+    numbers 2 3 0 0 2 2 0 0 0 0 > ledger.4 && numbers 18 3 0 0 2 2 0 0 0 0 0 0 0 0 0 0 0 0 > busy.8 &&
+    replayed < "$work/carry.out" > said && diff said "$work/carry.out"
+}
+
+# The ledger over and back is the old one byte for byte, and so is the busy one once its window 4 is closed; the files carried stay.
+carried() {
+  cd "$work/carry" && numbers 2 3 0 0 2 2 0 0 0 0 | cmp - ledger.4 && cmp ledger.4 ledger.back && cmp ledger.4 busy.4 &&
+    numbers 2 3 0 0 2 2 0 0 0 0 0 0 0 0 0 0 0 0 | cmp - ledger.8 && numbers 18 3 0 0 2 2 0 0 0 0 0 0 0 0 0 0 0 0 | cmp - busy.8
+}
+
+carrying_cxx() {
+  g++ -x c++ -std=c++17 $strict $(flags --cflags) "$work/carry.c" $(flags --libs) -o "$work/carry_cxx" &&
+    cd "$work/carry" && "$work/carry_cxx" over ledger.4 ledger.cxx && cmp ledger.8 ledger.cxx
 }
 
 judged() {
@@ -148,6 +182,9 @@ it 'pkg-config says where the header and the library are' same_flags
 it 'the example of docs/HOST.md is built from pkg-config alone and prints what is written there' worked_example
 it 'the example leaves the ledger on disk' example_ledger
 it 'the example is a C++ program too' example_cxx
+it 'the program of docs/HOST.md that carries ledgers does what is written there' carrying
+it 'a ledger carried over and back comes out byte for byte' carried
+it 'the program that carries ledgers is a C++ program too' carrying_cxx
 it 'the check and the policy tool judge 3,000 images alike, each number from 0 to 8, 22 and 23 among them' judged
-it 'long and deep asks fit a stack of 64 KiB' small_stack
+it 'long and deep asks and the longest moves fit a stack of 64 KiB' small_stack
 counted

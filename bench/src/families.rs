@@ -5,6 +5,7 @@ use crate::plain::{self, Method, Wish};
 use crate::timing;
 use nutrameza_tests::gen::{policy, Rng};
 use nutrameza_tests::kit::{self, Empty};
+use nutrameza_tests::solver::line::LINE;
 use nutrameza_tests::words;
 use std::hint::black_box;
 
@@ -150,8 +151,8 @@ enum Way {
 
 impl Asked {
     /// Puts the ask to a user with one open session and nothing active; ledger and answer after it, with the number.
-    fn put(&self, way: Way, ledger: &mut [u8; 80], answer: &mut [u8; 40]) -> u64 {
-        *ledger = [0; 80];
+    fn put(&self, way: Way, ledger: &mut [u8; LINE], answer: &mut [u8; 40]) -> u64 {
+        *ledger = [0; LINE];
         ledger[0] = 1;
         let (image, lower, upper) = (black_box(&self.image), &self.lower, &self.upper);
         match way {
@@ -169,7 +170,7 @@ impl Asked {
     /// All three ways give the same number, ledger and answer.
     fn agreed(&self) -> u64 {
         let outcome = |way| {
-            let (mut ledger, mut answer) = ([0; 80], [7; 40]);
+            let (mut ledger, mut answer) = ([0; LINE], [7; 40]);
             (self.put(way, &mut ledger, &mut answer), ledger, answer)
         };
         let kit = outcome(Way::Kit);
@@ -182,7 +183,7 @@ impl Asked {
 
 /// All asks of a row, put once.
 fn put_all(asks: &[Asked], way: Way) {
-    let (mut ledger, mut answer) = ([0; 80], [0; 40]);
+    let (mut ledger, mut answer) = ([0; LINE], [0; 40]);
     for asked in asks {
         black_box(asked.put(way, &mut ledger, &mut answer));
     }

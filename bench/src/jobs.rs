@@ -1,9 +1,13 @@
 //! The check on the largest image; open, close, show and explain on a small and on the largest one; check, open, explain, ask and
-//! short ask over a deep hierarchy; open, show and ask of a user with one role over fifteen; the loop call.
+//! short ask over a deep hierarchy; open, show and ask of a user with one role over fifteen; the loop call; both moves.
 
 use crate::{plain, timing};
 use nutrameza_tests::gen::{policy, Rng};
 use nutrameza_tests::kit::{self, Empty};
+#[cfg(feature = "calls")]
+use nutrameza_tests::solver::line::LINE;
+#[cfg(feature = "calls")]
+use nutrameza_tests::solver::moves::{Move, BOTH};
 use nutrameza_tests::{ward, words};
 use std::hint::black_box;
 
@@ -110,22 +114,22 @@ pub fn find_loop() {
 struct Desk {
     image: Vec<u8>,
     ledger: Vec<u8>,
-    line: [u8; 80],
+    line: [u8; LINE],
     user: u64,
     answer: [u8; 40],
 }
 
 #[cfg(feature = "calls")]
 impl Desk {
-    fn new(image: &[u8], users: usize, line: [u8; 80]) -> Desk {
-        let mut ledger = vec![0; 80 * users];
-        ledger[80 * (users - 1)..].copy_from_slice(&line);
+    fn new(image: &[u8], users: usize, line: [u8; LINE]) -> Desk {
+        let mut ledger = vec![0; LINE * users];
+        ledger[LINE * (users - 1)..].copy_from_slice(&line);
         Desk { image: image.to_vec(), ledger, line, user: users as u64 - 1, answer: [0; 40] }
     }
 
     fn set_back(&mut self) {
-        let at = 80 * self.user as usize;
-        self.ledger[at..at + 80].copy_from_slice(&self.line);
+        let at = LINE * self.user as usize;
+        self.ledger[at..at + LINE].copy_from_slice(&self.line);
     }
 
     fn do_by(&mut self, call: Call, kit: bool) -> u64 {
@@ -204,8 +208,8 @@ const AIMS: (u64, u64) = nutrameza_tests::solver::calls::SHORT_OBJECTIVES;
 
 /// A line with session 0 open and these roles active in it.
 #[cfg(feature = "calls")]
-fn line(roles: u64) -> [u8; 80] {
-    let mut line = [0; 80];
+fn line(roles: u64) -> [u8; LINE] {
+    let mut line = [0; LINE];
     line[0] = 1;
     for at in [8, 16, 24] {
         line[at..at + 8].copy_from_slice(&roles.to_le_bytes());
@@ -286,6 +290,58 @@ pub fn calls() {
                 black_box(second.do_by(call, false));
             };
             timing::row(&format!("{}, {size}", call.name()), &mut kit, &mut plain);
+        }
+    }
+}
+
+/// A ledger of lines of so many bytes for every user of an image, each with sessions 0 and 3 open and roles active; one user has role 0.
+#[cfg(feature = "calls")]
+fn ledger(image: &[u8], users: usize, size: usize) -> Vec<u8> {
+    let mut ledger = vec![0; size * users];
+    for (user, line) in ledger.chunks_exact_mut(size).enumerate() {
+        let roles = if users == 1 { 1 } else { some_own_roles(image, user) }.to_le_bytes();
+        line[0] = 9;
+        for at in [8, 16, 24, 64, 72] {
+            line[at..at + 8].copy_from_slice(&roles);
+        }
+    }
+    ledger
+}
+
+/// A move by the kit or by plain Rust.
+#[cfg(feature = "calls")]
+fn carry(way: Move, kit: bool, image: &[u8], old: &[u8], new: &mut [u8]) -> u64 {
+    match (way, kit) {
+        (_, true) => kit::carry(Empty::Somewhere, way, image, old, new),
+        (Move::Widen, false) => plain::widen(image, old, new),
+        (Move::Narrow, false) => plain::narrow(image, old, new),
+    }
+}
+
+/// Times both moves: the ledgers of one user, and of 64 under the largest image and under a small one.
+#[cfg(feature = "calls")]
+pub fn moves() {
+    let images = [
+        ("1 user, 13 words", ward::image_a(), 1),
+        ("64 users, 4,096 words, by kind", largest(true), 64),
+        ("64 users, 4,096 words, in any order", largest(false), 64),
+        ("64 users, 145 words", over_fifteen(), 64),
+    ];
+    for (size, image, users) in images {
+        for way in BOTH {
+            let (from, to) = way.lines();
+            let old = ledger(&image, users, from);
+            let (mut first, mut second) = (vec![7; to * users], vec![9; to * users]);
+            let returned = [carry(way, true, &image, &old, &mut first), carry(way, false, &image, &old, &mut second)];
+            assert_eq!((returned, &first), ([0, 0], &second), "{way:?}");
+            let mut kit = || {
+                black_box(carry(way, true, black_box(&image), &old, &mut first));
+            };
+            let mut plain = || {
+                black_box(carry(way, false, black_box(&image), &old, &mut second));
+            };
+            let name = if way == Move::Widen { "widen" } else { "narrow" };
+            timing::row(&format!("{name}, {size}"), &mut kit, &mut plain);
         }
     }
 }

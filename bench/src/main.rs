@@ -24,6 +24,8 @@ fn main() {
     jobs::find_loop();
     #[cfg(feature = "calls")]
     jobs::calls();
+    #[cfg(feature = "calls")]
+    jobs::moves();
     #[cfg(feature = "asks")]
     families::asks();
     #[cfg(feature = "script")]

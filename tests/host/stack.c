@@ -1,27 +1,30 @@
-/* Long and deep asks, on a thread whose stack is 64 KiB: a user of 16 roles, 64 roles in 16 chains of seniors, 256
-   permissions, 32 exclusions, under each pair of aims. Prints 'done' if every ask is answered. */
+/* Long and deep asks and the longest moves, on a thread whose stack is 64 KiB: users of 16 roles, 64 roles in 16 chains of seniors,
+   256 permissions, 32 exclusions; asks in every window under each pair of aims, and the ledger of all 64 users carried back and over.
+   Prints 'done' if every call is answered as it should be. */
 #define _POSIX_C_SOURCE 200809L
 #include <pthread.h>
 #include <stdio.h>
+#include <string.h>
 
 #include "nutrameza.h"
 
-enum { STACK_BYTES = 65536, OWN = 16 };
+enum { STACK_BYTES = 65536, OWN = 16, USERS = NUTRAMEZA_MAX_USERS, LAST = USERS - 1 };
 
 static uint8_t image[NUTRAMEZA_MAX_IMAGE_BYTES];
 static size_t image_len;
-static uint8_t ledger[NUTRAMEZA_LINE_BYTES];
+static uint8_t ledger[USERS * NUTRAMEZA_LINE_BYTES], again[USERS * NUTRAMEZA_LINE_BYTES];
+static uint8_t old_ledger[USERS * NUTRAMEZA_OLD_LINE_BYTES];
 static int answered;
 
-/* The roles from 4k up to 4k + 3 form a chain. The user has the first roles of four chains, and so may activate the roles below
+/* The roles from 4k up to 4k + 3 form a chain. A user has the first roles of four chains, and so may activate the roles below
    16; role k of them is granted the permissions k, k + 16, .., up to 255. */
 static void make_image(void) {
     static uint32_t words[NUTRAMEZA_MAX_WORDS];
     size_t n = 0;
-    words[n++] = nutrameza_head_word(1, 64, 256);
+    words[n++] = nutrameza_head_word(USERS, 64, 256);
     for (uint32_t role = 0; role < 64; role++) {
-        if (role % 4 == 0 && role < OWN) {
-            words[n++] = nutrameza_assignment_word(0, role);
+        for (uint32_t user = 0; role % 4 == 0 && role < OWN && user < USERS; user++) {
+            words[n++] = nutrameza_assignment_word(user, role);
         }
         if (role % 4 != 3) {
             words[n++] = nutrameza_senior_word(role, role + 1);
@@ -42,8 +45,9 @@ static void make_image(void) {
     image_len = n * NUTRAMEZA_WORD_BYTES;
 }
 
-/* An ask of the permissions below `needed` with these aims; 1 if its number is the expected one. */
+/* An ask of the last user for the permissions below `needed` with these aims; 1 if its number is the expected one. */
 static int ask(uint32_t needed, uint32_t allowed, uint64_t first, uint64_t second, unsigned expected) {
+    uint64_t session = (3 * first + second) % NUTRAMEZA_SESSIONS;
     uint8_t lower[NUTRAMEZA_SET_BYTES] = {0}, upper[NUTRAMEZA_SET_BYTES] = {0}, answer[NUTRAMEZA_ANSWER_BYTES];
     for (uint32_t permission = 0; permission < 256; permission++) {
         if (permission < needed) {
@@ -53,23 +57,39 @@ static int ask(uint32_t needed, uint32_t allowed, uint64_t first, uint64_t secon
             nutrameza_add_permission(upper, permission);
         }
     }
-    uint64_t returned = nutrameza_ask(image, image_len, ledger, sizeof ledger, 0, 0, lower, sizeof lower, upper, sizeof upper,
-                                      first, second, answer, sizeof answer);
+    uint64_t returned = nutrameza_ask(image, image_len, ledger, sizeof ledger, LAST, session, lower, sizeof lower, upper,
+                                      sizeof upper, first, second, answer, sizeof answer);
     if (nutrameza_number_of(returned) != expected) {
         printf("ask %u %u %u %u: %u\n", needed, allowed, (unsigned)first, (unsigned)second, nutrameza_number_of(returned));
     }
     return nutrameza_number_of(returned) == expected;
 }
 
+/* The ledger carried back, refused by the last user's upper windows until they are closed, and over again; 1 if all is as it should be. */
+static int moves(void) {
+    uint64_t refused = nutrameza_narrow(image, image_len, ledger, sizeof ledger, old_ledger, sizeof old_ledger);
+    int good = refused == NUTRAMEZA_UPPER_SESSIONS + 256 * LAST;
+    for (uint64_t session = NUTRAMEZA_OLD_SESSIONS; session < NUTRAMEZA_SESSIONS; session++) {
+        good &= nutrameza_close(image, image_len, ledger, sizeof ledger, LAST, session) == NUTRAMEZA_DONE;
+    }
+    good &= nutrameza_narrow(image, image_len, ledger, sizeof ledger, old_ledger, sizeof old_ledger) == NUTRAMEZA_DONE;
+    good &= nutrameza_widen(image, image_len, old_ledger, sizeof old_ledger, again, sizeof again) == NUTRAMEZA_DONE;
+    return good && memcmp(ledger, again, sizeof ledger) == 0;
+}
+
 static void *work(void *unused) {
     (void)unused;
-    answered = nutrameza_open(image, image_len, ledger, sizeof ledger, 0) == 0;
+    answered = 1;
+    for (uint64_t session = 0; session < NUTRAMEZA_SESSIONS; session++) {
+        answered &= nutrameza_open(image, image_len, ledger, sizeof ledger, LAST) == 256 * session;
+    }
     for (uint64_t aims = 0; aims < 9; aims++) {
         answered &= ask(0, 256, aims / 3, aims % 3, NUTRAMEZA_DONE);
         answered &= ask(8, 256, aims / 3, aims % 3, NUTRAMEZA_DONE);
         answered &= ask(256, 256, aims / 3, aims % 3, NUTRAMEZA_DONE);
         answered &= ask(255, 255, aims / 3, aims % 3, NUTRAMEZA_NONE);
     }
+    answered &= moves();
     return NULL;
 }
 

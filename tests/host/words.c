@@ -42,7 +42,6 @@ static void test_words(void) {
 }
 
 static void test_returned_values(void) {
-    const char *last = nutrameza_word_of(NUTRAMEZA_REACH);
     same("number", nutrameza_number_of(5u + 256u * 3u), NUTRAMEZA_RANGE);
     same("extra", nutrameza_extra_of(5u + 256u * 3u), 3);
     same("number of done", nutrameza_number_of(256u * 2u), NUTRAMEZA_DONE);
@@ -57,8 +56,19 @@ static void test_returned_values(void) {
     same("word of 20", (uint64_t)strcmp(nutrameza_word_of(NUTRAMEZA_NONE), "none"), 0);
     same("word of 21", (uint64_t)strcmp(nutrameza_word_of(NUTRAMEZA_SCRIPT), "script"), 0);
     same("word of 22", (uint64_t)strcmp(nutrameza_word_of(NUTRAMEZA_LOOP), "loop"), 0);
-    same("word of 23", (uint64_t)strcmp(last, "reach"), 0);
-    same("word of 24", (uint64_t)strcmp(nutrameza_word_of(24), "unknown"), 0);
+    same("word of 23", (uint64_t)strcmp(nutrameza_word_of(NUTRAMEZA_REACH), "reach"), 0);
+    same("word of 24", (uint64_t)strcmp(nutrameza_word_of(NUTRAMEZA_UPPER_SESSIONS), "upper sessions"), 0);
+    same("word of 25", (uint64_t)strcmp(nutrameza_word_of(25), "unknown"), 0);
+    same("number of a move's refusal", nutrameza_number_of(24u + 256u * 63u), NUTRAMEZA_UPPER_SESSIONS);
+    same("user of a move's refusal", nutrameza_extra_of(24u + 256u * 63u), 63);
+}
+
+/* A line is 16 bytes and 16 for each session. */
+static void test_lines(void) {
+    same("sessions", NUTRAMEZA_SESSIONS, 8);
+    same("bytes of a line", NUTRAMEZA_LINE_BYTES, 16 + 16 * NUTRAMEZA_SESSIONS);
+    same("sessions of earlier versions", NUTRAMEZA_OLD_SESSIONS, 4);
+    same("bytes of a line of earlier versions", NUTRAMEZA_OLD_LINE_BYTES, 16 + 16 * NUTRAMEZA_OLD_SESSIONS);
 }
 
 static void test_sets(void) {
@@ -110,6 +120,7 @@ static int write_ward(const char *path) {
 int main(int count, char **arguments) {
     test_words();
     test_returned_values();
+    test_lines();
     test_sets();
     if (count != 2 || write_ward(arguments[1]) != 0) {
         printf("no image written\n");

@@ -4,7 +4,10 @@ use crate::gen::Rng;
 use crate::kit::{self, Empty};
 use crate::solver::calls::{self, Call, Reply};
 use crate::solver::image::{judge, Judged};
+use crate::solver::line::LINE;
 use crate::solver::loops::{self, Found};
+#[cfg(feature = "calls")]
+use crate::solver::moves::{self, Carried, Move};
 use crate::words;
 use std::collections::BTreeMap;
 use std::io::Write;
@@ -37,9 +40,9 @@ impl Tally {
 
     /// Sees an answer number.
     pub fn see_number(&mut self, number: u64) {
-        const NAMES: [&str; 24] = [
+        const NAMES: [&str; 25] = [
             "0", "1", "2", "3", "4", "5", "6", "7", "8", "9", "10", "11", "12", "13", "14", "15", "16", "17", "18", "19", "20",
-            "21", "22", "23",
+            "21", "22", "23", "24",
         ];
         self.see(NAMES.get(number as usize).copied().unwrap_or("other"));
     }
@@ -204,6 +207,62 @@ pub fn find_loop(image: &[u8], room: usize, empty: Empty, guard: u8) -> Found {
     })
 }
 
+/// A move by both from an old ledger to a target that holds these bytes: what it did, or what differs.
+#[cfg(feature = "calls")]
+fn carried(way: Move, image: &[u8], old: &[u8], new: &[u8], empty: Empty, guard: u8) -> Result<Carried, String> {
+    let before = image.to_vec();
+    let (mut kit_old, mut kit_new) = (Guarded::new(old, guard), Guarded::new(new, !guard));
+    let returned = kit::carry(empty, way, image, kit_old.inner(), kit_new.inner());
+    let carried = moves::carry(way, &judge(image), old, new.len());
+    let target = carried.target.as_deref().unwrap_or(new);
+    if returned != carried.returned() {
+        let (number, extra) = (returned % 256, returned / 256);
+        return Err(format!("returned {number} + 256 * {extra}, the solver {} + 256 * {}", carried.number, carried.extra));
+    }
+    if let Some(place) = (0..new.len()).find(|place| kit_new.inner()[*place] != target[*place]) {
+        let (kit, solver) = (kit_new.inner()[place], target[place]);
+        return Err(format!(
+            "after answer {} byte {place} of the target is {kit:02x}, the solver's {solver:02x}",
+            carried.number
+        ));
+    }
+    if kit_old.inner() != old || !kit_old.guards_stand() || !kit_new.guards_stand() || before != image {
+        return Err(format!("after answer {} bytes outside the target changed", carried.number));
+    }
+    Ok(carried)
+}
+
+/// A move by both; panics with a shrunk image and ledger if they differ.
+#[cfg(feature = "calls")]
+pub fn carry(way: Move, image: &[u8], old: &[u8], new: &[u8], empty: Empty, guard: u8) -> Carried {
+    carried(way, image, old, new, empty, guard).unwrap_or_else(|_| {
+        let (mut small, mut less) = (image.to_vec(), old.to_vec());
+        shrink_image(&mut small, |image| carried(way, image, old, new, empty, guard).is_err());
+        zero_bytes(&mut less, |less| carried(way, &small, less, new, empty, guard).is_err());
+        let text = carried(way, &small, &less, new, empty, guard).expect_err("the shrunk move still fails");
+        let lines = nonzero_lines(&less, way.lines().0);
+        let (seed, image, from, to) = (seed(), image_text(&small), less.len(), new.len());
+        panic!("seed {seed}: {way:?}: {text}\nimage: {image}\nfrom {from} bytes to {to}, the old ledger zero but for\n{lines}");
+    })
+}
+
+/// Sets bytes to zero as long as the whole still fails.
+fn zero_bytes(bytes: &mut [u8], fails: impl Fn(&[u8]) -> bool) {
+    for place in 0..bytes.len() {
+        let byte = std::mem::replace(&mut bytes[place], 0);
+        if byte != 0 && !fails(bytes) {
+            bytes[place] = byte;
+        }
+    }
+}
+
+/// The lines of a ledger that are not all zero, in hex.
+fn nonzero_lines(ledger: &[u8], line: usize) -> String {
+    let hex = |line: &[u8]| line.iter().map(|byte| format!("{byte:02x}")).collect::<String>();
+    let lines = ledger.chunks(line).enumerate().filter(|(_, line)| line.iter().any(|byte| *byte != 0));
+    lines.map(|(user, line)| format!("  line {user}: {}", hex(line))).collect::<Vec<_>>().join("\n")
+}
+
 /// Calls one after another under one image, from a first ledger.
 #[derive(Clone, Debug)]
 pub struct Run {
@@ -296,7 +355,7 @@ fn played(run: &Run) -> Result<Vec<Played>, (usize, String)> {
     for (place, call) in run.calls.iter().enumerate() {
         match step(&judged, &run.image, &mut ledger, call, run.empty, 0x5A ^ place as u8) {
             Ok(reply) => {
-                let line = ledger.chunks_exact(80).nth(call.user() as usize).unwrap_or_default().to_vec();
+                let line = ledger.chunks_exact(LINE).nth(call.user() as usize).unwrap_or_default().to_vec();
                 played.push(Played { reply, line });
             }
             Err(text) => return Err((place, text)),
@@ -314,15 +373,12 @@ pub fn play(run: &Run) -> Vec<Played> {
             small.calls.truncate(place + 1);
             shrink_run(&mut small);
             let (place, text) = played(&small).expect_err("the shrunk run still fails");
-            let hex = |line: &[u8]| line.iter().map(|byte| format!("{byte:02x}")).collect::<String>();
-            let lines = small.ledger.chunks(80).enumerate().filter(|(_, line)| line.iter().any(|byte| *byte != 0));
-            let lines: Vec<String> = lines.map(|(user, line)| format!("  line {user}: {}", hex(line))).collect();
             panic!(
                 "seed {}: call {place}: {text}\nimage: {}\nledger of {} bytes, zero but for\n{}\ncalls: {:?}",
                 seed(),
                 image_text(&small.image),
                 small.ledger.len(),
-                lines.join("\n"),
+                nonzero_lines(&small.ledger, LINE),
                 small.calls
             );
         }
@@ -336,10 +392,6 @@ fn shrink_run(run: &mut Run) {
     drop_parts(&mut run.calls, |calls| fails(&Run { calls: calls.to_vec(), ..whole.clone() }));
     let whole = run.clone();
     shrink_image(&mut run.image, |image| fails(&Run { image: image.to_vec(), ..whole.clone() }));
-    for place in 0..run.ledger.len() {
-        let byte = std::mem::replace(&mut run.ledger[place], 0);
-        if byte != 0 && !fails(run) {
-            run.ledger[place] = byte;
-        }
-    }
+    let whole = run.clone();
+    zero_bytes(&mut run.ledger, |ledger| fails(&Run { ledger: ledger.to_vec(), ..whole.clone() }));
 }

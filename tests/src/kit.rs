@@ -1,6 +1,8 @@
 //! The kit's C interface, as a host sees it: a slice is its pointer, then its length.
 
 use crate::solver::calls::Call;
+#[cfg(feature = "calls")]
+use crate::solver::moves::Move;
 
 mod raw {
     extern "C" {
@@ -37,6 +39,22 @@ mod raw {
             user: u64,
             session: u64,
             permission: u64,
+        ) -> u64;
+        pub fn nutrameza_widen(
+            image: *const u8,
+            image_len: usize,
+            old_ledger: *const u8,
+            old_ledger_len: usize,
+            new_ledger: *mut u8,
+            new_ledger_len: usize,
+        ) -> u64;
+        pub fn nutrameza_narrow(
+            image: *const u8,
+            image_len: usize,
+            old_ledger: *const u8,
+            old_ledger_len: usize,
+            new_ledger: *mut u8,
+            new_ledger_len: usize,
         ) -> u64;
     }
 
@@ -143,6 +161,17 @@ pub fn show(empty: Empty, image: &[u8], ledger: &[u8], user: u64, session: u64, 
 pub fn explain(empty: Empty, image: &[u8], ledger: &[u8], user: u64, session: u64, permission: u64) -> u64 {
     // SAFETY: as in `open`.
     unsafe { raw::nutrameza_explain(empty.read(image), image.len(), empty.read(ledger), ledger.len(), user, session, permission) }
+}
+
+/// A move: the old ledger is read, the new one written.
+#[cfg(feature = "calls")]
+pub fn carry(empty: Empty, way: Move, image: &[u8], old: &[u8], new: &mut [u8]) -> u64 {
+    let call = match way {
+        Move::Widen => raw::nutrameza_widen,
+        Move::Narrow => raw::nutrameza_narrow,
+    };
+    // SAFETY: as in `open`.
+    unsafe { call(empty.read(image), image.len(), empty.read(old), old.len(), empty.write(new), new.len()) }
 }
 
 /// What an ask names beside image, ledger and answer.

@@ -129,12 +129,7 @@ pub fn cases() -> Vec<Case> {
         case("both bounds empty", image_a(), vec![open(), ask(0, 0, 0, (1, 0))], vec![opened, opened]),
         case("n 1, lower 3", image_a_with(1, 1), vec![open(), ask(0, 3, 0x1f, (0, 0))], vec![opened, none]),
         case("n 1, both bounds empty", image_a_with(1, 1), vec![open(), ask(0, 0, 0, (0, 0))], vec![opened, opened]),
-        case(
-            "fifth open",
-            image_a(),
-            vec![open(), open(), open(), open(), open()],
-            vec![opened, (0, 1, 0, 0), (0, 2, 0, 0), (0, 3, 0, 0), (14, 0, 0, 0)],
-        ),
+        case("ninth open", image_a(), vec![open(); 9], (0..8).map(|session| (0, session, 0, 0)).chain([(14, 0, 0, 0)]).collect()),
         case("lower outside upper", image_a(), vec![open(), ask(0, 0x3, 0x1d, (0, 0))], vec![opened, (17, 0, 0, 0)]),
         case("person 1 of A", image_a(), vec![Call::Open { user: 1 }], vec![(10, 0, 0, 0)]),
         case(

@@ -6,6 +6,7 @@ use nutrameza_tests::gen::{call, damage, ledger, policy, Rng};
 use nutrameza_tests::kit::{self, Empty};
 use nutrameza_tests::solver::calls::{read_permissions, Call, SHORT_OBJECTIVES};
 use nutrameza_tests::solver::image::judge;
+use nutrameza_tests::solver::line::LINE;
 use nutrameza_tests::solver::policy::Policy;
 use nutrameza_tests::{ward, words};
 
@@ -23,7 +24,7 @@ fn ask(session: u64, lower: u64, upper: u64, objectives: (u64, u64)) -> Call {
 
 /// What user 0's calls show under an image of one user, from the zero ledger.
 fn seen(image: Vec<u8>, calls: Vec<Call>) -> Vec<ward::Seen> {
-    let run = Run { image, ledger: vec![0; 80], calls, empty: Empty::Somewhere };
+    let run = Run { image, ledger: vec![0; LINE], calls, empty: Empty::Somewhere };
     play(&run).iter().map(|played| ward::seen(&played.reply)).collect()
 }
 
@@ -61,6 +62,21 @@ fn a_member_in_two_windows_counts_once() {
     let excluded = [words::exclusion(1, 3, &[0, 1, 2])];
     let calls = vec![open(0), open(0), ask(0, 1, 1, (0, 0)), ask(1, 3, 3, (0, 0))];
     assert_eq!(seen(image(&[&[0], &[1], &[2]], &excluded), calls)[3], (0, 0, 3, 3));
+}
+
+#[test]
+fn eight_windows_count_together_in_the_kinds_over_all_windows() {
+    let rows: [&[u32]; 8] = [&[0], &[1], &[2], &[3], &[4], &[5], &[6], &[7]];
+    for kind in 0..4 {
+        let excluded = [words::exclusion(kind, 8, &[0, 1, 2, 3, 4, 5, 6, 7])];
+        let mut calls = vec![open(0); 8];
+        calls.extend((0..8).map(|session| ask(session, 1 << session, 0xff, (1, 1))));
+        calls.push(ask(7, 1, 0xff, (1, 1)));
+        let seen = seen(image(&rows, &excluded), calls);
+        assert!((0..7).all(|session| seen[8 + session] == (0, 0, 1 << session, 1 << session)));
+        assert_eq!(seen[15].0, if kind % 2 == 1 { 20 } else { 0 }, "kind {kind}");
+        assert_eq!(seen[16], (0, 0, 1, 1));
+    }
 }
 
 #[test]
@@ -135,7 +151,7 @@ fn fills_answer_buffers_of_forty_bytes_only() {
 #[test]
 fn refuses_null_bounds() {
     let asked = Call::ShortAsk { user: 0, session: 0, lower: vec![], upper: vec![], room: 0 };
-    let run = Run { image: ward::image_a(), ledger: vec![0; 80], calls: vec![open(0), asked], empty: Empty::Null };
+    let run = Run { image: ward::image_a(), ledger: vec![0; LINE], calls: vec![open(0), asked], empty: Empty::Null };
     assert_eq!(play(&run)[1].reply.number, 15);
 }
 
@@ -327,7 +343,7 @@ fn each_user_is_told_the_same_whatever_the_others_do() {
         for user in 0..policy.users {
             let of_user = |call: &Call| call.user() == user as u64;
             let mut ledger = ledger::ledger(rng, &policy, 2);
-            ledger[80 * user..80 * (user + 1)].copy_from_slice(&first[80 * user..80 * (user + 1)]);
+            ledger[LINE * user..LINE * (user + 1)].copy_from_slice(&first[LINE * user..LINE * (user + 1)]);
             let run = Run {
                 image: words::bytes(&draft.others_redrawn(rng, user as u32).words()),
                 ledger,
@@ -369,7 +385,7 @@ fn deep_image(rng: &mut Rng, holders: u32, exclusions: usize) -> Vec<u8> {
 fn deep_asks() -> Vec<Call> {
     let all = vec![0xFFu8; 32];
     let few = ward::bound(0x0101_0101_0101_0101);
-    let mut calls = vec![open(0), open(0), open(0), open(0)];
+    let mut calls = vec![open(0); 8];
     for lower in [&all, &few, &ward::bound(0)] {
         for objectives in (0..9).map(|pair| (pair / 3, pair % 3)) {
             calls.push(Call::Ask {
@@ -381,11 +397,11 @@ fn deep_asks() -> Vec<Call> {
                 room: 40,
             });
         }
-        calls.push(Call::ShortAsk { user: 0, session: 3, lower: lower.clone(), upper: all.clone(), room: 40 });
+        calls.push(Call::ShortAsk { user: 0, session: 7, lower: lower.clone(), upper: all.clone(), room: 40 });
     }
-    calls.push(Call::Show { user: 0, session: 3, room: 40 });
-    calls.extend((0..4).map(|session| Call::Explain { user: 0, session, permission: 255 }));
-    calls.push(Call::Close { user: 0, session: 3 });
+    calls.push(Call::Show { user: 0, session: 7, room: 40 });
+    calls.extend((0..8).map(|session| Call::Explain { user: 0, session, permission: 255 }));
+    calls.push(Call::Close { user: 0, session: 7 });
     calls
 }
 
@@ -397,7 +413,7 @@ fn the_deepest_asks_fit_a_stack_of_64_kib() {
     for holders in [1, 2, 5, 12] {
         for exclusions in [0, 4, 32] {
             let image = deep_image(&mut rng, holders, exclusions);
-            let (mut ledger, mut answer, calls) = (vec![0u8; 64 * 80], vec![0u8; 40], deep_asks());
+            let (mut ledger, mut answer, calls) = (vec![0u8; 64 * LINE], vec![0u8; 40], deep_asks());
             asked += calls.len();
             let run = move || {
                 for call in &calls {

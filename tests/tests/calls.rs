@@ -5,7 +5,7 @@ use nutrameza_tests::gen::{call, damage, ledger, policy, Rng};
 use nutrameza_tests::kit::Empty;
 use nutrameza_tests::solver::calls::Call;
 use nutrameza_tests::solver::image::judge;
-use nutrameza_tests::solver::line::sound;
+use nutrameza_tests::solver::line::{sound, LINE};
 use nutrameza_tests::solver::policy::Policy;
 use nutrameza_tests::{ward, words};
 
@@ -14,14 +14,14 @@ const NUMBERS: [&str; 20] =
     ["0", "1", "2", "3", "4", "5", "6", "7", "8", "9", "10", "11", "12", "13", "14", "16", "19", "20", "22", "23"];
 
 /// The answers of calls under image A, from this line.
-fn answers(line: [u8; 80], calls: &[Call]) -> Vec<(u64, u64)> {
+fn answers(line: [u8; LINE], calls: &[Call]) -> Vec<(u64, u64)> {
     let run = Run { image: ward::image_a(), ledger: line.to_vec(), calls: calls.to_vec(), empty: Empty::Somewhere };
     play(&run).iter().map(|played| (played.reply.number, played.reply.extra)).collect()
 }
 
 /// A line of image A's user: Doctor active in session 0, Data_Manager only remembered.
-fn doctors_line() -> [u8; 80] {
-    let mut line = [0u8; 80];
+fn doctors_line() -> [u8; LINE] {
+    let mut line = [0u8; LINE];
     (line[0], line[8], line[16], line[24]) = (1, 3, 1, 1);
     line
 }
@@ -40,13 +40,24 @@ fn opens_the_lowest_closed_session() {
     let open = Call::Open { user: 0 };
     let close = |session| Call::Close { user: 0, session };
     let calls = [open.clone(), open.clone(), open.clone(), close(1), open.clone(), open];
-    assert_eq!(answers([0; 80], &calls), [(0, 0), (0, 1), (0, 2), (0, 0), (0, 1), (0, 3)]);
+    assert_eq!(answers([0; LINE], &calls), [(0, 0), (0, 1), (0, 2), (0, 0), (0, 1), (0, 3)]);
 }
 
 #[test]
-fn refuses_a_fifth_open() {
-    let calls = vec![Call::Open { user: 0 }; 5];
-    assert_eq!(answers([0; 80], &calls)[4], (14, 0));
+fn opens_eight_sessions_and_refuses_a_ninth_open() {
+    let calls = vec![Call::Open { user: 0 }; 9];
+    let answers = answers([0; LINE], &calls);
+    assert_eq!(answers[..8], [(0, 0), (0, 1), (0, 2), (0, 3), (0, 4), (0, 5), (0, 6), (0, 7)]);
+    assert_eq!(answers[8], (14, 0));
+}
+
+#[test]
+fn a_session_closed_among_eight_is_the_next_one_opened() {
+    for session in 0..8 {
+        let mut calls = vec![Call::Open { user: 0 }; 8];
+        calls.extend([Call::Close { user: 0, session }, Call::Open { user: 0 }, Call::Open { user: 0 }]);
+        assert_eq!(answers([0; LINE], &calls)[8..], [(0, 0), (0, session), (14, 0)]);
+    }
 }
 
 #[test]
@@ -65,12 +76,12 @@ fn at_session(session: u64) -> [Call; 3] {
 }
 
 #[test]
-fn refuses_a_closed_session_and_one_above_three() {
-    for session in [4, 5, 7, 8, 255, 256, 1 << 32, 1 << 60, u64::MAX] {
+fn refuses_a_closed_session_and_one_above_seven() {
+    for session in [8, 9, 15, 16, 255, 256, 1 << 32, 1 << 60, u64::MAX] {
         let calls = at_session(session);
         assert_eq!(answers(doctors_line(), &calls), [(12, 0), (12, 0), (12, 0)]);
     }
-    for session in 1..4 {
+    for session in 1..8 {
         let calls = at_session(session);
         assert_eq!(answers(doctors_line(), &calls), [(13, 0), (13, 0), (13, 0)]);
     }
@@ -104,7 +115,7 @@ fn refuses_null_for_image_and_ledger() {
         Call::Explain { user, session, permission: 0 },
     ] {
         let run = |image: Vec<u8>, ledger| Run { image, ledger, calls: vec![call.clone()], empty: Empty::Null };
-        assert_eq!(play(&run(vec![], vec![0; 80]))[0].reply.number, 1);
+        assert_eq!(play(&run(vec![], vec![0; LINE]))[0].reply.number, 1);
         assert_eq!(play(&run(vec![], vec![]))[0].reply.number, 1);
         assert_eq!(play(&run(ward::image_a(), vec![]))[0].reply.number, 9);
     }
@@ -112,7 +123,7 @@ fn refuses_null_for_image_and_ledger() {
 
 #[test]
 fn refuses_ledgers_of_every_other_length() {
-    for length in (0..=200).filter(|length| *length != 80) {
+    for length in (0..=320).filter(|length| *length != 144) {
         let run =
             Run { image: ward::image_a(), ledger: vec![0; length], calls: vec![Call::Open { user: 0 }], empty: Empty::Null };
         assert_eq!(play(&run)[0].reply.number, 9, "{length} bytes");
@@ -122,14 +133,14 @@ fn refuses_ledgers_of_every_other_length() {
 #[test]
 fn refuses_users_beyond_the_head_up_to_the_largest_number() {
     for user in [1, 2, 63, 64, 255, 256, 1 << 16, 1 << 32, 1 << 60, (1 << 60) + 1, 1 << 63, u64::MAX] {
-        let session = 9;
+        let session = 17;
         let calls = [
             Call::Open { user },
             Call::Close { user, session },
             Call::Show { user, session, room: 3 },
             Call::Explain { user, session, permission: 5 },
         ];
-        assert_eq!(answers([0xFF; 80], &calls), [(10, 0); 4]);
+        assert_eq!(answers([0xFF; LINE], &calls), [(10, 0); 4]);
     }
 }
 
@@ -146,12 +157,12 @@ fn refuses_a_line_damaged_in_any_field() {
         if !sound(policy, user, &line) {
             tally.see(&format!("{how:?}"));
         }
-        let mut ledger = vec![0u8; 80 * policy.users];
-        ledger[80 * user..80 * (user + 1)].copy_from_slice(&line);
+        let mut ledger = vec![0u8; LINE * policy.users];
+        ledger[LINE * user..LINE * (user + 1)].copy_from_slice(&line);
         let run = Run {
             image,
             ledger,
-            calls: vec![Call::Show { user: user as u64, session: rng.below(4), room: 40 }],
+            calls: vec![Call::Show { user: user as u64, session: rng.below(8), room: 40 }],
             empty: Empty::Null,
         };
         tally.see_number(play(&run)[0].reply.number);
@@ -170,7 +181,7 @@ fn damage_in_another_line_changes_nothing() {
         let mut damaged = sound.clone();
         for other in (0..policy.users).filter(|other| *other != user) {
             let how = rng.pick(&ledger::DAMAGES);
-            ledger::damage(rng, &policy, other, &mut damaged[80 * other..80 * (other + 1)], how);
+            ledger::damage(rng, &policy, other, &mut damaged[LINE * other..LINE * (other + 1)], how);
         }
         let calls: Vec<Call> = (0..6).map(|_| of_user(call::plain(rng, &policy), user as u64)).collect();
         let play = |ledger: Vec<u8>| play(&Run { image: image.clone(), ledger, calls: calls.clone(), empty: Empty::Null });

@@ -6,7 +6,7 @@ use nutrameza_tests::gen::{call, damage, ledger, policy, Rng};
 use nutrameza_tests::kit::{self, Empty};
 use nutrameza_tests::solver::calls::{read_permissions, Call};
 use nutrameza_tests::solver::image::judge;
-use nutrameza_tests::solver::line::Line;
+use nutrameza_tests::solver::line::{Line, LINE};
 use nutrameza_tests::solver::policy::Policy;
 use nutrameza_tests::{ward, words};
 
@@ -28,7 +28,7 @@ fn image(own: &[u32], grants: &[(u32, u32)], seniors: &[(u32, u32)]) -> Vec<u8> 
 
 /// A line whose first sessions are open with these roles active, the others closed.
 fn line(active: &[&[u32]]) -> Vec<u8> {
-    let mut line = Line::read(&[0; 80]);
+    let mut line = Line::read(&[0; LINE]);
     for (session, roles) in line.sessions.iter_mut().zip(active) {
         session.open = true;
         for role in *roles {
@@ -37,7 +37,7 @@ fn line(active: &[&[u32]]) -> Vec<u8> {
             line.history[*role as usize] = true;
         }
     }
-    let mut bytes = vec![0; 80];
+    let mut bytes = vec![0; LINE];
     line.write(&mut bytes);
     bytes
 }
@@ -142,10 +142,10 @@ fn refuses_in_the_order_line_session_closed_permission_none() {
     let (sound, mut unsound) = (line(&[&[0]]), line(&[&[0]]));
     unsound[1] = 1;
     let asked = |ledger: &[u8], user, session, permission| answer(&image, ledger, Call::Explain { user, session, permission });
-    assert_eq!(asked(&unsound[..79], 1, 4, 5), (9, 0));
-    assert_eq!(asked(&unsound, 1, 4, 5), (10, 0));
-    assert_eq!(asked(&unsound, 0, 4, 5), (11, 0));
-    assert_eq!(asked(&sound, 0, 4, 5), (12, 0));
+    assert_eq!(asked(&unsound[..LINE - 1], 1, 8, 5), (9, 0));
+    assert_eq!(asked(&unsound, 1, 8, 5), (10, 0));
+    assert_eq!(asked(&unsound, 0, 8, 5), (11, 0));
+    assert_eq!(asked(&sound, 0, 8, 5), (12, 0));
     assert_eq!(asked(&sound, 0, 1, 5), (13, 0));
     assert_eq!(asked(&sound, 0, 1, 4), (13, 0));
     assert_eq!(asked(&sound, 0, 0, 5), (16, 0));
@@ -160,8 +160,8 @@ fn refuses_the_image_before_all_else() {
     for _ in 0..4_000 {
         let image = damage::image(&mut rng);
         if let Err(refused) = judge(&image) {
-            for length in [0, 79, 80, 160] {
-                let call = Call::Explain { user: u64::MAX, session: 4, permission: 256 };
+            for length in [0, LINE - 1, LINE, 2 * LINE] {
+                let call = Call::Explain { user: u64::MAX, session: 8, permission: 256 };
                 let expected = (refused.number, refused.extra as u64);
                 assert_eq!(answer(&image, &vec![0xFF; length], call), expected, "{length} bytes");
             }
@@ -198,9 +198,13 @@ fn refuses_by_20_what_no_active_role_carries() {
 }
 
 #[test]
-fn a_session_above_three_is_refused_up_to_the_largest_number() {
-    for session in [4, 5, 7, 8, 64, 255, 256, 1 << 16, 1 << 32, 1 << 60, 1 << 63, u64::MAX] {
-        assert_eq!(answer(&ward::image_a(), &line(&[&[0], &[], &[], &[]]), explain(session, 0)), (12, 0), "{session}");
+fn a_session_above_seven_is_refused_up_to_the_largest_number() {
+    for session in [8, 9, 15, 16, 64, 255, 256, 1 << 16, 1 << 32, 1 << 60, 1 << 63, u64::MAX] {
+        assert_eq!(
+            answer(&ward::image_a(), &line(&[&[0], &[], &[], &[], &[], &[], &[], &[]]), explain(session, 0)),
+            (12, 0),
+            "{session}"
+        );
     }
 }
 
@@ -267,7 +271,7 @@ fn explains_a_hundred_and_eighty_thousand_times_as_the_solver_does() {
             tally.see_number(played.reply.number);
             let Call::Explain { user, session, permission } = *call else { panic!("{call:?} is no explain") };
             if played.reply.number == 0 {
-                let line = Line::read(&ledger[80 * user as usize..80 * (user as usize + 1)]);
+                let line = Line::read(&ledger[LINE * user as usize..LINE * (user as usize + 1)]);
                 let kinds = kinds(&policy, &line, session as usize, permission as usize, played.reply.extra);
                 kinds.into_iter().for_each(|kind| tally.see(kind));
             }
@@ -283,11 +287,11 @@ fn explains_a_hundred_and_eighty_thousand_times_as_the_solver_does() {
 
 #[test]
 fn explains_exactly_the_permissions_that_show_has() {
-    let tally = spread("explains and shows", 1_500, |rng, tally| {
+    let tally = spread("explains and shows", 1_000, |rng, tally| {
         let (image, policy, mut ledger) = drawn(rng);
         let judged = judge(&image);
         for user in 0..policy.users.min(6) as u64 {
-            for session in 0..5 {
+            for session in 0..9 {
                 let show = Call::Show { user, session, room: 40 };
                 let shown = step(&judged, &image, &mut ledger, &show, Empty::Null, 3).unwrap();
                 let carried = shown.answer.map(|answer| read_permissions(&answer[8..]));

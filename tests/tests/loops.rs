@@ -6,6 +6,7 @@ use nutrameza_tests::gen::{damage, hierarchy, Rng};
 use nutrameza_tests::kit::{self, Empty};
 use nutrameza_tests::solver::calls::Call;
 use nutrameza_tests::solver::image::{read, Judged};
+use nutrameza_tests::solver::line::LINE;
 use nutrameza_tests::solver::policy::Policy;
 use nutrameza_tests::{ward, words};
 
@@ -168,7 +169,7 @@ fn the_refusals_1_to_8_come_before_a_loop() {
         for room in [0, 63, 64, 65] {
             assert_eq!(find_loop(&image, room, Empty::Null, 0x77).number, number);
         }
-        for length in [0, 79, 80] {
+        for length in [0, LINE - 1, LINE] {
             assert!(answers(&image, length, calls(0, 0, 40)).iter().all(|answer| answer.0 == number), "{number}");
         }
         numbers.push(number);
@@ -181,7 +182,7 @@ fn the_refusals_1_to_8_come_before_a_loop() {
 #[test]
 fn every_call_refuses_a_loop_before_ledger_person_line_session_and_all_that_follows() {
     let image = image(6, &[(0, 5), (5, 3), (3, 5)]);
-    for length in [0, 1, 79, 80, 81, 160] {
+    for length in [0, 1, 80, LINE - 1, LINE, LINE + 1, 2 * LINE] {
         for (user, session, room) in [(0, 0, 40), (0, 9, 3), (7, 0, 40), (u64::MAX, u64::MAX, 0)] {
             assert_eq!(answers(&image, length, calls(user, session, room)), [(22, 3); 6], "{length} bytes");
         }
@@ -192,9 +193,9 @@ fn every_call_refuses_a_loop_before_ledger_person_line_session_and_all_that_foll
 #[test]
 fn without_the_loop_the_same_calls_come_to_the_later_refusals() {
     let image = image(6, &[(0, 5), (5, 3)]);
-    assert_eq!(answers(&image, 79, calls(0, 0, 40)), [(9, 0); 6]);
-    assert_eq!(answers(&image, 80, calls(7, 0, 40)), [(10, 0); 6]);
-    assert_eq!(answers(&image, 80, calls(0, 0, 40)), [(11, 0); 6]);
+    assert_eq!(answers(&image, LINE - 1, calls(0, 0, 40)), [(9, 0); 6]);
+    assert_eq!(answers(&image, LINE, calls(7, 0, 40)), [(10, 0); 6]);
+    assert_eq!(answers(&image, LINE, calls(0, 0, 40)), [(11, 0); 6]);
 }
 
 #[test]

@@ -6,7 +6,7 @@ use nutrameza_tests::gen::{call, hierarchy, ledger, Rng};
 use nutrameza_tests::kit::{self, Empty};
 use nutrameza_tests::solver::calls::Call;
 use nutrameza_tests::solver::image::{judge, read};
-use nutrameza_tests::solver::line::sound;
+use nutrameza_tests::solver::line::{sound, LINE};
 use nutrameza_tests::{ward, words};
 
 /// The numbers of the session rules and of the judgement that the random calls are to see.
@@ -48,13 +48,13 @@ fn seen(image: Vec<u8>, ledger: Vec<u8>, calls: Vec<Call>) -> Vec<ward::Seen> {
 #[test]
 fn the_ward_head_takes_nurse_and_not_surgeon() {
     let calls = vec![Call::Open { user: 0 }, ask(2, 2, (1, 1)), ask(4, 7, (0, 0)), ask(0, 7, (2, 2))];
-    assert_eq!(seen(ward_head(), vec![0; 80], calls), [(0, 0, 0, 0), (0, 0, 2, 2), (20, 0, 0, 0), (0, 0, 3, 3)]);
+    assert_eq!(seen(ward_head(), vec![0; LINE], calls), [(0, 0, 0, 0), (0, 0, 2, 2), (20, 0, 0, 0), (0, 0, 3, 3)]);
 }
 
 #[test]
 fn a_line_with_a_junior_active_is_sound_and_one_with_another_role_is_not() {
     for (roles, number) in [(1u8, 0), (2, 0), (3, 0), (4, 11), (6, 11)] {
-        let mut line = vec![0u8; 80];
+        let mut line = vec![0u8; LINE];
         (line[0], line[8], line[16], line[24]) = (1, roles, roles, roles);
         let calls = vec![Call::Show { user: 0, session: 0, room: 40 }, Call::Explain { user: 0, session: 0, permission: 1 }];
         for answer in seen(ward_head(), line, calls) {
@@ -69,7 +69,7 @@ fn a_junior_does_not_reach_upward() {
     list.extend((0..3).map(|role| words::grant(role, role)));
     let calls = vec![Call::Open { user: 0 }, ask(1, 7, (0, 0)), ask(4, 4, (0, 0))];
     let image = words::bytes(&words::closed(list));
-    assert_eq!(seen(image, vec![0; 80], calls), [(0, 0, 0, 0), (20, 0, 0, 0), (0, 0, 4, 4)]);
+    assert_eq!(seen(image, vec![0; LINE], calls), [(0, 0, 0, 0), (20, 0, 0, 0), (0, 0, 4, 4)]);
 }
 
 /// The ways to reach so many roles: a chain, one over the others, two chains that meet, a lattice of two ways down, and assigned ones.
@@ -151,7 +151,7 @@ fn a_user_of_one_role_over_fifteen_may_have_all_of_them() {
     let calls =
         vec![Call::Open { user: 0 }, ask(0, u64::MAX, (2, 2)), ask(0x8000, 0x8000, (1, 1)), ask(0x10000, u64::MAX, (0, 0))];
     let all = (0, 0, 0xFFFF, 0xFFFF);
-    assert_eq!(seen(image, vec![0; 80], calls), [(0, 0, 0, 0), all, (0, 0, 0x8000, 0x8000), (20, 0, 0, 0)]);
+    assert_eq!(seen(image, vec![0; LINE], calls), [(0, 0, 0, 0), all, (0, 0, 0x8000, 0x8000), (20, 0, 0, 0)]);
 }
 
 /// A ledger in which some lines have a role active that is authorized and not assigned, and some one that is not authorized.
@@ -159,7 +159,7 @@ fn told_apart(rng: &mut Rng, image: &[u8], ledger: &mut [u8], tally: &mut Tally)
     let Ok(policy) = judge(image) else {
         return;
     };
-    for (user, line) in ledger.chunks_exact_mut(80).enumerate() {
+    for (user, line) in ledger.chunks_exact_mut(LINE).enumerate() {
         let own = policy.authorized(user);
         let below: Vec<usize> = own.iter().copied().filter(|role| !policy.assigned[user].contains(role)).collect();
         let beyond: Vec<usize> = (0..policy.roles).filter(|role| !own.contains(role)).collect();

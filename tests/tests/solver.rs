@@ -1,16 +1,18 @@
-//! The separate solver by itself: the ward examples of 01 and loops worked out by hand, so that what the kit is held against is held
-//! against the paper.
+//! The separate solver by itself: the ward examples of 01, loops and moves worked out by hand, so that what the kit is held against is
+//! held against the paper.
 
 use nutrameza_tests::solver::calls::{play, Call, Reply};
 use nutrameza_tests::solver::image::{judge, Refused};
+use nutrameza_tests::solver::line::LINE;
 use nutrameza_tests::solver::loops::find;
+use nutrameza_tests::solver::moves::{carry, Carried, Move};
 use nutrameza_tests::ward::{self, Case};
 use nutrameza_tests::words;
 
 /// Plays a case's calls on the zero ledger.
 fn replies(case: &Case) -> Vec<Reply> {
     let judged = judge(&case.image);
-    let mut ledger = vec![0u8; 80];
+    let mut ledger = vec![0u8; LINE];
     case.calls.iter().map(|call| play(&judged, &mut ledger, call)).collect()
 }
 
@@ -120,8 +122,61 @@ fn the_loop_call_refuses_another_buffer_before_a_hierarchy_without_a_loop() {
     assert_eq!(find(&looped[..7], 3).number, 1);
 }
 
+/// Image A's user in a line of so many bytes: Data_Manager active in session 1, Doctor remembered; another session may be open.
+fn managers_line(bytes: usize, also_open: u8) -> Vec<u8> {
+    let mut line = vec![0u8; bytes];
+    (line[0], line[8], line[32], line[40]) = (2 | also_open, 3, 2, 2);
+    line
+}
+
+#[test]
+fn a_line_is_carried_to_eight_sessions_and_back_under_the_same_numbers() {
+    let image = judge(&ward::image_a());
+    let done = |target| Carried { number: 0, extra: 0, target: Some(target) };
+    assert_eq!(carry(Move::Widen, &image, &managers_line(80, 8), 144), done(managers_line(144, 8)));
+    assert_eq!(carry(Move::Narrow, &image, &managers_line(144, 8), 80), done(managers_line(80, 8)));
+}
+
+#[test]
+fn a_move_refuses_by_the_image_9_19_11_and_24_in_this_order() {
+    let (image, none) = (judge(&ward::image_a()), judge(&[]));
+    let refused = |way, image, old: &[u8], room| {
+        let carried = carry(way, image, old, room);
+        assert_eq!((carried.extra, carried.target), (0, None));
+        carried.number
+    };
+    assert_eq!(refused(Move::Narrow, &none, &[], 0), 1);
+    assert_eq!(refused(Move::Widen, &image, &[0; 144], 80), 9);
+    assert_eq!(refused(Move::Narrow, &image, &[0; 80], 144), 9);
+    assert_eq!(refused(Move::Widen, &image, &[0xFF; 80], 80), 19);
+    assert_eq!(refused(Move::Narrow, &image, &[0xFF; 144], 144), 19);
+    assert_eq!(refused(Move::Widen, &image, &managers_line(80, 16), 144), 11);
+    assert_eq!(refused(Move::Narrow, &image, &managers_line(144, 16), 80), 24);
+    let mut both = managers_line(144, 16);
+    both[1] = 1;
+    assert_eq!(refused(Move::Narrow, &image, &both, 80), 11);
+}
+
+#[test]
+fn a_move_tells_the_lowest_user_in_the_way() {
+    let mut image = ward::A.to_vec();
+    image[0] = words::head(3, 2, 5);
+    words::rebalance(&mut image);
+    let image = judge(&words::bytes(&image));
+    let sound = vec![0u8; 144];
+    let (mut unsound, mut upper) = (sound.clone(), sound.clone());
+    (unsound[9], upper[0]) = (1, 128);
+    let told = |lines: [&Vec<u8>; 3]| {
+        let carried = carry(Move::Narrow, &image, &lines.map(|line| line.clone()).concat(), 240);
+        (carried.number, carried.extra)
+    };
+    assert_eq!(told([&sound, &unsound, &upper]), (11, 1));
+    assert_eq!(told([&sound, &upper, &unsound]), (24, 1));
+    assert_eq!(told([&sound, &sound, &upper]), (24, 2));
+}
+
 #[test]
 fn names_no_person_beyond_the_head() {
-    let mut ledger = vec![0u8; 80];
+    let mut ledger = vec![0u8; LINE];
     assert_eq!(play(&judge(&ward::image_a()), &mut ledger, &Call::Open { user: 1 }).number, 10);
 }

@@ -2,7 +2,7 @@
 
 use super::{wild, Rng};
 use crate::solver::calls::{Call, ANSWER};
-use crate::solver::line::Line;
+use crate::solver::line::{Line, LINE, SESSIONS};
 use crate::solver::policy::{Permissions, Policy};
 
 fn user(rng: &mut Rng, policy: &Policy) -> u64 {
@@ -14,9 +14,9 @@ fn user(rng: &mut Rng, policy: &Policy) -> u64 {
 
 fn session(rng: &mut Rng) -> u64 {
     if rng.one_in(12) {
-        return wild(rng, 4);
+        return wild(rng, SESSIONS as u64);
     }
-    rng.below(4)
+    rng.below(SESSIONS as u64)
 }
 
 fn room(rng: &mut Rng, wrong: u64) -> usize {
@@ -53,9 +53,9 @@ pub fn plain(rng: &mut Rng, policy: &Policy) -> Call {
 /// What the active roles of a session carry in this ledger, as far as there are such roles.
 fn active_carried(policy: &Policy, ledger: &[u8], user: usize, session: u64) -> Vec<usize> {
     let mut carried = Permissions::new();
-    if let (Some(bytes), 0..=3) = (ledger.get(80 * user..80 * (user + 1)), session) {
-        let active = Line::read(bytes).sessions[session as usize].active;
-        (0..policy.roles).filter(|role| active[*role]).for_each(|role| carried.extend(policy.carried_by(role)));
+    let line = ledger.get(LINE * user..LINE * (user + 1)).map(Line::read);
+    if let Some(session) = line.as_ref().and_then(|line| line.sessions.get(session as usize)) {
+        (0..policy.roles).filter(|role| session.active[*role]).for_each(|role| carried.extend(policy.carried_by(role)));
     }
     carried.into_iter().collect()
 }
@@ -149,7 +149,8 @@ fn objective(rng: &mut Rng) -> u64 {
 
 /// A session that is open in a user's line of this ledger, mostly and where there is one.
 fn open_session(rng: &mut Rng, ledger: &[u8], user: usize) -> u64 {
-    let open: Vec<u64> = (0..4).filter(|session| ledger.get(80 * user).is_some_and(|bits| bits >> session & 1 == 1)).collect();
+    let bits = ledger.get(LINE * user).copied().unwrap_or(0);
+    let open: Vec<u64> = (0..SESSIONS as u64).filter(|session| bits >> session & 1 == 1).collect();
     if open.is_empty() || rng.one_in(8) {
         return session(rng);
     }

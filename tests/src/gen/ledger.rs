@@ -1,7 +1,7 @@
 //! Ledgers: zero, sound at random, damaged in each field.
 
 use super::Rng;
-use crate::solver::line::{sound, Line, RoleFlags, LINE, SESSIONS};
+use crate::solver::line::{line_bytes, sessions_in, sound, Line, RoleFlags, LINE, SESSIONS};
 use crate::solver::policy::{Kind, Policy};
 
 /// Takes a role out of every set of a line.
@@ -23,17 +23,23 @@ fn some(rng: &mut Rng, of: u64, may: impl Fn(usize) -> bool) -> RoleFlags {
     flags
 }
 
-/// A sound line of a user: sets at random, thinned until it is sound.
+/// A sound line of a user.
 pub fn sound_line(rng: &mut Rng, policy: &Policy, user: usize) -> Vec<u8> {
-    let mut bytes = vec![0u8; LINE];
+    sound_line_of(rng, policy, user, SESSIONS)
+}
+
+/// A sound line of so many sessions: sets at random, thinned until it is sound.
+fn sound_line_of(rng: &mut Rng, policy: &Policy, user: usize, sessions: usize) -> Vec<u8> {
+    let mut bytes = vec![0u8; line_bytes(sessions)];
     if rng.one_in(6) {
         return bytes;
     }
     let mut line = Line::read(&bytes);
     let own = policy.authorized(user);
     line.history = some(rng, 3, |role| role < policy.roles);
+    let all_open = rng.one_in(6);
     for session in &mut line.sessions {
-        session.open = !rng.one_in(3);
+        session.open = all_open || !rng.one_in(3);
         if session.open {
             session.history = some(rng, 4, |role| line.history[role]);
             let history = session.history;
@@ -81,13 +87,16 @@ pub const DAMAGES: [Damage; 13] = [
     Damage::AllBytes,
 ];
 
-/// Damages a line in one way, as far as the policy and the line give room for it.
+/// Damages a line of any number of sessions in one way, as far as the policy and the line give room for it.
 pub fn damage(rng: &mut Rng, policy: &Policy, user: usize, bytes: &mut [u8], how: Damage) {
     let mut line = Line::read(bytes);
-    let session = rng.place(SESSIONS);
-    let role = rng.place(policy.roles);
+    let sessions = sessions_in(bytes.len());
+    let (session, role) = (rng.place(sessions), rng.place(policy.roles));
     match how {
-        Damage::OpenBitAbove => bytes[0] |= 1 << rng.from_to(4, 7),
+        Damage::OpenBitAbove => {
+            let beyond = rng.from_to(sessions as u64, 11) as usize;
+            bytes[beyond / 8] |= 1 << (beyond % 8);
+        }
         Damage::FirstBytes => bytes[rng.from_to(1, 7) as usize] |= 1 << rng.below(8),
         Damage::ClosedSession => {
             line.history[role] = true;
@@ -127,9 +136,9 @@ pub fn damage(rng: &mut Rng, policy: &Policy, user: usize, bytes: &mut [u8], how
             exclude(rng, policy, user, &mut line, kind);
             line.write(bytes);
         }
-        Damage::AnyBit => bytes[rng.place(LINE)] ^= 1 << rng.below(8),
+        Damage::AnyBit => bytes[rng.place(bytes.len())] ^= 1 << rng.below(8),
         Damage::AllBytes => {
-            let random = rng.bytes(LINE);
+            let random = rng.bytes(bytes.len());
             bytes.copy_from_slice(&random);
         }
     }
@@ -157,9 +166,9 @@ fn exclude(rng: &mut Rng, policy: &Policy, user: usize, line: &mut Line, kind: K
         members.retain(|role| own.contains(role));
     }
     members.truncate(exclusion.limit - usize::from(rng.one_in(4)));
-    let one = rng.place(SESSIONS);
+    let one = rng.place(line.sessions.len());
     for role in members {
-        let session = if exclusion.kind == Kind::UserActive { rng.place(SESSIONS) } else { one };
+        let session = if exclusion.kind == Kind::UserActive { rng.place(line.sessions.len()) } else { one };
         match exclusion.kind {
             Kind::SessionActive | Kind::UserActive => activate(line, session, role),
             Kind::SessionHistory => {
@@ -174,9 +183,14 @@ fn exclude(rng: &mut Rng, policy: &Policy, user: usize, line: &mut Line, kind: K
 
 /// A ledger of sound lines, each damaged in one of `damaged` draws (0: never).
 pub fn ledger(rng: &mut Rng, policy: &Policy, damaged: u64) -> Vec<u8> {
+    ledger_of(rng, policy, SESSIONS, damaged)
+}
+
+/// The same where a user has so many sessions.
+pub fn ledger_of(rng: &mut Rng, policy: &Policy, sessions: usize, damaged: u64) -> Vec<u8> {
     let mut ledger = Vec::new();
     for user in 0..policy.users {
-        let mut line = sound_line(rng, policy, user);
+        let mut line = sound_line_of(rng, policy, user, sessions);
         if damaged > 0 && rng.one_in(damaged) {
             let how = rng.pick(&DAMAGES);
             damage(rng, policy, user, &mut line, how);
@@ -188,14 +202,19 @@ pub fn ledger(rng: &mut Rng, policy: &Policy, damaged: u64) -> Vec<u8> {
 
 /// Another length than the fitting one.
 pub fn misfit(rng: &mut Rng, ledger: &mut Vec<u8>) {
+    misfit_of(rng, ledger, LINE)
+}
+
+/// The same of a ledger whose lines have so many bytes.
+pub fn misfit_of(rng: &mut Rng, ledger: &mut Vec<u8>, line: usize) {
     let fitting = ledger.len();
     let length = match rng.below(6) {
         0 => 0,
         1 => fitting - 1,
         2 => fitting + 1,
-        3 => fitting - 80,
-        4 => fitting + 80,
-        _ => rng.place(64 * 80 + 1),
+        3 => fitting - line,
+        4 => fitting + line,
+        _ => rng.place(64 * LINE + 1),
     };
     ledger.resize(length, 0);
 }

@@ -65,7 +65,7 @@ impl Rng {
     }
 }
 
-/// A number near `near`, or one that a narrower type or a product with 80 would take for it.
+/// A number near `near`, or one that a narrower type or a product with 144 would take for it.
 pub fn wild(rng: &mut Rng, near: u64) -> u64 {
     let low = rng.below(near.max(1));
     match rng.below(12) {

@@ -2,6 +2,7 @@
 
 use super::{call, Rng};
 use crate::solver::calls::Call;
+use crate::solver::line::LINE;
 use crate::solver::policy::Policy;
 
 /// A bound as a hex number, at times with leading zeros, letters of either size.
@@ -48,7 +49,7 @@ fn text(rng: &mut Rng, call: &Call) -> String {
 }
 
 /// Lines that no form reads, whatever the policy.
-pub const UNREADABLE: [&[u8]; 45] = [
+pub const UNREADABLE: [&[u8]; 47] = [
     b"",
     b" ",
     b"open",
@@ -79,6 +80,8 @@ pub const UNREADABLE: [&[u8]; 45] = [
     b"show 0 0 ",
     b"check",
     b"explain 0 0 0",
+    b"widen",
+    b"narrow",
     b"ask 0 0",
     b"ask 0 0 3",
     b"ask 0 0 3 1f 1",
@@ -111,7 +114,7 @@ fn unreadable(rng: &mut Rng, readable: &str) -> Vec<u8> {
 
 /// A script of some lines under a policy, with or without a final newline.
 pub fn script(rng: &mut Rng, policy: &Policy, lines: usize) -> Vec<u8> {
-    let open_all = vec![0x0f; 80 * policy.users];
+    let open_all = vec![0xff; LINE * policy.users];
     let mut script = Vec::new();
     for _ in 0..lines {
         let call =

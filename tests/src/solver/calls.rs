@@ -2,7 +2,7 @@
 
 use super::choice::{choose, PermissionFlags, Request};
 use super::image::Judged;
-use super::line::{role_bytes, sound, Line, RoleFlags, LINE, SESSIONS};
+use super::line::{line_bytes, role_bytes, sound, Line, RoleFlags, SESSIONS};
 use super::policy::Policy;
 
 /// The bytes of an answer: 8 of roles, 32 of permissions.
@@ -71,18 +71,24 @@ impl Call {
 
 /// Plays a call on a ledger under a judged image.
 pub fn play(image: &Judged, ledger: &mut [u8], call: &Call) -> Reply {
+    play_with(SESSIONS, image, ledger, call)
+}
+
+/// The same where a user has so many sessions.
+pub fn play_with(sessions: usize, image: &Judged, ledger: &mut [u8], call: &Call) -> Reply {
     let policy = match image {
         Ok(policy) => policy,
         Err(refused) => return Reply::refused(refused.number, refused.extra as u64),
     };
-    if ledger.len() != LINE * policy.users {
+    let line_bytes = line_bytes(sessions);
+    if ledger.len() != line_bytes * policy.users {
         return Reply::refused(9, 0);
     }
     if call.user() >= policy.users as u64 {
         return Reply::refused(10, 0);
     }
     let user = call.user() as usize;
-    let bytes = &mut ledger[LINE * user..LINE * (user + 1)];
+    let bytes = &mut ledger[line_bytes * user..line_bytes * (user + 1)];
     if !sound(policy, user, bytes) {
         return Reply::refused(11, 0);
     }
@@ -121,7 +127,7 @@ fn rule(policy: &Policy, user: usize, line: &mut Line, call: &Call) -> Reply {
 
 /// The session of this number, if it exists and is open; else 12 or 13.
 fn open_session(line: &Line, session: u64) -> Result<usize, u64> {
-    if session >= SESSIONS as u64 {
+    if session >= line.sessions.len() as u64 {
         return Err(12);
     }
     if !line.sessions[session as usize].open {

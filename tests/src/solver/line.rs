@@ -2,11 +2,21 @@
 
 use super::policy::{Exclusion, Kind, Policy};
 
-/// The bytes of a line.
-pub const LINE: usize = 80;
-
 /// The sessions of a user.
-pub const SESSIONS: usize = 4;
+pub const SESSIONS: usize = 8;
+
+/// The bytes of a line.
+pub const LINE: usize = line_bytes(SESSIONS);
+
+/// The bytes of a line of so many sessions: open bits, the user's history, then a pair of sets for each session.
+pub const fn line_bytes(sessions: usize) -> usize {
+    16 + 16 * sessions
+}
+
+/// How many sessions a line of so many bytes has.
+pub const fn sessions_in(bytes: usize) -> usize {
+    (bytes - 16) / 16
+}
 
 /// For each role number whether the role is in the set.
 pub type RoleFlags = [bool; 64];
@@ -19,12 +29,12 @@ pub struct Session {
     pub history: RoleFlags,
 }
 
-/// A line as sets.
+/// A line as sets, of any number of sessions.
 #[derive(Clone, Debug, PartialEq, Eq)]
 pub struct Line {
     /// The roles active in any session of the user at any time (01: the person's past).
     pub history: RoleFlags,
-    pub sessions: [Session; SESSIONS],
+    pub sessions: Vec<Session>,
 }
 
 /// Eight bytes as a set: role r is bit r mod 8 of byte r div 8.
@@ -48,9 +58,9 @@ pub fn role_bytes(flags: &RoleFlags) -> [u8; 8] {
 }
 
 impl Line {
-    /// Reads the 80 bytes of a line, its first eight by their open bits alone.
+    /// Reads the bytes of a line, its first eight by their open bits alone; how many there are says how many sessions it has.
     pub fn read(bytes: &[u8]) -> Line {
-        let mut sessions = [Session { open: false, active: [false; 64], history: [false; 64] }; SESSIONS];
+        let mut sessions = vec![Session { open: false, active: [false; 64], history: [false; 64] }; sessions_in(bytes.len())];
         for (number, session) in sessions.iter_mut().enumerate() {
             let start = 16 + 16 * number;
             session.open = bytes[0] / 2u8.pow(number as u32) % 2 == 1;
@@ -60,7 +70,7 @@ impl Line {
         Line { history: read_roles(&bytes[8..16]), sessions }
     }
 
-    /// Writes the 80 bytes of a line.
+    /// Writes the bytes of a line.
     pub fn write(&self, bytes: &mut [u8]) {
         bytes[..8].fill(0);
         bytes[8..16].copy_from_slice(&role_bytes(&self.history));
@@ -118,9 +128,10 @@ fn within(inner: &RoleFlags, outer: impl Fn(usize) -> bool) -> bool {
     (0..64).all(|role| !inner[role] || outer(role))
 }
 
-/// The 80 bytes are a sound line of this user.
+/// The bytes are a sound line of this user, for as many sessions as they have room for.
 pub fn sound(policy: &Policy, user: usize, bytes: &[u8]) -> bool {
-    if bytes[0] >= 16 || bytes[1..8].iter().any(|byte| *byte != 0) {
+    let open_bits_beyond = (sessions_in(bytes.len()) as u32..8).any(|bit| bytes[0] / 2u8.pow(bit) % 2 == 1);
+    if open_bits_beyond || bytes[1..8].iter().any(|byte| *byte != 0) {
         return false;
     }
     let line = Line::read(bytes);
