@@ -4,7 +4,7 @@ use mathlib.Core.Path.{_≡_, refl, sym, ap, _∙_, subst}
 use mathlib.Core.Bool.{Bool, true, false, _&&_, not, true≢false}
 use mathlib.Core.List.{List, [], _∷_, _++_}
 use Prim.Native.Nat.{ℕ, zero, suc, _+_, _^_, _≤_, _<_, zero-le}
-use native.Mathlib.Nat.{zero-add, lt-of-lt-of-le}
+use native.Mathlib.Nat.{zero-add, lt-of-lt-of-le, le-trans}
 use native.Mathlib.Omega.{arith}
 use lib.Pow.{pow-pos, pow-lt, pow-mono}
 use lib.Bits.{or-lt}
@@ -22,7 +22,7 @@ use Rattle.model.specs.Tests.{between}
 use Rattle.model.specs.Sets.{has, with, count}
 use Rattle.model.specs.Image.{wordAt, behindHead, inRange, repeats, crowds, assigning, next, scan, headOf, headRight, lengthRight, emptyRows, start, judgeWords, field, isKind}
 use Rattle.model.specs.Policy.{entriesOf, granting, ordering, fold, joining, withMembers, exclusionsOf, policyOf}
-use Rattle.model.specs.Ranges.{Each, OneTo, ExclusionInRange, TableInRange, RowsBelow, InRange}
+use Rattle.model.specs.Ranges.{Each, OneTo, TwoTo, ExclusionInRange, TableInRange, RowsBelow, InRange}
 use Rattle.model.proofs.Bools.{and-l, and-r, not-both}
 use Rattle.model.proofs.SetLaws.{count-with, with-member}
 use Rattle.model.proofs.TableLaws.{set-keeps, getD-filled, count-empty, put-in-range, put-below, fold-keeps}
@@ -192,13 +192,15 @@ module _ (h : Head) (small : h .roles ≤ 64) where
     exclusion-in-range =
         let a = leb 1 m in
         let b = leb m (h .roles) in
-        let c = leb 1 (x .limit) in
+        let c = leb 2 (x .limit) in
         let d = leb (x .limit) m in
         let g = v .0 .range in
         let n = sym (due-members .0) in
+        let low = leb-true 2 (x .limit) (and-l c d (and-r (a && b) (c && d) g)) in
+        let high = leb-true (x .limit) m (and-r c d (and-r (a && b) (c && d) g)) in
         record {
-          size = subst (OneTo (h .roles)) n (leb-true 1 m (and-l a b (and-l (a && b) (c && d) g)), leb-true m (h .roles) (and-r a b (and-l (a && b) (c && d) g)));
-          limit = subst (λ (k : ℕ). OneTo k (x .limit)) n (leb-true 1 (x .limit) (and-l c d (and-r (a && b) (c && d) g)), leb-true (x .limit) m (and-r c d (and-r (a && b) (c && d) g)));
+          size = subst (TwoTo (h .roles)) n (le-trans low high, leb-true m (h .roles) (and-r a b (and-l (a && b) (c && d) g)));
+          limit = subst (λ (k : ℕ). TwoTo k (x .limit)) n (low, high);
           members = due-members .1;
         }
 

@@ -5,6 +5,7 @@ use mathlib.Core.Bool.{true}
 use mathlib.Core.List.{List, [], _∷_}
 use Prim.Native.Nat.{ℕ, _<_}
 use native.Mathlib.Nat.{lt-of-le-of-lt}
+use native.Mathlib.Omega.{arith}
 use lib.Bits.{and-zero-r}
 use borrow.Author.Tests.{ltb-true, lt-ltb}
 use Rattle.model.specs.declared.Kind.{Kind}
@@ -41,12 +42,12 @@ pub meaning-antitone : (p : Policy) (u : ℕ) → Antitone (meaning p u)
 unfolding meaning
 meaning-antitone p u f g h e = all-antitone f g h (p .exclusions) e
 
--- a limit is at least 1, so an exclusion is met where nothing is counted
+-- a limit is at least 2, so an exclusion is met where nothing is counted
 met-none : (roles : ℕ) (x : Exclusion) → ExclusionInRange roles x → met (λ k. 0) x ≡ true
 unfolding met
 met-none roles x r =
     lt-ltb (count 64 (inter (x .members) 0)) (x .limit)
-    (subst (λ (n : ℕ). n < x .limit) (sym (ap (count 64) (and-zero-r (x .members)) ∙ count-empty 64)) (r .limit .0))
+    (subst (λ (n : ℕ). n < x .limit) (sym (ap (count 64) (and-zero-r (x .members)) ∙ count-empty 64)) (let k = r .limit .0 in omega arith))
 
 -- so are all of them
 all-none : (roles : ℕ) (xs : List Exclusion) → Each (ExclusionInRange roles) xs → all (met (λ k. 0)) xs ≡ true

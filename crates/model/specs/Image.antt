@@ -77,12 +77,12 @@ wrongKind final due (Member r) = final || eqb due 0
 wrongKind final due End = not final || not (eqb due 0)
 wrongKind final due Unknown = true
 
--- 5 where not: each number below U, R or P; m from 1 to R; n from 1 to m
+-- 5 where not: each number below U, R or P; m from 1 to R; n from 2 to m
 unfoldable pub inRange : Head → Entry → Bool
 inRange h (Assignment u r) = ltb (u .0) (h .users) && ltb (r .0) (h .roles)
 inRange h (Grant r p) = ltb (r .0) (h .roles) && ltb (p .0) (h .permissions)
 inRange h (Senior a b) = ltb (a .0) (h .roles) && ltb (b .0) (h .roles)
-inRange h (Exclude x m) = between 1 m (h .roles) && between 1 (x .limit) m
+inRange h (Exclude x m) = between 1 m (h .roles) && between 2 (x .limit) m
 inRange h (Member r) = ltb (r .0) (h .roles)
 inRange h End = true
 inRange h Unknown = true

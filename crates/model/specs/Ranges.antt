@@ -19,10 +19,14 @@ Each P (x ∷ xs) = P x × Each P xs
 abbrev pub OneTo : ℕ → ℕ → Type 0
 OneTo b n = (1 ≤ n) × (n ≤ b)
 
--- the exclusion names roles alone, at least one, and its limit (01: n) is at least 1 and at most their number (01: m)
+-- n is one of the numbers from 2 to b
+abbrev pub TwoTo : ℕ → ℕ → Type 0
+TwoTo b n = (2 ≤ n) × (n ≤ b)
+
+-- the exclusion names roles alone, at least two, and its limit (01: n) is at least 2 and at most their number (01: m)
 pub record ExclusionInRange (roles : ℕ) (x : Exclusion) : Type 0 where
-  pub size : OneTo roles (count 64 (x .members))
-  pub limit : OneTo (count 64 (x .members)) (x .limit)
+  pub size : TwoTo roles (count 64 (x .members))
+  pub limit : TwoTo (count 64 (x .members)) (x .limit)
   pub members : x .members < 2 ^ roles
 
 -- a table of sets by number: a row that is not empty is one of the first m, and its members are below n

@@ -106,16 +106,19 @@ judgedImages =
     ∷ judged (edited 1 (0x40018000 ∷ [])) 4 1
     ∷ judged (edited 9 (0x54102800 ∷ [])) 4 9
     ∷ judged (edited 10 (0x60200000 ∷ [])) 4 10
-    -- 5, range: user, role, permission, senior, junior, m of 0 and above R, n of 0 and above m, member
+    -- 5, range: user, role, permission, senior, junior, m of 0, of 1 and above R, n of 0, of 1 and above m, member
     ∷ judged (edited 1 (0x20400000 ∷ [])) 5 1
     ∷ judged (edited 1 (0x20020000 ∷ [])) 5 1
     ∷ judged (edited 3 (0x30800000 ∷ [])) 5 3
     ∷ judged (edited 3 (0x30014000 ∷ [])) 5 3
     ∷ judged (edited 1 (0x40800000 ∷ [])) 5 1
     ∷ judged (edited 1 (0x40020000 ∷ [])) 5 1
-    ∷ judged (edited 9 (0x54080000 ∷ [])) 5 9
+    ∷ judged (edited 9 (0x54100000 ∷ [])) 5 9
+    ∷ judged (edited 9 (0x54081000 ∷ [])) 5 9
+    ∷ judged (edited 9 (0x54101000 ∷ [])) 5 9
     ∷ judged (edited 9 (0x54103000 ∷ [])) 5 9
     ∷ judged (edited 9 (0x54002000 ∷ [])) 5 9
+    ∷ judged (edited 9 (0x54082000 ∷ [])) 5 9
     ∷ judged (edited 9 (0x54182000 ∷ [])) 5 9
     ∷ judged (edited 10 (0x60800000 ∷ [])) 5 10
     -- 6, repeat: a member again, a senior over itself; not a repeat: an entry said twice
@@ -137,6 +140,8 @@ judgedImages =
     ∷ judged (edited 1 (0x20400001 ∷ [])) 4 1
     ∷ judged (edited 1 (0x40820000 ∷ [])) 5 1
     ∷ judged (edited 11 (0x60000001 ∷ [])) 4 11
+    ∷ judged (edited 9 (0x54082001 ∷ [])) 4 9
+    ∷ judged (imageBytes (ended (0x102080A0 ∷ (exclusionWords 32 ++ (0x54082000 ∷ []))))) 5 97
     ∷ judged (imageBytes (ended (0x102080A0 ∷ (exclusionWords 32 ++ (0x54182000 ∷ []))))) 5 97
     -- two bad words: the earlier, whatever the numbers; 8 last
     ∷ judged (edited 1 (0x40000000 ∷ 0x20000001 ∷ [])) 6 1

@@ -471,9 +471,9 @@ checkedCases =
     -- the last word is an assignment, a senior word or an exclusion; a grant and a senior word where a member is due
     ∷ checks (imageBytes (headWord 1 2 1 ∷ assignWord 0 0 ∷ [])) 259
     ∷ checks (imageBytes (headWord 1 2 1 ∷ seniorWord 0 1 ∷ [])) 259
-    ∷ checks (imageBytes (headWord 1 2 1 ∷ exclusionWord 0 1 1 ∷ [])) 259
-    ∷ checks (imageOf (headWord 1 2 1 ∷ exclusionWord 0 1 1 ∷ grantWord 0 0 ∷ [])) 515
-    ∷ checks (imageOf (headWord 1 2 1 ∷ exclusionWord 0 1 1 ∷ seniorWord 0 1 ∷ [])) 515
+    ∷ checks (imageBytes (headWord 1 2 1 ∷ exclusionWord 0 2 2 ∷ [])) 259
+    ∷ checks (imageOf (headWord 1 2 1 ∷ exclusionWord 0 2 2 ∷ grantWord 0 0 ∷ [])) 515
+    ∷ checks (imageOf (headWord 1 2 1 ∷ exclusionWord 0 2 2 ∷ seniorWord 0 1 ∷ [])) 515
     -- an exclusion of 64 roles with n of 65; numbers at the highest U, R and P
     ∷ checks (imageOf (headWord 1 64 1 ∷ exclusionWord 0 65 64 ∷ memberWords 64)) 261
     ∷ checks (imageOf (headWord 63 63 255 ∷ assignWord 62 62 ∷ grantWord 62 254 ∷ seniorWord 62 61 ∷ assignWord 63 0 ∷ [])) 1029
@@ -482,7 +482,7 @@ checkedCases =
     ∷ checks (imageOf (headWord 63 63 255 ∷ grantWord 0 255 ∷ [])) 261
     ∷ checks (imageOf (headWord 63 63 255 ∷ seniorWord 63 0 ∷ [])) 261
     ∷ checks (imageOf (headWord 63 63 255 ∷ seniorWord 0 63 ∷ [])) 261
-    ∷ checks (imageOf (headWord 63 63 255 ∷ exclusionWord 0 1 1 ∷ memberWord 63 ∷ [])) 517
+    ∷ checks (imageOf (headWord 63 63 255 ∷ exclusionWord 0 2 2 ∷ memberWord 63 ∷ memberWord 0 ∷ [])) 517
     -- another user's 16 roles are none of this one's
     ∷ checks (imageOf (headWord 2 17 1 ∷ (assignments 16 ++ (assignWord 1 16 ∷ [])))) 0
     ∷ []

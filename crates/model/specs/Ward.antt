@@ -35,7 +35,7 @@ imageA =
 unfoldable pub imageWith : ℕ → List ℕ
 imageWith x = ended (take 9 imageA ++ (x ∷ 0x60000000 ∷ 0x60400000 ∷ []))
 
--- image A with kind k, and with n of 1
+-- image A with kind k, and with n of 1, which is refused
 unfoldable pub imageOfKind : ℕ → List ℕ
 imageOfKind k = imageWith (0x50102000 + k * 2 ^ 26)
 
@@ -166,8 +166,7 @@ starred =
     ∷ case (imageOfKind 2) (twoAsks ++ (opens ∷ asks 1 0x12 0x1f 0 0 ∷ [])) (opened 0 ∷ chose 1 0xf ∷ refused 20 ∷ opened 1 ∷ chose 2 0x12 ∷ [])
     ∷ case imageA (opens ∷ asks 0 0x3 0x3 0 0 ∷ []) (opened 0 ∷ refused 20 ∷ [])
     ∷ case imageA (opens ∷ asks 0 0 0 1 0 ∷ []) (opened 0 ∷ chose 0 0 ∷ [])
-    ∷ case imageOfOne (opens ∷ asks 0 0x3 0x1f 0 0 ∷ []) (opened 0 ∷ refused 20 ∷ [])
-    ∷ case imageOfOne (opens ∷ asks 0 0 0 0 0 ∷ []) (opened 0 ∷ chose 0 0 ∷ [])
+    ∷ case imageOfOne (opens ∷ asks 0 0x3 0x1f 0 0 ∷ asks 0 0 0 0 0 ∷ []) (replicate 3 (5 ∷ 9 ∷ 0 ∷ 0 ∷ []))
     ∷ case imageA (replicate 9 opens)
     (opened 0 ∷ opened 1 ∷ opened 2 ∷ opened 3 ∷ opened 4 ∷ opened 5 ∷ opened 6 ∷ opened 7 ∷ refused 14 ∷ [])
     ∷ case threeRoles (opens ∷ asks 0 0x1 0xf 2 0 ∷ []) (opened 0 ∷ chose 3 0xf ∷ [])
