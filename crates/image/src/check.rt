@@ -95,7 +95,7 @@ pub fn exclusion_fault(h: Head, t: Scan, x: Exclusion, m: u8) -> u8
     if h.roles < m {
         return 5;
     }
-    if x.limit < 1 {
+    if x.limit < 2 {
         return 5;
     }
     if m < x.limit {
