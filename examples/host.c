@@ -178,11 +178,14 @@ static void moving(void)
 /* Refusals that a host meets when it loads a policy. */
 static void loading(void)
 {
-    uint8_t damaged[sizeof image];
+    uint8_t damaged[sizeof image], barring[sizeof image];
     memcpy(damaged, image, sizeof image);
-    damaged[4 * 9 + 2] ^= 0x18; /* n becomes 1, and the balance is off */
+    memcpy(barring, image, sizeof image);
+    damaged[4 * 9 + 3] ^= 0x04; /* an exclusion over one window, and the balance is off */
+    barring[4 * 9 + 2] ^= 0x18; /* n becomes 1, which would bar both roles from everyone */
     answered("check the policy", nutrameza_check(image, sizeof image), NUTRAMEZA_DONE, 0);
     answered("check a policy with its exclusion changed", nutrameza_check(damaged, sizeof damaged), NUTRAMEZA_BALANCE, 12);
+    answered("check a policy with an exclusion of one", nutrameza_check(barring, sizeof barring), NUTRAMEZA_RANGE, 9);
     answered("check no policy at all", nutrameza_check(NULL, 0), NUTRAMEZA_LENGTH, 0);
 }
 

@@ -49,7 +49,7 @@ enum nutrameza_number {
     NUTRAMEZA_HEAD = 2,        /* image: first word not a head, a number outside its range, spare bits */
     NUTRAMEZA_KIND = 3,        /* image: a word of a kind that may not stand there */
     NUTRAMEZA_SPARE = 4,       /* image: spare bits set */
-    NUTRAMEZA_RANGE = 5,       /* image: a number not below U, R or P; an exclusion's m or n out of range */
+    NUTRAMEZA_RANGE = 5,       /* image: a number not below U, R or P; an exclusion's m above R, n below 2 or above m */
     NUTRAMEZA_REPEAT = 6,      /* image: a member already in this exclusion; senior equal to junior */
     NUTRAMEZA_CROWD = 7,       /* image: a 17th different role for a user; a 33rd exclusion */
     NUTRAMEZA_BALANCE = 8,     /* image: low 28 bits of the sum not zero */
@@ -176,7 +176,8 @@ static inline uint32_t nutrameza_senior_word(uint32_t senior, uint32_t junior)
     return UINT32_C(4) << 28 | senior << 22 | junior << 16;
 }
 
-/* Fewer than n of m members may be counted; the kind says over what. The m member words follow at once. */
+/* Fewer than n of m members may be counted; the kind says over what. The m member words follow at once. The check
+ * refuses an n of 1, which would bar each member from everyone: 2 lets no two of them be counted together. */
 static inline uint32_t nutrameza_exclusion_word(uint32_t kind, uint32_t n, uint32_t m)
 {
     if (kind > 3 || n > 127 || m > 127)

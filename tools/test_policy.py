@@ -5,6 +5,7 @@ import contextlib
 import importlib.machinery
 import importlib.util
 import io
+import itertools
 import os
 import random
 import subprocess
@@ -85,9 +86,9 @@ def random_policy(dice):
             entries.append((kind, role, permission))
         elif kind == policy.SENIOR and rank[role] < rank[other]:
             entries.append((kind, role, other))
-        elif kind == policy.EXCLUSION and exclusions < 32:
-            members = dice.sample(range(counts[1]), dice.randrange(1, counts[1] + 1))
-            entries.append((kind, dice.randrange(4), dice.randrange(1, len(members) + 1), members))
+        elif kind == policy.EXCLUSION and exclusions < 32 and counts[1] > 1:
+            members = dice.sample(range(counts[1]), dice.randrange(2, counts[1] + 1))
+            entries.append((kind, dice.randrange(4), dice.randrange(2, len(members) + 1), members))
             exclusions += 1
     return policy.Policy(counts, entries)
 
@@ -111,7 +112,7 @@ class Building(unittest.TestCase):
 
     def test_the_four_kinds_have_the_numbers_0_to_3(self):
         for number, kind in enumerate(["ss-dmer", "ms-dmer", "ss-hmer", "ms-hmer"]):
-            self.assertEqual(words_of(START + f"exclude {kind} 1 Clerk")[0] >> 26 & 3, number)
+            self.assertEqual(words_of(START + f"exclude {kind} 2 Clerk Nurse")[0] >> 26 & 3, number)
 
     def test_a_repeated_line_is_written_again(self):
         self.assertEqual(len(words_of(START + "assign ANNA Doctor\nassign ANNA Doctor")), 2)
@@ -152,7 +153,7 @@ class Errors(unittest.TestCase):
         self.refuses("assign ANNA Surgeon", "unknown role Surgeon")
         self.refuses("grant Doctor Wirte", "unknown permission Wirte", "did you mean Write?")
         self.refuses("senior Doctor Read", "unknown role Read", "a permission of that name")
-        self.refuses("exclude ss-dmer 1 Read", "unknown role Read")
+        self.refuses("exclude ss-dmer 2 Doctor Read", "unknown role Read")
 
     def test_refuses_an_unknown_first_word(self):
         self.refuses("asign ANNA Doctor", "unknown word asign", "did you mean assign?")
@@ -164,7 +165,7 @@ class Errors(unittest.TestCase):
         self.refuses("role Por\0ter", "can't be printed")
 
     def test_refuses_lines_with_a_word_missing(self):
-        for line in ["user", "role", "permission", "assign ANNA", "grant", "senior Doctor", "exclude ss-dmer 1", "exclude"]:
+        for line in ["user", "role", "permission", "assign ANNA", "grant", "senior Doctor", "exclude ss-dmer 2", "exclude"]:
             self.refuses(line, line.split()[0])
 
     def test_refuses_a_role_senior_over_itself(self):
@@ -183,14 +184,27 @@ class Errors(unittest.TestCase):
         self.assertIn("t:6: loop: Doctor over Nurse over Doctor", found)
 
     def test_refuses_a_member_twice(self):
-        self.refuses("exclude ss-dmer 1 Doctor Nurse Doctor", "Doctor is a member twice")
+        self.refuses("exclude ss-dmer 2 Doctor Nurse Doctor", "Doctor is a member twice")
 
     def test_refuses_n_out_of_range(self):
-        for n in ["0", "3", "-1", "two", "1.0", "00000000000000000011", "²", "9" * 5000]:
-            self.refuses(f"exclude ss-dmer {n} Doctor Nurse", "from 1 to 2")
+        for n in ["0", "3", "000", "999"]:
+            self.refuses(f"exclude ss-dmer {n} Doctor Nurse", "it is 2 to 2, the number of members")
+        for n in ["-1", "two", "1.0", "00000000000000000011", "²", "9" * 5000]:
+            self.refuses(f"exclude ss-dmer {n} Doctor Nurse", "a number from 2 to the number of members")
+
+    def test_refuses_n_of_1_at_its_line_and_hints_at_2(self):
+        for n in ["1", "01", "001"]:
+            self.refuses(f"exclude ms-hmer {n} Doctor Nurse", "n is 1, which bars its roles from everyone", "(did you mean 2?)")
+        self.refuses("exclude ms-hmer 1 Doctor", "n is 1, which bars its roles from everyone", "did you mean 2, of more roles?")
+        self.is_told("exclude ss-dmer 2 Doctor Nurse\nexclude ss-dmer 1 Nurse Clerk\nexclude ss-dmer 2 Nurse Clerk",
+                     "t:5: n is 1, which bars its roles from everyone (did you mean 2?)")
+
+    def test_refuses_an_exclusion_of_one_role(self):
+        for n in ["0", "2", "3"]:
+            self.refuses(f"exclude ss-dmer {n} Doctor", "1 member; an exclusion has at least 2")
 
     def test_refuses_an_unknown_kind_of_exclusion(self):
-        self.refuses("exclude dmer 1 Doctor", "unknown kind dmer", "ss-hmer")
+        self.refuses("exclude dmer 2 Doctor Nurse", "unknown kind dmer", "ss-hmer")
 
     def test_refuses_a_17th_role_of_a_user(self):
         roles = [f"R{k}" for k in range(17)]
@@ -199,9 +213,9 @@ class Errors(unittest.TestCase):
         self.assertIn("t:7: role R16 is one too many for A", errors_of(text + "assign A R16"))
 
     def test_refuses_a_33rd_exclusion(self):
-        text = START + "exclude ss-dmer 1 Doctor\n" * 32
+        text = START + "exclude ss-dmer 2 Doctor Nurse\n" * 32
         self.assertEqual(errors_of(text), "")
-        self.assertIn("t:36: one exclusion too many", errors_of(text + "exclude ss-dmer 1 Doctor"))
+        self.assertIn("t:36: one exclusion too many", errors_of(text + "exclude ss-dmer 2 Doctor Nurse"))
 
     def test_refuses_one_name_too_many_of_each_sort(self):
         for sort, most in policy.SORTS.items():
@@ -220,6 +234,7 @@ class Errors(unittest.TestCase):
 
 class Checking(unittest.TestCase):
     HEAD = 0x1040C080  # two users, three roles, four permissions
+    EXCLUSION = [0x50102000, 0x60000000, 0x60400000]  # fewer than 2 of the roles 0 and 1
 
     def refuses(self, expected, *words):
         self.assertEqual(refusal_of(image(self.HEAD, *words)), expected)
@@ -248,45 +263,55 @@ class Checking(unittest.TestCase):
 
     def test_refuses_members_out_of_place_by_3(self):
         self.refuses((3, 1), 0x60000000)
-        self.refuses((3, 2), 0x50081000, 0x20000000)
-        self.refuses((3, 3), 0x50081000, 0x60000000, 0x60400000)
-        self.refuses((3, 2), 0x50081000)
+        self.refuses((3, 2), self.EXCLUSION[0], 0x20000000)
+        self.refuses((3, 4), *self.EXCLUSION, 0x60800000)
+        self.refuses((3, 2), self.EXCLUSION[0])
 
     def test_refuses_an_early_end_and_a_missing_end_by_3(self):
         self.refuses((3, 1), 0xF0000000)
         self.assertEqual(refusal_of(policy.to_bytes([self.HEAD, 0x20000000])), (3, 1))
 
     def test_refuses_spare_bits_by_4(self):
-        for word, spare in [(0x20000000, 16), (0x30000000, 14), (0x40010000, 16), (0x50081000, 12)]:
+        for word, spare in [(0x20000000, 16), (0x30000000, 14), (0x40010000, 16), (0x50102000, 12)]:
             for bit in range(spare):
                 self.refuses((4, 1), word | 1 << bit)
         for bit in range(22):
-            self.refuses((4, 2), 0x50081000, 0x60000000 | 1 << bit)
+            self.refuses((4, 2), self.EXCLUSION[0], 0x60000000 | 1 << bit)
 
     def test_refuses_numbers_out_of_range_by_5(self):
         for word in [0x20800000, 0x20030000, 0x30C00000, 0x30010000, 0x40C00000, 0x40030000]:
             self.refuses((5, 1), word)
-        self.refuses((5, 2), 0x50081000, 0x60C00000)
+        self.refuses((5, 2), self.EXCLUSION[0], 0x60C00000)
 
     def test_refuses_n_and_m_out_of_range_by_5(self):
-        for n, m in [(0, 1), (2, 1), (0, 0), (1, 0), (1, 4), (4, 4), (127, 127)]:
+        for n, m in [(0, 0), (1, 0), (2, 0), (2, 4), (4, 4), (127, 127)]:
             self.refuses((5, 1), policy.encode(5, 0, n, m))
+
+    def test_refuses_n_of_1_as_n_of_0_by_5_after_spare_bits_and_before_a_33rd_exclusion(self):
+        for n, m, spare, before in itertools.product(range(5), range(1, 4), (0, 1, 1 << 11), (0, 31, 32)):
+            exclusion = [policy.encode(5, 3, n, m) | spare, *(policy.encode(6, role) for role in range(m))]
+            number = 4 if spare else 5 if n < 2 or n > m else 7 if before == 32 else None
+            told = number and (number, 1 + 3 * before)
+            self.assertEqual(refusal_of(image(self.HEAD, *self.EXCLUSION * before, *exclusion)), told, (n, m, spare, before))
+
+    def test_an_image_of_one_role_has_no_exclusion(self):
+        for n, m in itertools.product(range(3), range(3)):
+            self.assertEqual(refusal_of(image(policy.encode(1, 1, 1, 1), policy.encode(5, 0, n, m), 0x60000000)), (5, 1))
 
     def test_refuses_repeats_by_6(self):
         self.refuses((6, 1), 0x40410000)
-        self.refuses((6, 3), 0x50082000, 0x60400000, 0x60400000)
+        self.refuses((6, 3), self.EXCLUSION[0], 0x60400000, 0x60400000)
 
     def test_a_member_of_an_earlier_exclusion_is_no_repeat(self):
-        self.assertIsNone(refusal_of(image(self.HEAD, 0x50081000, 0x60400000, 0x50081000, 0x60400000)))
+        self.assertIsNone(refusal_of(image(self.HEAD, *self.EXCLUSION, *self.EXCLUSION)))
 
     def test_refuses_a_17th_role_and_a_33rd_exclusion_by_7(self):
         head = policy.encode(1, 2, 20, 1)
         roles = [policy.encode(2, 1, role) for role in range(17)]
         self.assertIsNone(refusal_of(image(head, *roles[:16], roles[3])))
         self.assertEqual(refusal_of(image(head, *roles)), (7, 17))
-        exclusions = [0x50081000, 0x60000000] * 33
-        self.assertIsNone(refusal_of(image(head, *exclusions[:64])))
-        self.assertEqual(refusal_of(image(head, *exclusions)), (7, 65))
+        self.assertIsNone(refusal_of(image(head, *self.EXCLUSION * 32)))
+        self.assertEqual(refusal_of(image(head, *self.EXCLUSION * 33)), (7, 97))
 
     def test_refuses_a_sum_out_of_balance_by_8_at_the_last_word(self):
         for bit in range(28):
@@ -348,7 +373,7 @@ class Checking(unittest.TestCase):
     def test_the_earliest_bad_word_decides_then_the_lower_number(self):
         self.refuses((5, 1), 0x20030000, 0x70000000)
         self.refuses((4, 1), 0x20030001)
-        self.refuses((3, 2), 0x50081000, 0x20030001)
+        self.refuses((3, 2), self.EXCLUSION[0], 0x20030001)
         self.assertEqual(refusal_of(policy.to_bytes([self.HEAD, 0x70000000, 0xF0000001])), (3, 1))
 
 
@@ -426,6 +451,9 @@ class Commands(unittest.TestCase):
         self.assertEqual(self.run_tool("check", good)[:2], (0, "0 accepted: 1 user, 2 roles, 5 permissions, 13 words\n"))
         status, out, _ = self.run_tool("check", bad)
         self.assertEqual((status, out), (1, "5 range at place 3: role 2 is not below 2 (30800000)\n"))
+        barring = self.path("barring", image(*A[:9], 0x54082000, *A[10:12]))
+        told = "5 range at place 9: n is 1, which bars its roles from everyone (did you mean 2?) (54082000)\n"
+        self.assertEqual(self.run_tool("check", barring), (1, told, ""))
 
     def test_check_names_a_loop_by_numbers_and_by_the_names_of_a_text(self):
         bad = self.path("bad", looped((5, 7), (7, 9), (9, 5)))

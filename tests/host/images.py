@@ -87,7 +87,7 @@ def crowded(dice):
     """An image with about as many roles of a user and exclusions as may be."""
     words = [policy.encode(1, 2, 20, 3)]
     for _ in range(dice.choice([32, 33])):
-        words += [policy.encode(5, dice.randrange(4), 1, 1), policy.encode(6, dice.randrange(20))]
+        words += [policy.encode(5, dice.randrange(4), 2, 2), *(policy.encode(6, role) for role in dice.sample(range(20), 2))]
     words += [policy.encode(2, 1, role) for role in dice.sample(range(20), dice.choice([16, 17]))]
     return policy.to_bytes([*words, policy.end_word(words)])
 

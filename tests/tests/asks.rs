@@ -185,8 +185,8 @@ fn see_search(tally: &mut Tally, policy: &Policy, call: &Call, played: &Played) 
     if own.iter().any(|role| policy.carried_by(*role).into_iter().any(|permission| !upper[permission])) {
         tally.see("roles cut");
     }
-    if policy.exclusions.iter().any(|exclusion| exclusion.limit == 1 && !exclusion.members.is_disjoint(own)) {
-        tally.see("limits of 1");
+    if policy.exclusions.iter().any(|exclusion| exclusion.limit == 2 && exclusion.members.intersection(own).count() > 1) {
+        tally.see("limits of 2");
     }
     if let Some(answer) = played.reply.answer {
         tally.see(if answer[..8].iter().map(|byte| byte.count_ones()).sum::<u32>() > 1 { "several roles" } else { "few roles" });
@@ -235,7 +235,7 @@ fn answers_a_hundred_thousand_asks_as_the_solver_does() {
     });
     tally.expect(100_000, &["asks"]);
     tally.expect(5_000, &["0", "20", "ties", "empty lower bounds", "roles cut", "several roles"]);
-    tally.expect(1_000, &["empty upper bounds", "limits of 1"]);
+    tally.expect(1_000, &["empty upper bounds", "limits of 2"]);
     tally.expect(2_500, &["explains done", "explains refused"]);
     tally.expect(150, &NUMBERS);
     for first in 0..3 {

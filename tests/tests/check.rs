@@ -86,7 +86,7 @@ fn refuses_a_missing_member_and_a_missing_end() {
     list.remove(10);
     assert_eq!(answer(list), (3, 11));
     assert_eq!(answer(ward::A[..12].to_vec()), (3, 11));
-    assert_eq!(answer(a_with(&[words::exclusion_head(0, 1, 1)])), (3, 13));
+    assert_eq!(answer(a_with(&[words::exclusion_head(0, 2, 2)])), (3, 13));
 }
 
 #[test]
@@ -110,15 +110,55 @@ fn refuses_numbers_at_or_above_the_heads() {
         words::grant(0, 5),
         words::senior(0, 2),
         words::senior(2, 0),
-        words::exclusion_head(0, 1, 0),
-        words::exclusion_head(0, 1, 3),
-        words::exclusion_head(0, 0, 1),
+        words::exclusion_head(0, 2, 0),
+        words::exclusion_head(0, 2, 3),
+        words::exclusion_head(0, 0, 2),
         words::exclusion_head(0, 2, 1),
     ];
     for word in wrong {
         assert_eq!(answer(a_with(&[word])), (5, 12), "{word:08X}");
     }
-    assert_eq!(answer(a_with(&words::exclusion(0, 1, &[2]))), (5, 13));
+    assert_eq!(answer(a_with(&words::exclusion(0, 2, &[2, 0]))), (5, 13));
+}
+
+/// The check's answer where an exclusion of these numbers, with these spare bits, stands behind `before` others in a policy of three
+/// roles; the place is counted from the exclusion's word, which is 0.
+fn exclusion_behind(before: usize, spare: u32, limit: u32, size: u32) -> (u64, u64) {
+    let mut list = vec![words::head(1, 3, 1)];
+    list.extend(words::exclusion(3, 2, &[0, 1]).repeat(before));
+    let word = list.len();
+    list.extend(words::exclusion((limit + size) % 4, limit, &(0..size).collect::<Vec<u32>>()));
+    list[word] |= spare;
+    let (number, place) = answer(words::closed(list));
+    (number, if number == 0 { 0 } else { place - word as u64 })
+}
+
+#[test]
+fn refuses_a_limit_of_one_as_one_of_none_after_spare_bits_and_before_a_thirty_third_exclusion() {
+    for (size, limit) in (0..5).flat_map(|size| (0..5).map(move |limit| (size, limit))) {
+        let passes = [(2, 2), (3, 2), (3, 3)].contains(&(size, limit));
+        for before in [0, 31, 32] {
+            let number = if !passes {
+                5
+            } else if before == 32 {
+                7
+            } else {
+                0
+            };
+            assert_eq!(exclusion_behind(before, 0, limit, size), (number, 0), "n {limit}, m {size}, {before} before");
+            for spare in [1, 1 << 11] {
+                assert_eq!(exclusion_behind(before, spare, limit, size), (4, 0), "n {limit}, m {size}, spare {spare}");
+            }
+        }
+    }
+}
+
+#[test]
+fn an_image_of_one_role_has_no_exclusion() {
+    for (limit, size) in [(0, 0), (0, 1), (1, 0), (1, 1), (2, 1), (1, 2), (2, 2)] {
+        let list = vec![words::head(1, 1, 1), words::exclusion_head(0, limit, size), words::member(0)];
+        assert_eq!(answer(words::closed(list)), (5, 1), "n {limit}, m {size}");
+    }
 }
 
 #[test]
@@ -129,7 +169,7 @@ fn accepts_a_limit_of_all_members_and_refuses_one_above() {
 
 #[test]
 fn refuses_a_repeated_member_and_a_role_over_itself() {
-    assert_eq!(answer(a_with(&words::exclusion(2, 1, &[1, 1]))), (6, 14));
+    assert_eq!(answer(a_with(&words::exclusion(2, 2, &[1, 1]))), (6, 14));
     assert_eq!(answer(a_with(&[words::senior(1, 1)])), (6, 12));
 }
 
@@ -141,7 +181,7 @@ fn accepts_a_repeated_senior_word_and_refuses_its_reverse() {
 
 #[test]
 fn the_same_member_may_stand_in_two_exclusions() {
-    let twice = [words::exclusion(0, 1, &[1]), words::exclusion(0, 1, &[1])].concat();
+    let twice = [words::exclusion(0, 2, &[1, 0]), words::exclusion(0, 2, &[1, 0])].concat();
     assert_eq!(answer(a_with(&twice)), (0, 0));
 }
 
@@ -160,9 +200,9 @@ fn repeated_assignments_do_not_crowd() {
 
 #[test]
 fn accepts_thirty_two_exclusions_and_refuses_a_thirty_third() {
-    let many = |count| large_with((0..count).flat_map(|_| words::exclusion(3, 1, &[63])));
+    let many = |count| large_with((0..count).flat_map(|_| words::exclusion(3, 2, &[63, 0])));
     assert_eq!(answer(many(32)), (0, 0));
-    assert_eq!(answer(many(33)), (7, 65));
+    assert_eq!(answer(many(33)), (7, 97));
 }
 
 #[test]

@@ -37,6 +37,12 @@ fn accepts_a_limit_of_all_members_and_refuses_one_above() {
 }
 
 #[test]
+fn refuses_a_limit_of_one_at_the_exclusions_word() {
+    assert_eq!(judge(&ward::image_a_with(1, 1)).err(), Some(Refused { number: 5, extra: 9 }));
+    assert_eq!(judge(&ward::image_a_with(1, 0)).err(), Some(Refused { number: 5, extra: 9 }));
+}
+
+#[test]
 fn refuses_in_image_order_then_by_the_lower_number() {
     let mut image = ward::image_a();
     image[4 * 3] = 1;

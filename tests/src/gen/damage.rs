@@ -98,8 +98,8 @@ fn kind(rng: &mut Rng, draft: Draft) -> Vec<u32> {
         }
         _ => {
             let last = words.len() - 1;
-            let size = rng.from_to(1, draft.roles.into()) as u32;
-            words.insert(last, words::exclusion_head(rng.below(4) as u32, 1, size));
+            let size = rng.from_to(draft.roles.min(2).into(), draft.roles.into()) as u32;
+            words.insert(last, words::exclusion_head(rng.below(4) as u32, 2, size));
             for role in 0..rng.below(size.into()) as u32 {
                 words.insert(words.len() - 1, words::member(role));
             }
@@ -141,8 +141,11 @@ fn range(rng: &mut Rng, draft: Draft) -> Vec<u32> {
         4 => vec![words::senior(role, 0)],
         5 => vec![words::senior(0, role)],
         6 => vec![words::exclusion_head(rng.below(4) as u32, rng.below(128) as u32, rng.pick(&[0, roles + 1, 127]))],
-        7 => vec![words::exclusion_head(rng.below(4) as u32, rng.pick(&[0, size + 1, 127]), size)],
-        _ => words::exclusion(rng.below(4) as u32, 1, &[role]),
+        7 => {
+            let members: Vec<u32> = (0..size).collect();
+            words::exclusion(rng.below(4) as u32, rng.pick(&[0, 1, 1, size + 1, 127]), &members)
+        }
+        _ => words::exclusion(rng.below(4) as u32, 2, &rng.pick(&[[0, role], [role, 0]])),
     };
     put(rng, draft, entry)
 }
@@ -157,7 +160,7 @@ fn repeat(rng: &mut Rng, draft: Draft) -> Vec<u32> {
     }
     let at = rng.place(members.len() + 1);
     members.insert(at, role);
-    let entry = words::exclusion(rng.below(4) as u32, 1, &members);
+    let entry = words::exclusion(rng.below(4) as u32, 2, &members);
     put(rng, draft, entry)
 }
 
@@ -170,8 +173,8 @@ fn crowd(rng: &mut Rng, mut draft: Draft) -> Vec<u32> {
         draft.assign(rng, user, count);
     } else {
         for _ in 0..rng.from_to(28, 34) {
-            let role = draft.some_roles(rng, 1);
-            draft.entries.push(words::exclusion(rng.below(4) as u32, 1, &role));
+            let roles = draft.some_roles(rng, 2);
+            draft.entries.push(words::exclusion(rng.below(4) as u32, 2, &roles));
         }
     }
     rng.shuffle(&mut draft.entries);

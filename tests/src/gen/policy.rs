@@ -134,17 +134,15 @@ impl Draft {
         }
     }
 
-    /// An exclusion of any kind: mostly of few members and a limit of 2, at times of all roles, at times with a limit of 1.
+    /// An exclusion of any kind, where there are two roles: mostly of few members and a limit of 2, at times of all roles.
     pub fn exclude(&mut self, rng: &mut Rng) {
+        if self.roles < 2 {
+            return;
+        }
         let most = if rng.one_in(6) { self.roles } else { self.roles.min(5) };
-        let least = if rng.one_in(16) { 1 } else { most.min(2) };
-        let size = rng.from_to(least.into(), most.into()) as usize;
-        let members = self.some_roles(rng, size);
-        let limit = match rng.below(24) {
-            0 => 1,
-            1..=12 => members.len().min(2),
-            _ => rng.from_to(members.len().min(2) as u64, members.len() as u64) as usize,
-        };
+        let size = rng.from_to(2, most.into());
+        let members = self.some_roles(rng, size as usize);
+        let limit = if rng.one_in(2) { 2 } else { rng.from_to(2, size) };
         self.entries.push(words::exclusion(rng.below(4) as u32, limit as u32, &members));
     }
 

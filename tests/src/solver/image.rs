@@ -133,7 +133,7 @@ impl Reading {
             4 => first >= policy.roles || second >= policy.roles,
             5 => {
                 let (limit, size) = (field(word, 19, 7), field(word, 12, 7));
-                size == 0 || size > policy.roles || limit == 0 || limit > size
+                size == 0 || size > policy.roles || limit == 0 || limit == 1 || limit > size
             }
             6 => first >= policy.roles,
             _ => false,
