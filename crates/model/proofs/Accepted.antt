@@ -251,14 +251,14 @@ known s = go (lengthRight (length s)) (headRight (wordAt s 0)) refl
         known-by s rest e (scan-judged s (headOf (wordAt s 0)) (behindHead s) 1 emptyRows start (wordAt s 0) (λ _. refl))
 
 -- the tests of a right head
-head-tests : (k a b c d : Bool) → (k && a && b && c && d) ≡ true → (a ≡ true) × (b ≡ true) × (c ≡ true)
+pub head-tests : (k a b c d : Bool) → (k && a && b && c && d) ≡ true → (a ≡ true) × (b ≡ true) × (c ≡ true)
 head-tests k a b c d e =
     let f = and-l (k && a && b && c) d e in
     let g = and-l (k && a && b) c f in
     (and-r k a (and-l (k && a) b g), and-r (k && a) b g, and-r (k && a && b) c f)
 
 -- a test of a range, as the range
-one-to : (n b : ℕ) → between 1 n b ≡ true → OneTo b n
+pub one-to : (n b : ℕ) → between 1 n b ≡ true → OneTo b n
 one-to n b e = (leb-true 1 n (and-l (leb 1 n) (leb n b) e), leb-true n b (and-r (leb 1 n) (leb n b) e))
 
 module _ (s : List ℕ) (h : Head) (accepted : judgeWords s ≡ Accepted h) where

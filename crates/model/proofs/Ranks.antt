@@ -124,7 +124,7 @@ one-most true = omega arith
 one-most false = omega arith
 
 -- at most d numbers below d pass a test
-count-most : (f : ℕ → Bool) (d : ℕ) → countTo f d ≤ d
+pub count-most : (f : ℕ → Bool) (d : ℕ) → countTo f d ≤ d
 unfolding countTo
 count-most f zero = omega arith
 count-most f (suc d) = omega (arith, one-most (f d), count-most f d)

@@ -55,7 +55,7 @@ Valid h rows t (e ∷ es) = Fine h rows t e × Valid h (assigning rows e) (next 
 -- ---- from the faults to what holds without them
 
 -- a fault that is not 0 does not hold where the first fault is 0
-no-fault : (c : Bool) (n x : ℕ) → eqb (pick c (suc n) x) 0 ≡ true → (c ≡ false) × (eqb x 0 ≡ true)
+pub no-fault : (c : Bool) (n x : ℕ) → eqb (pick c (suc n) x) 0 ≡ true → (c ≡ false) × (eqb x 0 ≡ true)
 unfolding pick
 no-fault true n x e = absurd (true≢false (sym e ∙ eqb·suc-zero n))
 no-fault false n x e = (refl, e)
@@ -70,7 +70,7 @@ none-due : (final : Bool) (due : ℕ) → (final || not (eqb due 0)) ≡ false �
 none-due final due e = eqb-true due 0 (not-false (eqb due 0) (or-false-r final (not (eqb due 0)) e))
 
 -- a word of the right kind comes in its turn
-turn-of : (final : Bool) (due : ℕ) (e : Entry) → wrongKind final due e ≡ false → Turn due e
+pub turn-of : (final : Bool) (due : ℕ) (e : Entry) → wrongKind final due e ≡ false → Turn due e
 unfolding wrongKind
 turn-of final due (Assignment u r) k = none-due final due k
 turn-of final due (Grant r p) k = none-due final due k

@@ -172,7 +172,7 @@ count-cong f g zero h = refl
 count-cong f g (suc d) h =
     ap₂ (λ (x : Bool) (y : ℕ). one x + y) (h d (le-refl (suc d))) (count-cong f g d (λ k l. h k (lt-of-lt-of-le l (le-suc d))))
 
-one-le : (x y : Bool) → (x ≡ true → y ≡ true) → one x ≤ one y
+pub one-le : (x y : Bool) → (x ≡ true → y ≡ true) → one x ≤ one y
 one-le false y h = zero-le
 one-le true true h = le-refl 1
 one-le true false h = absurd (false≢true (h refl))

@@ -213,7 +213,7 @@ module _ (u r : ℕ) where
   ordering-one rows Unknown h = kept refl
 
 -- ---- empty rows: there are 64, and no bit is set
-empty-length : length emptyRows ≡ 64
+pub empty-length : length emptyRows ≡ 64
 unfolding emptyRows
 empty-length = length-replicate {A = ℕ} 64 0
 

@@ -9,7 +9,8 @@ use Rattle.model.specs.Policy.{policyOf, onlyFor}
 use Rattle.model.specs.Line.{SESSIONS}
 use Rattle.model.specs.Run.{Call, openBy, closeBy}
 use Rattle.model.specs.Independence.{Run, SameFor}
-use Rattle.model.specs.Ward.{imageBytes, ended, opens, asks, shows, damaged}
+use Rattle.model.specs.Words.{imageBytes, ended}
+use Rattle.model.specs.Ward.{opens, asks, shows, damaged}
 
 -- image A for two users, the second with the Doctor's role alone
 unfoldable pub oneImage : List ℕ

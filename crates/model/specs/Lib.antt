@@ -4,6 +4,7 @@ pub mod Image
 pub mod Policy
 pub mod Judgement
 pub mod Bytes
+pub mod Words
 pub mod Line
 pub mod Choice
 pub mod Session

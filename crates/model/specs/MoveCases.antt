@@ -7,7 +7,8 @@ use lib.Dec.{eqb}
 use lib.ListN.{length, take, replicate}
 use Rattle.model.specs.Bytes.{bytesOf}
 use Rattle.model.specs.Line.{lineSize}
-use Rattle.model.specs.Ward.{imageBytes, imageOfTwo, loop, sameList}
+use Rattle.model.specs.Words.{imageBytes}
+use Rattle.model.specs.Ward.{imageOfTwo, loop, sameList}
 use Rattle.model.specs.Moves.{move}
 
 pub record MoveCase : Type 0 where

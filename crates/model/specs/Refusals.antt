@@ -11,7 +11,8 @@ use Rattle.model.specs.declared.Checked.the-variants.{Accepted, Refused}
 use Rattle.model.specs.Judgement.{judge}
 use Rattle.model.specs.Session.{Reply}
 use Rattle.model.specs.Loop.{loopCall}
-use Rattle.model.specs.Ward.{imageBytes, ended, imageA, loop, sameList}
+use Rattle.model.specs.Words.{seniorWord, imageBytes, ended}
+use Rattle.model.specs.Ward.{imageA, loop, sameList}
 
 unfoldable pub verdict : Checked → List ℕ
 verdict (Accepted h) = 0 ∷ 0 ∷ []
@@ -42,10 +43,6 @@ exclusionWords (suc n) = 0x54102000 ∷ 0x60000000 ∷ 0x60400000 ∷ exclusionW
 -- one user, 17 roles
 unfoldable pub wide : List ℕ → List ℕ
 wide ws = 0x102440A0 ∷ ws
-
--- role a over role b
-unfoldable pub seniorWord : ℕ → ℕ → ℕ
-seniorWord a b = 4 * 2 ^ 28 + a * 2 ^ 22 + b * 2 ^ 16
 
 -- role 0 over the roles 1 to n
 unfoldable pub overOthers : ℕ → List ℕ

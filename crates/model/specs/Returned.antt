@@ -10,25 +10,11 @@ use Rattle.model.specs.Image.{checkNumber}
 use Rattle.model.specs.Judgement.{judge}
 use Rattle.model.specs.Line.{SESSIONS}
 use Rattle.model.specs.Run.{Call, step, returned, answered, openBy, closeBy, askBy, shortAskBy, showBy, explainBy}
-use Rattle.model.specs.Ward.{imageBytes, ended, imageA, imageOfKind, opens, closes, shows, damaged, sameList, widest, explains}
-use Rattle.model.specs.Refusals.{bodyA, edited, assignments, exclusionWords, wide, seniorWord}
+use Rattle.model.specs.Words.{headWord, assignWord, grantWord, seniorWord, exclusionWord, memberWord, imageBytes, ended}
+use Rattle.model.specs.Ward.{imageA, imageOfKind, opens, closes, shows, damaged, sameList, widest, explains}
+use Rattle.model.specs.Refusals.{bodyA, edited, assignments, exclusionWords, wide}
 
--- ---- words, by 01's table of kinds
-
-unfoldable pub headWord : ℕ → ℕ → ℕ → ℕ
-headWord users roles permissions = 1 * 2 ^ 28 + users * 2 ^ 21 + roles * 2 ^ 14 + permissions * 2 ^ 5
-
-unfoldable pub assignWord : ℕ → ℕ → ℕ
-assignWord user role = 2 * 2 ^ 28 + user * 2 ^ 22 + role * 2 ^ 16
-
-unfoldable pub grantWord : ℕ → ℕ → ℕ
-grantWord role permission = 3 * 2 ^ 28 + role * 2 ^ 22 + permission * 2 ^ 14
-
-unfoldable pub exclusionWord : ℕ → ℕ → ℕ → ℕ
-exclusionWord which n m = 5 * 2 ^ 28 + which * 2 ^ 26 + n * 2 ^ 19 + m * 2 ^ 12
-
-unfoldable pub memberWord : ℕ → ℕ
-memberWord role = 6 * 2 ^ 28 + role * 2 ^ 22
+-- ---- images
 
 -- member words of the roles below n
 unfoldable pub memberWords : ℕ → List ℕ

@@ -3,27 +3,16 @@
 -- Assumes nothing.
 use mathlib.Core.Bool.{Bool, true, false, _&&_}
 use mathlib.Core.List.{List, [], _∷_, _++_, map}
-use Prim.Native.Nat.{ℕ, _+_, _-_, _*_, _%_, _^_}
+use Prim.Native.Nat.{ℕ, _+_, _-_, _*_, _^_}
 use lib.Dec.{eqb}
 use lib.ListN.{replicate, take, drop}
 use Rattle.model.specs.Tests.{all}
 use Rattle.model.specs.Bytes.{number, bytesOf}
+use Rattle.model.specs.Words.{imageBytes, ended}
 use Rattle.model.specs.Line.{SESSIONS}
 use Rattle.model.specs.Run.{Call, Event, run, openBy, closeBy, askBy, shortAskBy, showBy, explainBy}
 
 -- ---- images as words
-
-unfoldable pub imageBytes : List ℕ → List ℕ
-imageBytes [] = []
-imageBytes (w ∷ ws) = bytesOf 4 w ++ imageBytes ws
-
-unfoldable pub sumOf : List ℕ → ℕ
-sumOf [] = 0
-sumOf (w ∷ ws) = w + sumOf ws
-
--- the words, and the end word that balances them
-unfoldable pub ended : List ℕ → List ℕ
-ended ws = ws ++ ((15 * 2 ^ 28 + (2 ^ 28 - sumOf ws % 2 ^ 28) % 2 ^ 28) ∷ [])
 
 -- image A: Doctor carries 0 to 3, Data_Manager 1 and 4; one user has both, and no two may be active in any of her sessions
 unfoldable pub imageA : List ℕ
