@@ -2,3 +2,4 @@
 pub mod Images
 pub mod Loops
 pub mod ShortAsks
+pub mod Tidying

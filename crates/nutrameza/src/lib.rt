@@ -1,7 +1,7 @@
 // The calls of the session kit, as a C host makes them: numbers are u64, a slice is a pointer and a length, and the answer is a number
 // plus 256 times an extra. No call requires anything of its arguments.
 ghost use mathlib.Core.Path.{_≡_};
-ghost use Prim.Native.Nat.{_≤_, _<_};
+ghost use Prim.Native.Nat.{_≤_, _<_, _+_, _*_};
 ghost use lib.ListN.{length};
 ghost use Rattle.model.specs.Line.{SESSIONS};
 ghost use Rattle.model.specs.Image.{checkNumber};
@@ -10,6 +10,7 @@ ghost use Rattle.model.specs.Loop.{loopCall};
 ghost use Rattle.model.specs.Moves.{move, widened, narrowed};
 ghost use Rattle.model.specs.Run.{step, openBy, closeBy, showBy, askBy, shortAskBy, explainBy, returned, answered};
 ghost use Rattle.calls.specs.Calls.{Gives};
+ghost use Rattle.tidying.specs.Tidy.{tidyCall};
 use calls::given::Rules;
 use calls::given::Window;
 use model::Checked;
@@ -47,6 +48,26 @@ pub extern "C" fn nutrameza_loop(image: &[u8], chain: &mut [u8]) -> u64
         return refusal_of(c);
     };
     hierarchy::chain::show_loop(&juniors, head.roles, chain)
+}
+
+// Writes the tidy image of the image's policy at the front of the buffer: head, assignments, grants, seniors, exclusions, each group
+// ascending by its fields and without repeats. The extra is the number of words written; 19 for a buffer that is too small for them.
+#[no_mangle]
+pub extern "C" fn nutrameza_tidy(image: &[u8], out: &mut [u8]) -> u64
+    ensures { λ r. ⌜ (r ≡ tidyCall (now (image .entry)) (now (out .entry)) .number + 256 * tidyCall (now (image .entry)) (now (out .entry)) .extra)
+        × (now (out .exit) ≡ tidyCall (now (image .entry)) (now (out .entry)) .out) ⌝ }
+{
+    let mut assigned = [0u64; 64];
+    let mut granted = [[0u64; 4]; 64];
+    let mut juniors = [0u64; 64];
+    let mut xs = [[0u64; 2]; 32];
+    let all = tables::read::read_direct(image, &mut assigned, &mut granted, &mut juniors, &mut xs);
+    let c = all.checked;
+    let Checked::Accepted(head) = c else {
+        return refusal_of(c);
+    };
+    let count = all.count;
+    tidy::whole::tidy(head, &assigned, &granted, &juniors, &xs, count, out)
 }
 
 // Opens the user's lowest closed session, and returns it as the extra.

@@ -5,7 +5,8 @@ use mathlib.Core.List.{List, [], _∷_}
 use Prim.Native.String.{String}
 use Prim.Native.Nat.{ℕ}
 use lib.ListN.{take}
-use Rattle.model.specs.Ward.{sameList, imageBytes, imageA, imageOfTwo, threeRoles, twoAndBoth}
+use Rattle.model.specs.Words.{imageBytes}
+use Rattle.model.specs.Ward.{sameList, imageA, imageOfTwo, threeRoles, twoAndBoth}
 use Rattle.model.specs.Returned.{ranked}
 use Rattle.script.specs.Script.{ascii, parse, transcript, isUnreadable}
 

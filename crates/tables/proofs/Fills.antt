@@ -1,19 +1,20 @@
 -- The turns of the pass that fills the tables: each table is the fold of its step over the entries.
 -- Assumes nothing.
-use mathlib.Core.Path.{_≡_, sym, ap, subst, _∙_}
-use mathlib.Core.List.{List}
+use mathlib.Core.Path.{_≡_, refl, sym, ap, subst, _∙_}
+use mathlib.Core.List.{List, [], _∷_}
 use Prim.Native.Nat.{ℕ, _-_, _/_, _^_, _≤_, _<_}
 use lib.ListN.{getD, length}
 use Rattle.model.specs.declared.Entry.{Entry}
 use Rattle.model.specs.declared.Head.{Head}
 use Rattle.model.specs.declared.Checked.{Checked}
 use Rattle.model.specs.declared.Checked.the-variants.{Accepted}
-use Rattle.model.specs.Image.{behindHead, assigning, judgeWords}
+use Rattle.model.specs.Image.{behindHead, assigning, emptyRows, judgeWords}
 use Rattle.model.specs.Sets.{count}
 use Rattle.model.specs.Policy.{Policy, entriesFrom, entriesOf, fold, granting, ordering, policyOf}
 use Rattle.model.specs.Judgement.{judgeMeaning, judge}
 use Rattle.model.proofs.Accepted.{words-head, words-in-range}
 use Rattle.model.proofs.Judgements.{words-pass}
+use Rattle.model.proofs.Tables.{granting-length}
 use Rattle.image.proofs.Turns.{length-assigned, length-juniors}
 use Rattle.hierarchy.specs.Loops.{Fit, Passed, Judged}
 use Rattle.tables.specs.Tables.{Fresh, Gathered, Read, Tables}
@@ -32,6 +33,16 @@ tables-of s a₀ g₀ j₀ a g j rows count f t =
       few = t .few;
       full = t .full;
     }
+
+-- the table of grants has 64 rows
+granting-keeps : (es : List Entry) (rows : List ℕ) → length (fold granting rows es) ≡ length rows
+unfolding fold
+granting-keeps [] rows = refl
+granting-keeps (e ∷ es) rows = granting-keeps es (granting rows e) ∙ granting-length rows e
+
+pub length-granted : (s : List ℕ) → length (policyOf s .granted) ≡ 64
+unfolding policyOf emptyRows
+length-granted s = granting-keeps (entriesOf s) emptyRows
 
 -- ---- an image judged by its words, and then by what they mean together
 
@@ -61,12 +72,18 @@ module _ (s : List ℕ) (c : Checked) (ec : c ≡ judgeWords s) (assigned junior
     unfolding judge
     read-judged = verdict .verdict ∙ ap (judgeMeaning (policyOf s)) ec
 
-    -- an accepted image's tables are the policy's
+    -- the tables that the words of an accepted image fill are the policy's
+    pub direct-judged : (g : List ℕ) (rows : List (List ℕ)) (count : ℕ)
+        → ((h : Head) → c ≡ Accepted h → Read (policyOf s) assigned g juniors rows count)
+        → (h : Head) → v ≡ Accepted h → Read (policyOf s) assigned g juniors rows count
+    direct-judged g rows count read h e = read h (ec ∙ words-pass s h (sym read-judged ∙ e))
+
+    -- and so are those that follow from them
     pub tables-judged : (g : List ℕ) (rows : List (List ℕ)) (count : ℕ)
         → ((h : Head) → c ≡ Accepted h → Read (policyOf s) assigned g juniors rows count)
         → (h : Head) → v ≡ Accepted h → Tables (policyOf s) own g below rows count
     tables-judged g rows count read h e =
-        let t = read h (ec ∙ words-pass s h (sym read-judged ∙ e)) in
+        let t = direct-judged g rows count read h e in
         record {
           own-is = verdict .own-is h e;
           granted-is = t .granted-is;

@@ -244,3 +244,28 @@ pub fn read(
         count: all.count,
     }
 }
+
+// Judges an image and, where it is accepted, leaves in the tables what its words say: the roles assigned to each user, the permissions
+// granted to each role, the direct juniors of each role and the exclusions.
+pub fn read_direct(
+    image: &[u8],
+    assigned: &mut [u64; 64],
+    granted: &mut [[u64; 4]; 64],
+    juniors: &mut [u64; 64],
+    xs: &mut [[u64; 2]; 32],
+) -> Reading
+    requires { ⌜ (Fresh (now assigned) (values (now granted)) (now juniors)) × (length (now xs) ≡ 32) ⌝ }
+    ensures { λ r. ⌜ (r .checked ≡ judge (now (image .entry)))
+        × ((g : HeadOf) → r .checked ≡ Checked.Accepted g
+        → Read (policyOf (now (image .entry))) (now (assigned .exit)) (values (now (granted .exit))) (now (juniors .exit)) (now (xs .exit)) (r .count)) ⌝ }
+{
+    let all = gather(image, assigned, granted, juniors, xs);
+    let c = all.checked;
+    let mut own = *assigned;
+    let mut below = *juniors;
+    let checked = judged(c, &mut own, &mut below);
+    Reading {
+        checked,
+        count: all.count,
+    }
+}

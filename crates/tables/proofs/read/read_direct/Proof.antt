@@ -1,0 +1,22 @@
+-- `tables::read::read_direct` meets its contract.
+-- Assumes nothing.
+use borrow.Author.Needs.{needs}
+use Rattle.tables.proofs.Fills.{words-fit, read-judged, direct-judged}
+use Rattle.tables.proofs.read.read_direct.Statement.{statement}
+use Rattle.tables.proofs.read.read_direct.Tie as tie
+
+judged-requires : tie.Need-judged-requires
+judged-requires c κs =
+    let g = c .before .before .before .before .gather .ensures in
+    words-fit _ _ (g .0) _ _ (λ h e. (g .1 h e .assigned-is, g .1 h e .juniors-is))
+
+returns : tie.Need-returns
+returns c =
+    let g = c .before .before .before .before .before .gather .ensures in
+    let j = c .judged .ensures in (
+      read-judged _ _ (g .0) _ _ (λ h e. (g .1 h e .assigned-is, g .1 h e .juniors-is)) _ _ _ j,
+      direct-judged _ _ (g .0) _ _ (λ h e. (g .1 h e .assigned-is, g .1 h e .juniors-is)) _ _ _ j _ _ _ (g .1),
+    )
+
+pub read-direct-spec : {M : Type 1} → statement M
+read-direct-spec = tie.close (tie.spec (λ c κs. search needs) judged-requires returns)

@@ -1,0 +1,15 @@
+-- `tidy::whole::head_word` meets its contract.
+-- Assumes nothing.
+use borrow.Author.Needs.{needs}
+use Rattle.model.specs.Words.{headWord}
+use Rattle.tidy.proofs.whole.head_word.Statement.{statement}
+use Rattle.tidy.proofs.whole.head_word.Tie as tie
+
+returns : tie.Need-returns
+unfolding headWord
+returns c = search needs
+
+pub head-word-spec : {M : Type 1} → statement M
+head-word-spec =
+    tie.close
+    (tie.spec (λ c. search needs) (λ c. search needs) (λ c. search needs) (λ c. search needs) (λ c. search needs) (λ c. search needs) (λ c. search needs) (λ c. search needs) (λ c. search needs) returns)

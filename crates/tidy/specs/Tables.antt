@@ -1,0 +1,32 @@
+-- The words of the rows of tables and of exclusions.
+-- Assumes nothing.
+use mathlib.Core.Path.{_≡_}
+use mathlib.Core.Bool.{true}
+use mathlib.Core.List.{List, _∷_, map}
+use Prim.Native.Nat.{ℕ, _+_, _*_, _^_, _<_}
+use lib.ListN.{length, getD, drop}
+use Rattle.model.specs.declared.Exclusion.{Exclusion}
+use Rattle.model.specs.Sets.{has}
+use Rattle.tidying.specs.Groups.{spread}
+use Rattle.tidying.specs.Tidy.{membersTo, tableGroups, exclusionGroup}
+
+-- a word of a kind with two numbers of 6 bits: an assignment or a senior word
+unfoldable pub pairWord : ℕ → ℕ → ℕ → ℕ
+pairWord kind i j = kind * 2 ^ 28 + i * 2 ^ 22 + j * 2 ^ 16
+
+-- the words of row i, with members below d
+unfoldable pub rowWords : (ℕ → ℕ → ℕ) → ℕ → ℕ → ℕ → List ℕ
+rowWords word d i row = map (word i) (membersTo d row)
+
+-- the words of a table's rows from row i on
+unfoldable pub tableWords : (ℕ → ℕ → ℕ) → ℕ → List ℕ → ℕ → List ℕ
+tableWords word d rows i = spread (tableGroups word d i (drop i rows))
+
+-- a table of 64 rows, of which only the first n have members
+pub record Table (n : ℕ) (rows : List ℕ) : Type 0 where
+  pub size : length rows ≡ 64
+  pub inside : (i j : ℕ) → has (getD rows i 0) j ≡ true → i < n
+
+-- an exclusion's word and its members
+unfoldable pub exclusionWords : Exclusion → List ℕ
+exclusionWords x = exclusionGroup x .word ∷ exclusionGroup x .members

@@ -1,0 +1,41 @@
+-- The words of the whole tidy image, by the tables of a policy.
+-- Assumes nothing.
+use mathlib.Core.Path.{_≡_}
+use mathlib.Core.List.{List, _∷_, _++_, map}
+use Prim.Native.Nat.{ℕ, _+_, _*_, _≤_}
+use lib.ListN.{take}
+use Rattle.model.specs.declared.Head.{Head}
+use Rattle.model.specs.declared.Exclusion.{Exclusion}
+use Rattle.model.specs.Words.{headWord, assignWord, grantWord, seniorWord}
+use Rattle.model.specs.Policy.{Policy}
+use Rattle.rows.specs.Rows.{exclusionOf}
+use Rattle.tidying.specs.Groups.{spread}
+use Rattle.tidying.specs.Tidy.{exclusionGroup, Written}
+use Rattle.tidy.specs.Tables.{tableWords, Table}
+
+-- the words of the tables, and of exclusions in their order
+unfoldable pub groupWords : List ℕ → List ℕ → List ℕ → List Exclusion → List ℕ
+groupWords assigned granted juniors xs =
+    tableWords assignWord 64 assigned 0 ++ (tableWords grantWord 256 granted 0 ++ (tableWords seniorWord 64 juniors 0 ++ spread (map exclusionGroup xs)))
+
+-- behind the head
+unfoldable pub wordsBy : Head → List ℕ → List ℕ → List ℕ → List Exclusion → List ℕ
+wordsBy h assigned granted juniors xs = headWord (h .users) (h .roles) (h .permissions) ∷ groupWords assigned granted juniors xs
+
+-- the policy of a head, three tables and the first n of the exclusions' rows
+unfoldable pub policyBy : Head → List ℕ → List ℕ → List ℕ → List (List ℕ) → ℕ → Policy
+policyBy h assigned granted juniors rows n =
+    record { head = h; assigned = assigned; granted = granted; juniors = juniors; exclusions = take n (map exclusionOf rows) }
+
+-- the tables are those of so many users and roles
+pub record Fitted (h : Head) (assigned granted juniors : List ℕ) : Type 0 where
+  pub users : h .users ≤ 64
+  pub roles : h .roles ≤ 64
+  pub assigned-fits : Table (h .users) assigned
+  pub granted-fits : Table (h .roles) granted
+  pub juniors-fits : Table (h .roles) juniors
+
+-- what is returned and the buffer after the call are what the definition says
+pub record Writes (e : Written) (x : ℕ) (buffer : List ℕ) : Type 0 where
+  pub number : x ≡ e .number + 256 * e .extra
+  pub bytes : buffer ≡ e .out

@@ -1,0 +1,24 @@
+-- The laws of groups and tidy images, and the theorems over them.
+pub mod Eachs
+pub mod ScanWords
+pub mod Roomy
+pub mod GroupsFound
+pub mod GroupsTaken
+pub mod AcceptableProof
+pub mod GroupExclusions
+pub mod SameTables
+pub mod AlikeProof
+pub mod SameLimits
+pub mod WordLaws
+pub mod SortedLaws
+pub mod SameSetsProof
+pub mod TidyLists
+pub mod TidyOrderProof
+pub mod TidySize
+pub mod TidyExclusions
+pub mod TidyGroups
+pub mod TidyImage
+pub mod TidyProof
+pub mod TidyFrameProof
+pub mod TidyCasesProof
+pub mod Theorems

@@ -1,0 +1,80 @@
+-- The policies of two images are the same exactly if the images have the same head and the same sets of entries.
+-- Assumes nothing.
+use mathlib.Core.Path.{_≡_, sym, ap, _∙_}
+use mathlib.Core.Logic.{_↔_}
+use mathlib.Core.Bool.{true}
+use mathlib.Core.List.{List, List·Memᴰ}
+use Prim.Native.Nat.{ℕ}
+use lib.ListN.{getD}
+use Rattle.model.specs.declared.Exclusion.{Exclusion}
+use Rattle.model.specs.declared.Entry.{Entry}
+use Rattle.model.specs.Sets.{has}
+use Rattle.model.specs.Policy.{Policy, entriesOf, policyOf, excludes}
+use Rattle.model.specs.Read.{Said, Excluded}
+use Rattle.tidying.specs.Same.{SameSets, SamePolicy}
+use Rattle.model.proofs.Bools.{bool-ext}
+use Rattle.model.proofs.Tables.{read-off}
+use Rattle.tidying.proofs.SameTables.{same-policy}
+use Rattle.tidying.proofs.SortedLaws.{any-mem}
+
+module _ (s t : List ℕ) where
+  -- what is among the entries is what a word says
+  listed : (e : Entry) → Said s e ↔ Said t e → List·Memᴰ e (entriesOf s) ↔ List·Memᴰ e (entriesOf t)
+  listed e q = (
+    λ m. read-off t .entries e .1 (q .0 (read-off s .entries e .0 m)),
+    λ m. read-off s .entries e .1 (q .1 (read-off t .entries e .0 m)),
+  )
+
+  pub sets-policy : SameSets s t → SamePolicy (policyOf s) (policyOf t)
+  sets-policy q =
+      same-policy s t (unfold policyOf in q .heads) (λ u r. listed _ (q .assignments u r)) (λ r p. listed _ (q .grants r p))
+      (λ a b. listed _ (q .seniors a b))
+      (λ x. unfold excludes in
+      bool-ext _ _
+      (λ e. any-mem x (policyOf t .exclusions) .1 (read-off t .exclusions x .1 (q .exclusions x .0 (read-off s .exclusions x .0 (any-mem x (policyOf s .exclusions) .0 e)))))
+      (λ e. any-mem x (policyOf s .exclusions) .1 (read-off s .exclusions x .1 (q .exclusions x .1 (read-off t .exclusions x .0 (any-mem x (policyOf t .exclusions) .0 e))))))
+
+-- what the words of s say, those of t say
+module _ (s t : List ℕ) (q : SamePolicy (policyOf s) (policyOf t)) where
+  said : (rows rows′ : List ℕ) → rows ≡ rows′ → (i j : ℕ) (e : Entry) → (has (getD rows i 0) j ≡ true) ↔ List·Memᴰ e (entriesOf s)
+      → (has (getD rows′ i 0) j ≡ true) ↔ List·Memᴰ e (entriesOf t) → Said s e → Said t e
+  said rows rows′ same i j e f g m =
+      read-off t .entries e .0 (g .0 (sym (ap (λ (l : List ℕ). has (getD l i 0) j) same) ∙ f .1 (read-off s .entries e .1 m)))
+
+  excluded : (x : Exclusion) → Excluded (entriesOf s) x → Excluded (entriesOf t) x
+  unfolding excludes
+  excluded x m =
+      read-off t .exclusions x .0 (any-mem x (policyOf t .exclusions) .0 (sym (q .exclusions x) ∙ any-mem x (policyOf s .exclusions) .1 (read-off s .exclusions x .1 m)))
+
+pub same-back : (p q : Policy) → SamePolicy p q → SamePolicy q p
+same-back p q e =
+    record {
+      heads = sym (e .heads);
+      assigned = sym (e .assigned);
+      granted = sym (e .granted);
+      juniors = sym (e .juniors);
+      exclusions = λ x. sym (e .exclusions x);
+    }
+
+pub same-then : (p q r : Policy) → SamePolicy p q → SamePolicy q r → SamePolicy p r
+same-then p q r e f =
+    record {
+      heads = e .heads ∙ f .heads;
+      assigned = e .assigned ∙ f .assigned;
+      granted = e .granted ∙ f .granted;
+      juniors = e .juniors ∙ f .juniors;
+      exclusions = λ x. e .exclusions x ∙ f .exclusions x;
+    }
+
+pub policy-sets : (s t : List ℕ) → SamePolicy (policyOf s) (policyOf t) → SameSets s t
+policy-sets s t q =
+    let b = same-back (policyOf s) (policyOf t) q in
+    let f = read-off s in
+    let g = read-off t in
+    record {
+      heads = unfold policyOf in q .heads;
+      assignments = λ u r. (said s t q _ _ (q .assigned) u r _ (f .assigned u r) (g .assigned u r), said t s b _ _ (b .assigned) u r _ (g .assigned u r) (f .assigned u r));
+      grants = λ r p. (said s t q _ _ (q .granted) r p _ (f .granted r p) (g .granted r p), said t s b _ _ (b .granted) r p _ (g .granted r p) (f .granted r p));
+      seniors = λ a c. (said s t q _ _ (q .juniors) a c _ (f .juniors a c) (g .juniors a c), said t s b _ _ (b .juniors) a c _ (g .juniors a c) (f .juniors a c));
+      exclusions = λ x. (excluded s t q x, excluded t s b x);
+    }

@@ -1,0 +1,23 @@
+-- The listed images are accepted and have the tidy image that is listed, by computation from their bytes.
+-- Assumes nothing.
+use mathlib.Core.Path.{refl}
+use Rattle.model.specs.Policy.{kindNumber}
+use Rattle.tidying.specs.Groups.{spread}
+use Rattle.tidying.specs.Tidy.{membersTo, tableGroups, exclusionGroup, before, insert, sorted, tidyGroups, tidyWords, tidy, tidyOf, tidyBy, tidyCall}
+use Rattle.tidying.specs.TidyCases.{jumbled, shuffled, neat, sevens, refusing, TidyCases}
+use Rattle.model.proofs.Computing.{computing}
+
+pub tidy-cases : TidyCases
+unfolding computing kindNumber spread membersTo tableGroups exclusionGroup before insert sorted tidyGroups tidyWords tidy tidyOf tidyBy tidyCall jumbled shuffled neat sevens refusing
+tidy-cases =
+    record {
+      accepted = refl;
+      jumbled-tidy = refl;
+      shuffled-tidy = refl;
+      neat-tidy = refl;
+      exact = refl;
+      longer = refl;
+      short = refl;
+      bad = refl;
+      open-ended = refl;
+    }

@@ -1,0 +1,5 @@
+-- Acceptance without order, and the tidy image.
+pub mod Groups
+pub mod Same
+pub mod Tidy
+pub mod TidyCases

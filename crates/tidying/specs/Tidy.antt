@@ -1,0 +1,127 @@
+-- The tidy image of a policy: head, assignments, grants, seniors, exclusions, each sort ascending by its fields and without repeats.
+-- Assumes nothing.
+use mathlib.Core.Path.{_≡_}
+use mathlib.Core.Logic.{_↔_}
+use mathlib.Core.Bool.{Bool, true, false}
+use mathlib.Core.List.{List, [], _∷_, _++_, map}
+use Prim.Native.Nat.{ℕ, zero, suc, _+_, _*_, _/_, _≤_, _<_}
+use lib.Dec.{ltb}
+use lib.ListN.{length, getD, take, drop}
+use Rattle.model.specs.declared.Exclusion.{Exclusion}
+use Rattle.model.specs.declared.Checked.{Checked}
+use Rattle.model.specs.declared.Checked.the-variants.{Accepted, Refused}
+use Rattle.model.specs.Tests.{pick}
+use Rattle.model.specs.Sets.{has, count}
+use Rattle.model.specs.Words.{headWord, assignWord, grantWord, seniorWord, exclusionWord, memberWord, ended, imageBytes}
+use Rattle.model.specs.Policy.{Policy, policyOf, kindNumber}
+use Rattle.model.specs.Judgement.{judge}
+use Rattle.model.specs.Choice.{earlier}
+use Rattle.model.specs.Ranges.{Each}
+use Rattle.tidying.specs.Groups.{Group, spread}
+use Rattle.tidying.specs.Same.{SameSets}
+
+-- ---- groups
+
+-- the members of s below d, ascending
+unfoldable pub membersTo : ℕ → ℕ → List ℕ
+membersTo zero s = []
+membersTo (suc d) s = membersTo d s ++ pick (has s d) (d ∷ []) []
+
+abbrev pub single : ℕ → Group
+single w = record { word = w; members = [] }
+
+-- a word for each member below d of each row, where the first row has number i
+unfoldable pub tableGroups : (ℕ → ℕ → ℕ) → ℕ → ℕ → List ℕ → List Group
+tableGroups word d i [] = []
+tableGroups word d i (row ∷ rows) = map (λ j. single (word i j)) (membersTo d row) ++ tableGroups word d (suc i) rows
+
+unfoldable pub exclusionGroup : Exclusion → Group
+exclusionGroup x =
+    record {
+      word = exclusionWord (kindNumber (x .kind)) (x .limit) (count 64 (x .members));
+      members = map memberWord (membersTo 64 (x .members));
+    }
+
+-- by kind, then limit, then the number of the member set
+unfoldable pub before : Exclusion → Exclusion → Bool
+before x y = earlier (kindNumber (x .kind)) (kindNumber (y .kind)) (x .limit) (y .limit) (x .members) (y .members)
+
+-- x put into an ascending list, unless it is there
+unfoldable pub insert : Exclusion → List Exclusion → List Exclusion
+insert x [] = x ∷ []
+insert x (y ∷ ys) = elim (before x y) [ true ↦ x ∷ y ∷ ys | false ↦ elim (before y x) [ true ↦ y ∷ insert x ys | false ↦ y ∷ ys ] ]
+
+-- the exclusions ascending, without repeats
+unfoldable pub sorted : List Exclusion → List Exclusion
+sorted [] = []
+sorted (x ∷ xs) = insert x (sorted xs)
+
+unfoldable pub tidyGroups : Policy → List Group
+tidyGroups p =
+    tableGroups assignWord 64 0 (p .assigned)
+    ++ (tableGroups grantWord 256 0 (p .granted) ++ (tableGroups seniorWord 64 0 (p .juniors) ++ map exclusionGroup (sorted (p .exclusions))))
+
+-- ---- the image
+
+-- the words before the end word
+unfoldable pub tidyWords : Policy → List ℕ
+tidyWords p = headWord (p .head .users) (p .head .roles) (p .head .permissions) ∷ spread (tidyGroups p)
+
+unfoldable pub tidy : Policy → List ℕ
+tidy p = imageBytes (ended (tidyWords p))
+
+-- the tidy image of an image
+unfoldable pub tidyOf : List ℕ → List ℕ
+tidyOf s = tidy (policyOf s)
+
+-- ---- the call
+
+-- what a call that writes a buffer leaves: its number, its extra, and the buffer
+pub record Written : Type 0 where
+  pub number : ℕ
+  pub extra : ℕ
+  pub out : List ℕ
+
+-- a refused image ends the call there; 19 for a buffer smaller than the tidy image; else the image in front of what was there, and the
+-- number of words written
+unfoldable pub tidyBy : Checked → Policy → List ℕ → Written
+tidyBy (Refused n place) p out = record { number = n; extra = place; out = out }
+tidyBy (Accepted h) p out =
+    let done : Written = record { number = 0; extra = length (tidy p) / 4; out = tidy p ++ drop (length (tidy p)) out } in
+    pick (ltb (length out) (length (tidy p))) (record { number = 19; extra = 0; out = out }) done
+
+unfoldable pub tidyCall : List ℕ → List ℕ → Written
+tidyCall image out = tidyBy (judge image) (policyOf image) out
+
+-- ---- the claims
+
+-- the bytes of a tidy image are four for each word: the head, those of the groups, and the end
+abbrev pub TidyWords : Policy → Type 0
+TidyWords p = length (tidy p) ≡ 4 * (2 + length (spread (tidyGroups p)))
+
+-- each member of the list comes before all that stand behind it, by R
+abbrev pub Ascending : {A : Type 0} → (A → A → Type 0) → List A → Type 0
+Ascending R [] = Unit {0}
+Ascending R (x ∷ xs) = Each (R x) xs × Ascending R xs
+
+-- ascending, and so nothing repeated: words of one kind as numbers, which is by their fields; exclusions by kind, limit and member set;
+-- the member words of each exclusion
+pub record TidyOrder (p : Policy) : Type 0 where
+  pub assignments : Ascending _<_ (spread (tableGroups assignWord 64 0 (p .assigned)))
+  pub grants : Ascending _<_ (spread (tableGroups grantWord 256 0 (p .granted)))
+  pub seniors : Ascending _<_ (spread (tableGroups seniorWord 64 0 (p .juniors)))
+  pub exclusions : Ascending (λ x y. before x y ≡ true) (sorted (p .exclusions))
+  pub members : (x : Exclusion) → Ascending _<_ (exclusionGroup x .members)
+
+-- two accepted images share their tidy image exactly if head and sets of assignments, grants, senior pairs and exclusions are the same
+abbrev pub Shared : List ℕ → List ℕ → Type 0
+Shared s t = (tidyOf s ≡ tidyOf t) ↔ SameSets s t
+
+-- what a call leaves of the buffer: its length, every byte where it is refused, and every byte beyond the tidy image
+pub record TidyFrame (s out : List ℕ) : Type 0 where
+  pub keeps-length : length (tidyCall s out .out) ≡ length out
+  pub refused : ¬ (tidyCall s out .number ≡ 0) → tidyCall s out .out ≡ out
+  pub beyond : (i : ℕ) → length (tidyOf s) ≤ i → getD (tidyCall s out .out) i 0 ≡ getD out i 0
+  -- where it is done, the tidy image stands in front, and the extra counts its words
+  pub front : tidyCall s out .number ≡ 0 → take (length (tidyOf s)) (tidyCall s out .out) ≡ tidyOf s
+  pub counted : tidyCall s out .number ≡ 0 → 4 * tidyCall s out .extra ≡ length (tidyOf s)
