@@ -189,6 +189,25 @@ static void loading(void)
     answered("check no policy at all", nutrameza_check(NULL, 0), NUTRAMEZA_LENGTH, 0);
 }
 
+/* The policy as another editor saved it, entries in the other order and one of them twice: other bytes, and the same tidy image. */
+static void comparing(void)
+{
+    uint8_t saved[sizeof image + 4], tidy[sizeof image], first[sizeof image];
+    uint32_t words[WORDS + 1] = {paper[0], paper[9], paper[11], paper[10]};
+    for (unsigned place = 0; place < 8; place++)
+        words[4 + place] = paper[8 - place];
+    words[12] = paper[3];
+    words[13] = nutrameza_end_word(words, 13);
+    nutrameza_write_words(saved, words, WORDS + 1);
+    answered("tidy the policy", nutrameza_tidy(image, sizeof image, first, sizeof first), NUTRAMEZA_DONE, WORDS);
+    answered("tidy it as another editor saved it", nutrameza_tidy(saved, sizeof saved, tidy, sizeof tidy), NUTRAMEZA_DONE, WORDS);
+    if (memcmp(first, tidy, sizeof tidy) != 0 || memcmp(first, image, sizeof image) != 0) {
+        printf("    the tidy images differ\n");
+        wrong = 1;
+    }
+    answered("tidy it into a buffer that is too small", nutrameza_tidy(saved, sizeof saved, tidy, sizeof tidy - 1), NUTRAMEZA_ROOM, 0);
+}
+
 int main(void)
 {
     build_image();
@@ -198,6 +217,7 @@ int main(void)
     loading();
     day();
     moving();
+    comparing();
     free(ledger);
     printf(wrong ? "an answer differs from the paper's\n" : "every answer is the paper's\n");
     return wrong;

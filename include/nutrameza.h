@@ -63,7 +63,7 @@ enum nutrameza_number {
     NUTRAMEZA_PERMISSION = 16, /* a bound with a permission not below P; a permission to be explained not below P */
     NUTRAMEZA_BOUNDS = 17,     /* lower bound not within the upper */
     NUTRAMEZA_AIM = 18,        /* an aim above 2 */
-    NUTRAMEZA_ROOM = 19,       /* answer buffer not 40 bytes; chain buffer not 64; a move's target not of the exact size */
+    NUTRAMEZA_ROOM = 19,       /* answer not 40 bytes, chain not 64, a move's target not the exact size; below the tidy image */
     NUTRAMEZA_NONE = 20,       /* no admissible role set; no loop; no active role carries the permission */
     NUTRAMEZA_SCRIPT = 21,     /* unreadable line, given by the program nutrameza_script alone */
     NUTRAMEZA_LOOP = 22,       /* image: senior words lead from a role back to it; tested after 8 and before 9 */
@@ -86,7 +86,7 @@ enum nutrameza_exclusion_kind {
 /* A call returns its number plus 256 times its extra: the place of the refused word for 1 to 8 (the head is
  * place 0), the lowest role on a loop for 22, the lowest user who may activate more than 16 roles for 23, the user for
  * 24 and for 11 of a move, the session that a done open took, the length of the chain that a done loop call gave, 64
- * times a role plus its granting role of a done explain, else 0. */
+ * times a role plus its granting role of a done explain, the number of words that a done tidy wrote, else 0. */
 static inline unsigned nutrameza_number_of(uint64_t returned) { return (unsigned)(returned % 256); }
 static inline uint64_t nutrameza_extra_of(uint64_t returned) { return returned / 256; }
 
@@ -224,6 +224,13 @@ uint64_t nutrameza_check(const uint8_t *image, size_t image_len);
  * directly below that role, which stands only last; of the shortest the lowest role by role; zeros after. The extra is
  * its length. Refusals 1 to 8, 19, and 20 exactly if there is no loop. */
 uint64_t nutrameza_loop(const uint8_t *image, size_t image_len, uint8_t *chain, size_t chain_len);
+
+/* Tidy writes the tidy image, the one that all images of the same meaning share: head, assignments, grants, seniors,
+ * exclusions, each group ascending by its fields, nothing repeated; exclusions by kind, n, then the number of the
+ * member set (role r counts 2 to the power r), members ascending; the end word that balances them. It stands in front of
+ * the buffer, no byte behind it changes, and the extra is the number of its words: never more than the image has, so that
+ * a buffer of image_len bytes is enough. Refusals 1 to 8, 22, 23, and 19 if the buffer is smaller than the tidy image. */
+uint64_t nutrameza_tidy(const uint8_t *image, size_t image_len, uint8_t *out, size_t out_len);
 
 /* The calls below judge the image first, as check does: 1 to 8, then 22 and 23, then the others by number.
  *

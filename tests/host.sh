@@ -145,6 +145,12 @@ judged() {
     diff "$work/judged" expected && [ "$(cut -d' ' -f1 expected | sort -nu | xargs)" = '0 1 2 3 4 5 6 7 8 22 23' ]
 }
 
+# The tidy images of the images above, by the kit and by the policy tool.
+tidied() {
+  mkdir -p "$work/tidied" && host tidy "$root/tests/host/tidy.c" && cd "$work/images" && "$work/tidy/host" "$work/tidied" [0-9]* &&
+    diff -r tidy "$work/tidied" && [ "$(ls tidy | wc -l)" -gt 400 ]
+}
+
 # quiet STATUS: what 'make lib' says, and its exit status, where the prover says three lines and ends with STATUS
 quiet() {
   printf '%s\n' '#!/bin/sh' 'echo "library sets: loaded"' 'echo "rt: sets proved (8 s)"' 'echo logic=proved >&2' "exit $1" > "$work/rt" &&
@@ -186,5 +192,6 @@ it 'the program of docs/HOST.md that carries ledgers does what is written there'
 it 'a ledger carried over and back comes out byte for byte' carried
 it 'the program that carries ledgers is a C++ program too' carrying_cxx
 it 'the check and the policy tool judge 3,000 images alike, each number from 0 to 8, 22 and 23 among them' judged
-it 'long and deep asks and the longest moves fit a stack of 64 KiB' small_stack
+it 'the kit and the policy tool write the same tidy images of those that are accepted' tidied
+it 'long and deep asks, the longest moves and the calls over the image fit a stack of 64 KiB' small_stack
 counted

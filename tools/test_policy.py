@@ -407,6 +407,65 @@ class Listing(unittest.TestCase):
         self.assertEqual(self.again(words), words)
 
 
+def shuffled(dice, said):
+    """A policy with the entries of another in any order, some of them twice, and the members of each exclusion in any order."""
+    entries = list(said.entries)
+    exclusions = sum(entry[0] == policy.EXCLUSION for entry in entries)
+    for entry in dice.sample(entries, dice.randrange(len(entries) + 1)):
+        if entry[0] != policy.EXCLUSION or exclusions < 32:
+            exclusions += entry[0] == policy.EXCLUSION
+            entries.append(entry)
+    dice.shuffle(entries)
+    members = [dice.sample(entry[3], len(entry[3])) if entry[0] == policy.EXCLUSION else None for entry in entries]
+    return policy.Policy(said.counts, [entry if own is None else (*entry[:3], own) for entry, own in zip(entries, members)])
+
+
+class Tidying(unittest.TestCase):
+    HEAD = 0x1040C080  # two users, three roles, four permissions
+
+    def tidy(self, *words):
+        """The words between head and end of the tidy image of these."""
+        tidy = policy.tidied(policy.read([self.HEAD, *words, policy.end_word([self.HEAD, *words])])).words()
+        self.assertIsNone(refusal_of(policy.to_bytes(tidy)))
+        self.assertEqual(tidy[0], self.HEAD)
+        return tidy[1:-1]
+
+    def test_image_a_is_tidy(self):
+        self.assertEqual(policy.tidied(policy.read(A)).words(), A)
+
+    def test_groups_stand_by_kind_and_ascend_by_their_fields(self):
+        exclusion = [0x50102000, 0x60000000, 0x60400000]
+        words = [*exclusion, 0x40420000, 0x40010000, 0x30804000, 0x30408000, 0x30404000, 0x20420000, 0x20400000, 0x20020000]
+        self.assertEqual(self.tidy(*words), [*words[:2:-1], *exclusion])
+
+    def test_nothing_is_repeated(self):
+        words = [0x20000000, 0x30000000, 0x40010000, 0x50102000, 0x60000000, 0x60400000]
+        self.assertEqual(self.tidy(*words * 5), words)
+
+    def test_exclusions_ascend_by_kind_then_n_then_set_number_and_members_ascend(self):
+        head = policy.encode(1, 1, 4, 1)
+        ordered = [(0, 2, [0, 1, 2]), (0, 2, [1, 3]), (0, 2, [0, 1, 3]), (0, 3, [0, 1, 2]), (1, 2, [0, 1]), (3, 2, [0, 1, 2, 3])]
+        entries = [(policy.EXCLUSION, *exclusion) for exclusion in ordered]
+        tidy = policy.Policy([1, 4, 1], entries).words()
+        self.assertEqual(tidy[0], head)
+        for seed in range(50):
+            jumbled = shuffled(random.Random(seed), policy.Policy([1, 4, 1], entries))
+            self.assertEqual(policy.tidied(policy.read(jumbled.words())).words(), tidy)
+
+    def test_shuffled_and_repeated_entries_give_one_tidy_image_and_each_entry_less_another(self):
+        for seed in range(200):
+            dice = random.Random(seed)
+            said = random_policy(dice)
+            tidy = policy.tidied(said)
+            self.assertIsNone(refusal_of(policy.to_bytes(tidy.words())), f"seed {seed}")
+            self.assertEqual(policy.tidied(shuffled(dice, said)).words(), tidy.words(), f"seed {seed}")
+            self.assertEqual(policy.tidied(tidy).words(), tidy.words(), f"seed {seed}")
+            self.assertLessEqual(len(tidy.words()), len(said.words()), f"seed {seed}")
+            for place in range(len(tidy.entries)):
+                less = policy.Policy(said.counts, tidy.entries[:place] + tidy.entries[place + 1:])
+                self.assertNotEqual(policy.tidied(less).words(), tidy.words(), f"seed {seed}")
+
+
 class Commands(unittest.TestCase):
     def setUp(self):
         self.folder = tempfile.TemporaryDirectory()
@@ -499,8 +558,52 @@ class Commands(unittest.TestCase):
         status, _, err = self.run_tool("list", self.path("a.img", policy.to_bytes(A)), names)
         self.assertEqual((status, err), (1, f"{names}: declares 1 roles, and the image has 2\n"))
 
+    def test_tidy_writes_the_tidy_image(self):
+        jumbled = self.path("jumbled", image(A[0], *A[9:12], *A[8:0:-1], *A[1:4]))
+        said = self.run_tool("tidy", jumbled, "-o", self.path("tidy"))
+        self.assertEqual(said, (0, f"{self.path('tidy')}: 1 user, 2 roles, 5 permissions, 13 words, from 16\n", ""))
+        with open(self.path("tidy"), "rb") as file:
+            self.assertEqual(file.read(), policy.to_bytes(A))
+        self.assertEqual(self.run_tool("tidy", jumbled, "-o", jumbled)[0], 0)
+        with open(jumbled, "rb") as file:
+            self.assertEqual(file.read(), policy.to_bytes(A))
+
+    def test_tidy_writes_nothing_for_a_refused_image(self):
+        bad, out = self.path("bad", looped((0, 1), (1, 0))), self.path("out", b"old")
+        self.assertEqual(self.run_tool("tidy", bad, "-o", out), (1, "", f"{bad}: refused: 22 loop at role 0: role0 over role1 over role0\n"))
+        with open(out, "rb") as file:
+            self.assertEqual(file.read(), b"old")
+
+    def test_same_says_so_whatever_the_order_and_the_repeats(self):
+        first, second = self.path("a", policy.to_bytes(A)), self.path("b", image(A[0], A[9], *A[11:9:-1], *A[8:0:-1], *A[1:4]))
+        for pair in [(first, second), (second, first), (first, first)]:
+            self.assertEqual(self.run_tool("same", *pair), (0, "the same\n", ""))
+
+    def test_same_tells_the_entries_that_only_one_image_has(self):
+        changed = [A[0], A[1], *A[3:9], 0x30404000, 0x40010000, 0x5C102000, *A[10:12]]
+        first, second = self.path("a", policy.to_bytes(A)), self.path("b", image(*changed))
+        told = "- assign user0 role1\n+ senior role0 role1\n- exclude ms-dmer 2 role0 role1\n+ exclude ms-hmer 2 role0 role1\n"
+        self.assertEqual(self.run_tool("same", first, second), (1, told, ""))
+        told = ("- assign ANNA Data_Manager\n+ senior Doctor Data_Manager\n- exclude ms-dmer 2 Doctor Data_Manager\n"
+                "+ exclude ms-hmer 2 Doctor Data_Manager\n")
+        self.assertEqual(self.run_tool("same", first, second, WARD), (1, told, ""))
+
+    def test_same_tells_heads_that_differ(self):
+        first, second = self.path("a", policy.to_bytes(A)), self.path("b", image(policy.encode(1, 1, 3, 5), *A[1:12], 0x20020000))
+        told = "- 1 user, 2 roles, 5 permissions\n+ 1 user, 3 roles, 5 permissions\n+ assign ANNA role2\n"
+        self.assertEqual(self.run_tool("same", first, second, WARD), (1, told, ""))
+
+    def test_same_gives_status_2_for_a_refused_image_on_either_side(self):
+        good, bad = self.path("good", policy.to_bytes(A)), self.path("bad", b"1234")
+        for pair in [(good, bad), (bad, good)]:
+            told = f"{bad}: refused: 1 length at place 0: 4 bytes; an image has 8 to 16384\n"
+            self.assertEqual(self.run_tool("same", *pair), (2, "", told))
+
     def test_a_file_that_is_not_there_and_wrong_usage_give_status_2(self):
-        for words in [("build", "nothing"), ("list", "nothing"), ("check", "nothing"), ("foo",), ()]:
+        good = self.path("good", policy.to_bytes(A))
+        for words in [("build", "nothing"), ("list", "nothing"), ("check", "nothing"), ("foo",), (), ("tidy", good), ("same", good),
+                      ("tidy", "nothing", "-o", "out"), ("tidy", good, "-o", "no/folder"), ("same", good, "nothing"), ("same", "nothing", good),
+                      ("same", good, good, "nothing")]:
             status, out, err = self.run_tool(*words)
             self.assertEqual((status, out), (2, ""), words)
             self.assertNotIn("Traceback", err)

@@ -1,5 +1,5 @@
 //! The check on the largest image; open, close, show and explain on a small and on the largest one; check, open, explain, ask and
-//! short ask over a deep hierarchy; open, show and ask of a user with one role over fifteen; the loop call; both moves.
+//! short ask over a deep hierarchy; open, show and ask of a user with one role over fifteen; the loop call; both moves; the tidy call.
 
 use crate::{plain, timing};
 use nutrameza_tests::gen::{policy, Rng};
@@ -104,6 +104,37 @@ pub fn find_loop() {
         };
         let mut plain = || {
             black_box(plain::find_loop(black_box(&image), &mut second));
+        };
+        timing::row(name, &mut kit, &mut plain);
+    }
+}
+
+/// An image of 4,096 words that says little: a few grants again and again, and one exclusion 32 times.
+fn repeated() -> Vec<u8> {
+    let mut draft = policy::Draft::blank(64, 64, 256);
+    draft.entries.extend((0..32).map(|_| words::exclusion(1, 3, &[9, 4, 60, 33])));
+    draft.entries.extend((0..4094 - 32 * 5).map(|n| vec![words::grant(n % 7, 40 * (n % 6))]));
+    Rng::new(13).shuffle(&mut draft.entries);
+    words::bytes(&draft.words())
+}
+
+/// Times the tidy call.
+pub fn tidy() {
+    for (name, image) in [
+        ("tidy, 13 words", ward::image_a()),
+        ("tidy, 4,096 words, by kind", largest(true)),
+        ("tidy, 4,096 words, in any order", largest(false)),
+        ("tidy, 4,096 words, mostly repeats", repeated()),
+    ] {
+        let (mut first, mut second) = (vec![7; image.len() + 8], vec![7; image.len() + 8]);
+        let (by_kit, by_plain) = (kit::tidy(Empty::Null, &image, &mut first), plain::tidy(&image, &mut second));
+        assert_eq!((by_kit, &first), (by_plain, &second));
+        assert_eq!(by_plain % 256, 0);
+        let mut kit = || {
+            black_box(kit::tidy(Empty::Null, black_box(&image), &mut first));
+        };
+        let mut plain = || {
+            black_box(plain::tidy(black_box(&image), &mut second));
         };
         timing::row(name, &mut kit, &mut plain);
     }

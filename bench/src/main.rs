@@ -22,6 +22,7 @@ fn main() {
     println!("{:<44} {:>12} {:>12} {:>7}", "job", "kit ns", "plain ns", "ratio");
     jobs::check();
     jobs::find_loop();
+    jobs::tidy();
     #[cfg(feature = "calls")]
     jobs::calls();
     #[cfg(feature = "calls")]

@@ -1,7 +1,9 @@
 #!/usr/bin/env python3
-"""Writes accepted and damaged images into a folder, and a file 'expected' with the policy tool's refusal of each.
+"""Writes accepted and damaged images into a folder, a file 'expected' with the policy tool's refusal of each, and the tidy images that the
+tool makes of the accepted ones.
 
-images.py FOLDER COUNT: the images are FOLDER/00000 and so on; a line of 'expected' is number, word and extra.
+images.py FOLDER COUNT: the images are FOLDER/00000 and so on; a line of 'expected' is number, word and extra; FOLDER/tidy has the tidy images,
+each under the name of its image.
 """
 
 import importlib.machinery
@@ -94,13 +96,16 @@ def crowded(dice):
 
 def main(folder, count):
     dice = random.Random(1)
+    os.makedirs(os.path.join(folder, "tidy"), exist_ok=True)
     with open(os.path.join(folder, "expected"), "w", encoding="ascii") as expected:
         for number in range(count):
             data = {0: crowded, 5: wide, 10: looped}.get(number % 20, sample)(dice)
             with open(os.path.join(folder, f"{number:05}"), "wb") as file:
                 file.write(data)
             try:
-                policy.check(data)
+                tidy = policy.tidied(policy.read(policy.check(data))).words()
+                with open(os.path.join(folder, "tidy", f"{number:05}"), "wb") as file:
+                    file.write(policy.to_bytes(tidy))
                 expected.write("0 done 0\n")
             except policy.Refused as refused:
                 expected.write(f"{refused.number} {policy.REFUSALS[refused.number]} {refused.extra}\n")

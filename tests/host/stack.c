@@ -1,6 +1,6 @@
-/* Long and deep asks and the longest moves, on a thread whose stack is 64 KiB: users of 16 roles, 64 roles in 16 chains of seniors,
-   256 permissions, 32 exclusions; asks in every window under each pair of aims, and the ledger of all 64 users carried back and over.
-   Prints 'done' if every call is answered as it should be. */
+/* Long and deep asks, the longest moves and the calls over the image alone, on a thread whose stack is 64 KiB: users of 16 roles, 64
+   roles in 16 chains of seniors, 256 permissions, 32 exclusions; asks in every window under each pair of aims, and the ledger of all 64
+   users carried back and over. Prints 'done' if every call is answered as it should be. */
 #define _POSIX_C_SOURCE 200809L
 #include <pthread.h>
 #include <stdio.h>
@@ -77,6 +77,15 @@ static int moves(void) {
     return good && memcmp(ledger, again, sizeof ledger) == 0;
 }
 
+/* The tidy image of the image, and of that again, which is the same; 1 if it is so. */
+static int tidied(void) {
+    static uint8_t tidy[NUTRAMEZA_MAX_IMAGE_BYTES], twice[NUTRAMEZA_MAX_IMAGE_BYTES];
+    uint64_t first = nutrameza_tidy(image, image_len, tidy, sizeof tidy);
+    size_t length = (size_t)nutrameza_extra_of(first) * NUTRAMEZA_WORD_BYTES;
+    uint64_t second = nutrameza_tidy(tidy, length, twice, length);
+    return nutrameza_number_of(first) == NUTRAMEZA_DONE && length < image_len && second == first && memcmp(tidy, twice, length) == 0;
+}
+
 static void *work(void *unused) {
     (void)unused;
     answered = 1;
@@ -90,6 +99,7 @@ static void *work(void *unused) {
         answered &= ask(255, 255, aims / 3, aims % 3, NUTRAMEZA_NONE);
     }
     answered &= moves();
+    answered &= tidied();
     return NULL;
 }
 

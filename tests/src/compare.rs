@@ -8,6 +8,7 @@ use crate::solver::line::LINE;
 use crate::solver::loops::{self, Found};
 #[cfg(feature = "calls")]
 use crate::solver::moves::{self, Carried, Move};
+use crate::solver::tidy::{self, Written};
 use crate::words;
 use std::collections::BTreeMap;
 use std::io::Write;
@@ -175,35 +176,60 @@ pub fn check(image: &[u8], tally: &mut Tally) -> Judged {
     judged
 }
 
-/// The loop call by both on a chain buffer of this length: what it found, or what differs.
-fn found(image: &[u8], room: usize, empty: Empty, guard: u8) -> Result<Found, String> {
-    let before = image.to_vec();
-    let filler = filler(room, guard);
-    let mut kit_chain = Guarded::new(&filler, guard);
-    let returned = kit::find_loop(empty, image, kit_chain.inner());
-    let found = loops::find(image, room);
-    let chain = found.chain.map_or(filler, |bytes| bytes.to_vec());
-    if returned != found.returned() {
-        let (number, extra) = (returned % 256, returned / 256);
-        return Err(format!("returned {number} + 256 * {extra}, the solver {} + 256 * {}", found.number, found.extra));
+/// A call that reads bytes and may fill the front of a buffer of this length: what differs from the number and the bytes expected.
+fn filled(
+    read: &[u8],
+    room: usize,
+    guard: u8,
+    (number, bytes): (u64, Option<&[u8]>),
+    call: impl FnOnce(&[u8], &mut [u8]) -> u64,
+) -> Result<(), String> {
+    let (before, mut left) = (read.to_vec(), filler(room, guard));
+    let mut buffer = Guarded::new(&left, guard);
+    let returned = call(read, buffer.inner());
+    if let Some(bytes) = bytes {
+        left[..bytes.len()].copy_from_slice(bytes);
     }
-    if kit_chain.inner() != chain.as_slice() {
-        return Err(format!("after answer {} the chain is {:?}, the solver's {chain:?}", found.number, kit_chain.inner()));
+    if returned != number {
+        let parts = |number: u64| format!("{} + 256 * {}", number % 256, number / 256);
+        return Err(format!("returned {}, the solver {}", parts(returned), parts(number)));
     }
-    if !kit_chain.guards_stand() || before != image {
-        return Err(format!("after answer {} bytes outside the chain changed", found.number));
+    if let Some(place) = (0..room).find(|place| buffer.inner()[*place] != left[*place]) {
+        let (kit, solver) = (buffer.inner()[place], left[place]);
+        return Err(format!("after answer {} byte {place} is {kit:02x}, the solver's {solver:02x}", number % 256));
     }
-    Ok(found)
+    if !buffer.guards_stand() || before != read {
+        return Err(format!("after answer {} bytes outside the buffer changed", number % 256));
+    }
+    Ok(())
 }
 
-/// The loop call by both; panics with a shrunk image if they differ.
-pub fn find_loop(image: &[u8], room: usize, empty: Empty, guard: u8) -> Found {
-    let differs = |image: &[u8]| found(image, room, empty, guard).is_err();
-    found(image, room, empty, guard).unwrap_or_else(|_| {
+/// A call over an image by both; panics with a shrunk image if they differ.
+fn over_image<T>(name: &str, image: &[u8], by_both: impl Fn(&[u8]) -> Result<T, String>) -> T {
+    by_both(image).unwrap_or_else(|_| {
         let mut small = image.to_vec();
-        shrink_image(&mut small, differs);
-        let text = found(&small, room, empty, guard).expect_err("the shrunk image still fails");
-        panic!("seed {}: the loop call on {room} bytes: {text}, on {}", seed(), image_text(&small));
+        shrink_image(&mut small, |image| by_both(image).is_err());
+        let text = by_both(&small).err().expect("the shrunk image still fails");
+        panic!("seed {}: {name}: {text}, on {}", seed(), image_text(&small));
+    })
+}
+
+/// The loop call by both on a chain buffer of this length; panics with a shrunk image if they differ.
+pub fn find_loop(image: &[u8], room: usize, empty: Empty, guard: u8) -> Found {
+    over_image(&format!("the loop call on {room} bytes"), image, |image| {
+        let found = loops::find(image, room);
+        let expected = (found.returned(), found.chain.as_ref().map(|bytes| &bytes[..]));
+        filled(image, room, guard, expected, |image, chain| kit::find_loop(empty, image, chain))?;
+        Ok(found)
+    })
+}
+
+/// The tidy call by both on a buffer of this length; panics with a shrunk image if they differ.
+pub fn tidy(image: &[u8], room: usize, empty: Empty, guard: u8) -> Written {
+    over_image(&format!("the tidy call on {room} bytes"), image, |image| {
+        let written = tidy::write(image, room);
+        filled(image, room, guard, (written.returned(), written.image.as_deref()), |image, out| kit::tidy(empty, image, out))?;
+        Ok(written)
     })
 }
 

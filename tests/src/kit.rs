@@ -8,6 +8,7 @@ mod raw {
     extern "C" {
         pub fn nutrameza_check(image: *const u8, image_len: usize) -> u64;
         pub fn nutrameza_loop(image: *const u8, image_len: usize, chain: *mut u8, chain_len: usize) -> u64;
+        pub fn nutrameza_tidy(image: *const u8, image_len: usize, out: *mut u8, out_len: usize) -> u64;
     }
 
     #[cfg(feature = "calls")]
@@ -126,6 +127,12 @@ pub fn check(empty: Empty, image: &[u8]) -> u64 {
 pub fn find_loop(empty: Empty, image: &[u8], chain: &mut [u8]) -> u64 {
     // SAFETY: each pointer and length are those of a slice, or NULL and 0; the slices do not overlap.
     unsafe { raw::nutrameza_loop(empty.read(image), image.len(), empty.write(chain), chain.len()) }
+}
+
+/// The tidy call.
+pub fn tidy(empty: Empty, image: &[u8], out: &mut [u8]) -> u64 {
+    // SAFETY: as in `find_loop`.
+    unsafe { raw::nutrameza_tidy(empty.read(image), image.len(), empty.write(out), out.len()) }
 }
 
 #[cfg(feature = "calls")]

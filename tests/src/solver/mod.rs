@@ -1,5 +1,5 @@
 //! A separate solver of the session kit, written from the papers (01 and 02) alone in plain sets and loops.
-//! The tests hold the kit against it: the answer, the extra, every byte of ledger, answer, chain and a move's target.
+//! The tests hold the kit against it: the answer, the extra, every byte of ledger, answer, chain, a move's target and a tidy image.
 
 pub mod calls;
 pub mod choice;
@@ -9,3 +9,4 @@ pub mod loops;
 pub mod moves;
 pub mod policy;
 pub mod script;
+pub mod tidy;
