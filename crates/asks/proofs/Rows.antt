@@ -23,11 +23,9 @@ use Rattle.model.proofs.Choices.{choice}
 use Rattle.model.proofs.SoundLaws.{sound-parts}
 use Rattle.sets.specs.Words.{values}
 use Rattle.tables.specs.Carried.{carriedRows}
-use Rattle.tables.specs.Holding.{Holding}
 use Rattle.sets.proofs.Unions.{values-at}
 use Rattle.tables.proofs.Carrying.{length-selves, wantedRow}
-use Rattle.tables.proofs.Holders.{named-by}
-use Rattle.query.specs.Carry.{rowsOf, Carry, Naming}
+use Rattle.query.specs.Carry.{rowsOf, Carry}
 use Rattle.query.specs.Rooms.{roomy}
 use Rattle.query.specs.Reduction.{Reduces}
 use Rattle.search.specs.Answer.{answered, Given}
@@ -50,13 +48,6 @@ row-is granted below wanted rows e r l h =
     ap (λ (b : Bool). pick b (unionAt granted (getD (withSelves below) r 0)) 0) (sym h)
     ∙ sym (getD-tableOf 64 (wantedRow granted (withSelves below) wanted) r l)
     ∙ ap (λ (x : List ℕ). getD x r 0) (sym e) ∙ values-at rows r
-
--- the holders of the wanted permissions' grants name a granting role exactly where the row holds the permission
-pub naming-of : (granted below holding : List ℕ) (lower own : ℕ) (rows : List (List ℕ)) → own < 2 ^ 64 → lower < 2 ^ 256
-    → values rows ≡ carriedRows granted below own → Holding granted lower holding → Naming (rowsOf rows) below holding lower own
-naming-of granted below holding lower own rows w v e h i m o want =
-    named-by (withSelves below) granted holding lower m i h (has-below 256 lower m v want) want
-    ∙ ap (λ (x : ℕ). has x m) (row-is granted below own rows e i (has-below 64 own i w o) o)
 
 pub carry-rows : (p : Policy) (u wanted : ℕ) (rows : List (List ℕ)) → wanted < 2 ^ 64
     → values rows ≡ carriedRows (p .granted) (belowTable p) wanted → Carry (meaning p u) wanted (rowsOf rows)

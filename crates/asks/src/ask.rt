@@ -7,7 +7,6 @@ ghost use Rattle.model.specs.Line.{SESSIONS, lineSize};
 ghost use Rattle.model.specs.Choice.{choose};
 ghost use Rattle.model.specs.Run.{stepOn, askBy};
 ghost use Rattle.sets.specs.Words.{value, values};
-ghost use Rattle.tables.specs.Carried.{carriedRows};
 ghost use Rattle.query.specs.Carry.{rowsOf};
 ghost use Rattle.search.specs.Answer.{answered};
 ghost use Rattle.calls.specs.Calls.{Known, lineOf};
@@ -34,8 +33,7 @@ pub struct Wanted {
     pub second: u8,
 }
 
-// The best admissible role set for session k of a line that meets every exclusion. The rows are what the grants and the closed table say
-// of the roles that the user may activate.
+// The best admissible role set for session k of a line that meets every exclusion, by the rows of the roles that the user may activate.
 fn best(
     rows: &[[u64; 4]; 64],
     authorized: u64,
@@ -44,11 +42,8 @@ fn best(
     l: Line,
     k: usize,
     wanted: Wanted,
-    granted: &[[u64; 4]; 64],
-    below: &[u64; 64],
 ) -> Choice
-    requires { ⌜ (count ≤ 32) × (k < SESSIONS) × (length (now xs) ≡ 32)
-        × (values (now rows) ≡ carriedRows (values (now granted)) (now below) authorized) ⌝ }
+    requires { ⌜ (count ≤ 32) × (k < SESSIONS) × (length (now xs) ≡ 32) ⌝ }
     ensures { λ r. ⌜ ((p : Policy) (u : ℕ) → Asked p u l authorized (exclusionsIn (now (xs .entry)) count) (rowsOf (now (rows .entry)))
         → answered r ≡ choose (meaning p u) l k (value (wanted .lower)) (value (wanted .upper)) (wanted .first) (wanted .second)) ⌝ }
 {
@@ -63,17 +58,7 @@ fn best(
         first: wanted.first,
         second: wanted.second,
     };
-    let holding = tables::holding::holding_of(granted, lower);
-    search::solve(
-        rows,
-        upper,
-        authorized,
-        &masks,
-        &rooms,
-        job,
-        below,
-        &holding,
-    )
+    search::solve(rows, upper, authorized, &masks, &rooms, job)
 }
 
 // The best admissible role set takes the place of the active roles of the session, on a line that meets every exclusion, and fills the
@@ -100,7 +85,7 @@ fn put_best(
     let u = window.user as usize;
     let k = window.session as usize;
     let l = line_of(ledger, u);
-    let choice = best(&rows, authorized, xs, count, l, k, wanted, granted, below);
+    let choice = best(&rows, authorized, xs, count, l, k, wanted);
     let Choice::Roles(s) = choice else {
         return 20;
     };

@@ -22,7 +22,7 @@ use Rattle.hierarchy.specs.Chained.{Ranged, Replies}
 use Rattle.hierarchy.proofs.Judging.{onLoop, on-loop}
 
 -- what fills a buffer is there whole
-filled-whole : (room bs : List ℕ) → 1 ≤ length bs → bs ≡ filledWith room bs
+pub filled-whole : (room bs : List ℕ) → 1 ≤ length bs → bs ≡ filledWith room bs
 unfolding filledWith
 filled-whole room [] l = absurd (omega arith)
 filled-whole room (b ∷ bs) l = refl

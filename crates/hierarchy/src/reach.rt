@@ -2,7 +2,6 @@
 ghost use mathlib.Core.Path.{_≡_};
 ghost use lib.ListN.{getD};
 ghost use Prim.Native.Nat.{_<_};
-ghost use Rattle.model.specs.Tests.{isSome};
 ghost use Rattle.model.specs.Sets.{has, unionAt};
 ghost use Rattle.model.specs.Policy.{withSelves, granterBy};
 ghost use Rattle.hierarchy.specs.Names.{nameOf};
@@ -49,14 +48,4 @@ pub fn granter(below: &[u64; 64], holding: u64, r: Role) -> Named
         return Named::Nobody;
     }
     Named::By(sets::lowest(both))
-}
-
-// A role is named.
-pub fn is_named(n: Named) -> bool
-    ensures { λ b. ⌜ b ≡ isSome (nameOf n) ⌝ }
-{
-    match n {
-        Named::By(_) => true,
-        Named::Nobody => false,
-    }
 }

@@ -3,3 +3,5 @@ pub mod Images
 pub mod Loops
 pub mod ShortAsks
 pub mod Tidying
+pub mod TableCalls
+pub mod SearchTable

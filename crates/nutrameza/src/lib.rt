@@ -11,6 +11,7 @@ ghost use Rattle.model.specs.Moves.{move, widened, narrowed};
 ghost use Rattle.model.specs.Run.{step, openBy, closeBy, showBy, askBy, shortAskBy, explainBy, returned, answered};
 ghost use Rattle.calls.specs.Calls.{Gives};
 ghost use Rattle.tidying.specs.Tidy.{tidyCall};
+ghost use Rattle.turned.specs.Calls.{tableCall, turnCall, unturnCall};
 use calls::given::Rules;
 use calls::given::Window;
 use model::Checked;
@@ -284,4 +285,40 @@ pub extern "C" fn nutrameza_narrow(image: &[u8], old: &[u8], new: &mut [u8]) -> 
         × (now (new .exit) ≡ narrowed (now (image .entry)) (now (old .entry)) (now (new .entry)) .ledger) ⌝ }
 {
     moved(image, old, new, 8, 4)
+}
+
+// Fills the buffer with the closed grant table: 32 bytes for each of 64 roles, the permissions that the role carries.
+#[no_mangle]
+pub extern "C" fn nutrameza_table(image: &[u8], table: &mut [u8]) -> u64
+    ensures { λ r. ⌜ (r ≡ returned (tableCall (now (image .entry)) (length (now (table .entry)))))
+        × (now (table .exit) ≡ answered (now (table .entry)) (tableCall (now (image .entry)) (length (now (table .entry))))) ⌝ }
+{
+    let mut authorized = [0u64; 64];
+    let mut granted = [[0u64; 4]; 64];
+    let mut below = [0u64; 64];
+    let mut xs = [[0u64; 2]; 32];
+    let all = tables::read::read(image, &mut authorized, &mut granted, &mut below, &mut xs);
+    let c = all.checked;
+    let Checked::Accepted(head) = c else {
+        return refusal_of(c);
+    };
+    turned::table::grant_table(&granted, &below, head.roles, table)
+}
+
+// Turns a table of 64 rows of 32 bytes into one of 256 rows of 8: bit p of row r goes to bit r of row p.
+#[no_mangle]
+pub extern "C" fn nutrameza_turn(source: &[u8], target: &mut [u8]) -> u64
+    ensures { λ r. ⌜ (r ≡ returned (turnCall (now (source .entry)) (length (now (target .entry)))))
+        × (now (target .exit) ≡ answered (now (target .entry)) (turnCall (now (source .entry)) (length (now (target .entry))))) ⌝ }
+{
+    turned::bytes::turn_bytes(source, target)
+}
+
+// Turns a table of 256 rows of 8 bytes back into one of 64 rows of 32: bit r of row p goes to bit p of row r.
+#[no_mangle]
+pub extern "C" fn nutrameza_unturn(source: &[u8], target: &mut [u8]) -> u64
+    ensures { λ r. ⌜ (r ≡ returned (unturnCall (now (source .entry)) (length (now (target .entry)))))
+        × (now (target .exit) ≡ answered (now (target .entry)) (unturnCall (now (source .entry)) (length (now (target .entry))))) ⌝ }
+{
+    turned::bytes::unturn_bytes(source, target)
 }

@@ -4,7 +4,8 @@ pub mod Ranks
 pub mod Bounds
 pub mod RoomLaws
 pub mod Walks
-pub mod Names
+pub mod Turned
+pub mod Marks
 pub mod Lacking
 pub mod Meanings
 pub mod Reductions

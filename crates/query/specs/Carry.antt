@@ -3,11 +3,11 @@
 use mathlib.Core.Path.{_≡_}
 use mathlib.Core.Bool.{Bool, true, false, _&&_}
 use mathlib.Core.List.{List, []}
-use Prim.Native.Nat.{ℕ, _≤_, _<_}
-use lib.ListN.{getD}
-use Rattle.model.specs.Tests.{isSome}
-use Rattle.model.specs.Sets.{has}
-use Rattle.model.specs.Policy.{Meaning, withSelves, granterBy}
+use Prim.Native.Nat.{ℕ, _+_, _*_, _≤_, _<_}
+use lib.ListN.{length, getD}
+use Rattle.model.specs.Tests.{pick, isSome}
+use Rattle.model.specs.Sets.{has, with}
+use Rattle.model.specs.Policy.{Policy, Meaning, granter}
 use Rattle.sets.specs.Words.{value}
 
 -- what role r carries, by rows of four words
@@ -18,11 +18,20 @@ rowsOf rows r = value (getD rows r [])
 abbrev pub Carry : Meaning → ℕ → (ℕ → ℕ) → Type 0
 Carry m s row = (r : ℕ) → has s r ≡ true → getD (m .carried) r 0 ≡ row r
 
--- by the closed table and the roles that hold each permission's grant, a role of the set has a granting role of a wanted permission
--- exactly if its row holds the permission
-abbrev pub Naming : (ℕ → ℕ) → List ℕ → List ℕ → ℕ → ℕ → Type 0
-Naming row below holding wanted s = (i p : ℕ) → has s i ≡ true → has wanted p ≡ true
-    → isSome (granterBy (withSelves below) (has (getD holding p 0)) i) ≡ has (row i) p
+-- ---- the turned table: for each wanted permission the roles of a set that carry it
+
+-- the set of a wanted permission has a role of s exactly if the role's row has the permission
+abbrev pub Turned : (ℕ → ℕ) → List ℕ → ℕ → ℕ → Type 0
+Turned row table wanted s = (i m : ℕ) → has s i ≡ true → has wanted m ≡ true → has (getD table m 0) i ≡ has (row i) m
+
+-- by a policy: exactly if the role has a granting role of the permission
+abbrev pub Named : Policy → List ℕ → ℕ → ℕ → Type 0
+Named p table wanted s = (i m : ℕ) → has s i ≡ true → has wanted m ≡ true → has (getD table m 0) i ≡ isSome (granter p m i)
+
+-- a table of 256 sets after role r joined those at the numbers 64 * q + k that pass the test
+pub record Marked (test : ℕ → ℕ → Bool) (r : ℕ) (before after : List ℕ) : Type 0 where
+  pub size : length after ≡ 256
+  pub sets : (q k : ℕ) → k < 64 → getD after (q * 64 + k) 0 ≡ pick (test q k) (with (getD before (q * 64 + k) 0) r) (getD before (q * 64 + k) 0)
 
 -- ---- sets
 

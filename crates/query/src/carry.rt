@@ -1,16 +1,14 @@
-// What roles carry: the roles within a bound, the roles that carry a permission, the permissions of a role set. A role set is walked
+// What roles carry: the roles within a bound, the permissions of a role set. A role set is walked
 // by its lowest member.
 ghost use mathlib.Core.Path.{_≡_};
 ghost use mathlib.Core.Bool.{false};
 ghost use Prim.Native.Nat.{_<_};
-ghost use Rattle.model.specs.Tests.{pick, isSome};
-ghost use Rattle.model.specs.Sets.{has, union, with as withOf, within};
-ghost use Rattle.model.specs.Policy.{Meaning, withSelves, granterBy};
+ghost use Rattle.model.specs.Tests.{pick};
+ghost use Rattle.model.specs.Sets.{union, with as withOf, within};
+ghost use Rattle.model.specs.Policy.{Meaning};
 ghost use Rattle.model.specs.Choice.{carriedBy};
 ghost use Rattle.sets.specs.Words.{value};
 ghost use Rattle.query.specs.Carry.{rowsOf, Carry, Keeps, Missing, Reaches};
-use hierarchy::reach::granter;
-use hierarchy::reach::is_named;
 use model::Permission;
 use model::Role;
 
@@ -35,21 +33,6 @@ pub fn usable(rows: &[[u64; 4]; 64], upper: [u64; 4], set: u64) -> u64
         let r = sets::lowest(left);
         let i = r.0 as usize;
         let next = joined(found, r, sets::perm_within(rows[i], upper));
-        found = next;
-        left = sets::without(left, r);
-    }
-    found
-}
-
-// The roles of a set that carry a permission, by the closed table and the roles that hold its grant: those that have a granting role.
-pub fn holders(below: &[u64; 64], holding: u64, set: u64) -> u64
-    ensures { λ s. ⌜ Keeps (λ i. isSome (granterBy (withSelves (now (below .entry))) (has holding) i)) set s ⌝ }
-{
-    let mut left = set;
-    let mut found: u64 = 0;
-    while left != 0 {
-        let r = sets::lowest(left);
-        let next = joined(found, r, is_named(granter(below, holding, r)));
         found = next;
         left = sets::without(left, r);
     }

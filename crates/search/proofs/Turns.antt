@@ -9,19 +9,17 @@ use native.Mathlib.Omega.{arith}
 use lib.Dec.{leb}
 use lib.ListN.{getD}
 use borrow.Author.Tests.{leb-true, leb-false}
-use Rattle.model.specs.Tests.{isSome}
 use Rattle.model.specs.Sets.{has, union, inter, with, within, count}
-use Rattle.model.specs.Policy.{withSelves, granterBy}
 use Rattle.model.proofs.Bools.{and-l, and-r, or-l, both}
 use Rattle.model.proofs.SetLaws.{has-union, has-inter}
 use Rattle.sets.specs.Members.{without, Lowest}
 use Rattle.sets.proofs.Taken.{count-without}
 use Rattle.query.specs.declared.rank.Best.{Best}
 use Rattle.query.specs.declared.rank.Job.{Job}
-use Rattle.query.specs.Carry.{rowsOf, Naming, Sub, Keeps, Missing, Reaches}
+use Rattle.query.specs.Carry.{rowsOf, Turned, Sub, Keeps, Missing, Reaches}
 use Rattle.query.specs.Ranks.{keyBy, rank, rankAt, Judged, Settled}
 use Rattle.query.proofs.Members.{sub-count, fewer-sub}
-use Rattle.query.proofs.Names.{keeps-named}
+use Rattle.query.proofs.Turned.{inter-keeps, keeps-turned}
 use Rattle.search.specs.Search.{Task, taskOf, carries, serves, rankOf, Ready, Modest, Found, Tried}
 use Rattle.search.proofs.Between.{fewer-within}
 use Rattle.search.proofs.Carried.{carried-sub, carried-with, carried-none, top-bound}
@@ -62,17 +60,20 @@ module _ (t : Task) (n chosen carried : ℕ) (a : Best) (ready : Ready t n chose
   short : w ≡ false → within (t .lower) (carries t chosen) ≡ false
   short e = ap (within (t .lower)) (sym (ready .carry)) ∙ sym judged ∙ e
 
-  -- the roles that carry a missing permission, those that have a granting role of it, were tried
-  pub goes-on : (below holding : List ℕ) (free p tries : ℕ) (r : Best) → w ≡ false → (within (t .lower) carried ≡ false → Missing (t .lower) carried p)
-      → Naming (t .row) below holding (t .lower) free → Keeps (λ i. isSome (granterBy (withSelves below) (has (getD holding p 0)) i)) free tries
-      → Tried t tries chosen free a r → Found t chosen free a r
-  goes-on below holding free p tries r e miss naming keeps tried =
+  -- the roles that carry a missing permission, by the turned table, were tried
+  pub goes-on : (table : List ℕ) (free p tries : ℕ) (r : Best) → w ≡ false → (within (t .lower) carried ≡ false → Missing (t .lower) carried p)
+      → Turned (t .row) table (t .lower) free → tries ≡ inter free (getD table p 0) → Tried t tries chosen free a r → Found t chosen free a r
+  goes-on table free p tries r e miss turned both-have tried =
       let m = miss (sym judged ∙ e) in
       taken-up t chosen free p tries a r (m .wanted) (ap (λ (c : ℕ). has c p) (sym (ready .carry)) ∙ m .lacking)
-      (λ i f h. keeps-named (t .row) below holding (t .lower) p free tries naming (m .wanted) keeps i ∙ both (has free i) (has (t .row i) p) f h) tried
+      (λ i f h. keeps-turned (t .row) table (t .lower) p free tries turned (m .wanted) (inter-keeps free (getD table p 0) tries both-have) i ∙ both (has free i) (has (t .row i) p) f h) tried
 
 pub keeps-sub : (test : ℕ → Bool) (s r : ℕ) → Keeps test s r → Sub r s
 keeps-sub test s r k i m = and-l (has s i) (test i) (sym (k i) ∙ m)
+
+-- the roles tried are free ones
+pub tries-sub : (free x tries : ℕ) → tries ≡ inter free x → Sub tries free
+tries-sub free x tries e = keeps-sub (has x) free tries (inter-keeps free x tries e)
 
 -- ---- a role taken up: with it, and without it
 module _ (t : Task) (n chosen carried role : ℕ) (ready : Ready t n chosen carried) where

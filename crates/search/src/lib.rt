@@ -7,12 +7,13 @@ ghost use Rattle.model.specs.Policy.{Meaning};
 ghost use Rattle.model.specs.Choice.{choose};
 ghost use Rattle.sets.specs.Words.{value};
 ghost use Rattle.query.specs.Rooms.{roomy};
-ghost use Rattle.query.specs.Carry.{rowsOf, Naming};
+ghost use Rattle.query.specs.Carry.{rowsOf};
 ghost use Rattle.search.specs.Search.{taskOf, Found};
 ghost use Rattle.search.specs.Answer.{answered, answerOf, noBest, Given};
 
 pub mod steps; // steps.rt: the steps of the two searches
 
+use query::carriers::carriers;
 use query::carry::reach;
 use query::carry::usable;
 use query::rank::Best;
@@ -39,17 +40,8 @@ fn answer(best: Best) -> Choice
 }
 
 // The best set of free roles, from the empty set, which the exclusions have room for: Procedure 3 unless an objective is the most.
-fn best_of(
-    rows: &[[u64; 4]; 64],
-    masks: &[u64; 32],
-    rooms: &[u32; 32],
-    job: Job,
-    free: u64,
-    below: &[u64; 64],
-    holding: &[u64; 256],
-) -> Best
-    requires { ⌜ (job .count ≤ 32) × (roomy (now masks) (now rooms) (job .count) 0 ≡ true)
-        × (Naming (rowsOf (now rows)) (now below) (now holding) (value (job .lower)) free) ⌝ }
+fn best_of(rows: &[[u64; 4]; 64], masks: &[u64; 32], rooms: &[u32; 32], job: Job, free: u64) -> Best
+    requires { ⌜ (job .count ≤ 32) × (roomy (now masks) (now rooms) (job .count) 0 ≡ true) ⌝ }
     ensures { λ r. ⌜ Found (taskOf (now (rows .entry)) (now (masks .entry)) (now (rooms .entry)) job) 0 free noBest r ⌝ }
 {
     let none = Best {
@@ -60,18 +52,9 @@ fn best_of(
     let second = job.second;
     if first < 2 {
         if second < 2 {
-            return permission_step(
-                rows,
-                masks,
-                rooms,
-                job,
-                free,
-                0,
-                [0u64; 4],
-                none,
-                below,
-                holding,
-            );
+            let lower = job.lower;
+            let turned = carriers(rows, free, lower);
+            return permission_step(rows, masks, rooms, job, free, 0, [0u64; 4], none, &turned);
         }
     }
     let from = reach(rows, free);
@@ -79,7 +62,7 @@ fn best_of(
 }
 
 // The best admissible role set, of the roles that the user may activate: at least the lower bound, nothing outside the upper, and
-// room under each exclusion. The closed table and the roles that hold each wanted permission's grant name the granting roles.
+// room under each exclusion.
 pub fn solve(
     rows: &[[u64; 4]; 64],
     upper: [u64; 4],
@@ -87,10 +70,8 @@ pub fn solve(
     masks: &[u64; 32],
     rooms: &[u32; 32],
     job: Job,
-    below: &[u64; 64],
-    holding: &[u64; 256],
 ) -> Choice
-    requires { ⌜ (job .count ≤ 32) × (Naming (rowsOf (now rows)) (now below) (now holding) (value (job .lower)) authorized) ⌝ }
+    requires { ⌜ job .count ≤ 32 ⌝ }
     ensures { λ r. ⌜ ((m : Meaning) (l : Line) (k : ℕ) → Given m l k authorized (rowsOf (now (rows .entry))) (roomy (now (masks .entry)) (now (rooms .entry)) (job .count)) → answered r ≡ choose m l k (value (job .lower)) (value upper) (job .first) (job .second)) ⌝ }
 {
     let count = job.count;
@@ -98,5 +79,5 @@ pub fn solve(
         return Choice::Nothing;
     }
     let free = usable(rows, upper, authorized);
-    answer(best_of(rows, masks, rooms, job, free, below, holding))
+    answer(best_of(rows, masks, rooms, job, free))
 }

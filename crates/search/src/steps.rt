@@ -1,10 +1,8 @@
-// The two searches. Each step is given the roles chosen so far with what they carry, the roles still free, and the best set so far. Whether
-// a role carries a permission is asked by the name of its granting role, with the closed table and the roles that hold each wanted
-// permission's grant.
+// The two searches. Each step is given the roles chosen so far with what they carry, the roles still free, and the best set so far. Which
+// roles carry a wanted permission is read off the turned table.
 ghost use Rattle.sets.specs.Words.{value};
-ghost use Rattle.query.specs.Carry.{rowsOf, Naming, Sub, Reaches};
+ghost use Rattle.query.specs.Carry.{rowsOf, Turned, Sub, Reaches};
 ghost use Rattle.search.specs.Search.{taskOf, Ready, Modest, Found, Tried};
-use query::carry::holders;
 use query::carry::missing;
 use query::rank::Best;
 use query::rank::Job;
@@ -25,10 +23,9 @@ pub fn permission_step(
     chosen: u64,
     carried: [u64; 4],
     best: Best,
-    below: &[u64; 64],
-    holding: &[u64; 256],
+    turned: &[u64; 256],
 ) -> Best
-    requires { ⌜ (Ready (taskOf (now rows) (now masks) (now rooms) job) (job .count) chosen (value carried)) × (Modest (taskOf (now rows) (now masks) (now rooms) job)) × (Naming (rowsOf (now rows)) (now below) (now holding) (value (job .lower)) free) ⌝ }
+    requires { ⌜ (Ready (taskOf (now rows) (now masks) (now rooms) job) (job .count) chosen (value carried)) × (Modest (taskOf (now rows) (now masks) (now rooms) job)) × (Turned (rowsOf (now rows)) (now turned) (value (job .lower)) free) ⌝ }
     ensures { λ r. ⌜ Found (taskOf (now (rows .entry)) (now (masks .entry)) (now (rooms .entry)) job) chosen free best r ⌝ }
 {
     let key = key_of(job, chosen, carried);
@@ -43,7 +40,7 @@ pub fn permission_step(
         };
     }
     let p = missing(lower, carried);
-    let tries = holders(below, holding[p.0 as usize], free);
+    let tries = sets::inter(free, turned[p.0 as usize]);
     role_step(
         rows,
         masks,
@@ -54,8 +51,7 @@ pub fn permission_step(
         chosen,
         carried,
         best,
-        below,
-        holding,
+        turned,
     )
 }
 
@@ -70,10 +66,9 @@ pub fn role_step(
     chosen: u64,
     carried: [u64; 4],
     best: Best,
-    below: &[u64; 64],
-    holding: &[u64; 256],
+    turned: &[u64; 256],
 ) -> Best
-    requires { ⌜ (Ready (taskOf (now rows) (now masks) (now rooms) job) (job .count) chosen (value carried)) × (Modest (taskOf (now rows) (now masks) (now rooms) job)) × (Sub tries free) × (Naming (rowsOf (now rows)) (now below) (now holding) (value (job .lower)) free) ⌝ }
+    requires { ⌜ (Ready (taskOf (now rows) (now masks) (now rooms) job) (job .count) chosen (value carried)) × (Modest (taskOf (now rows) (now masks) (now rooms) job)) × (Sub tries free) × (Turned (rowsOf (now rows)) (now turned) (value (job .lower)) free) ⌝ }
     ensures { λ r. ⌜ Tried (taskOf (now (rows .entry)) (now (masks .entry)) (now (rooms .entry)) job) tries chosen free best r ⌝ }
 {
     if tries == 0 {
@@ -95,24 +90,12 @@ pub fn role_step(
             chosen,
             carried,
             best,
-            below,
-            holding,
+            turned,
         );
     }
     let i = role.0 as usize;
     let sum = sets::perm_union(carried, rows[i]);
-    let next = permission_step(
-        rows,
-        masks,
-        rooms,
-        job,
-        less,
-        more,
-        sum,
-        best,
-        below,
-        holding,
-    );
+    let next = permission_step(rows, masks, rooms, job, less, more, sum, best, turned);
     role_step(
         rows,
         masks,
@@ -123,8 +106,7 @@ pub fn role_step(
         chosen,
         carried,
         next,
-        below,
-        holding,
+        turned,
     )
 }
 

@@ -5,5 +5,4 @@ pub mod Places
 pub mod Last
 pub mod Carrying
 pub mod Holders
-pub mod Marks
 pub mod Explaining

@@ -5,11 +5,8 @@ use borrow.Author.Needs.{needs}
 use borrow.Author.Tests.{not-true, not-false}
 use denote.Ref.{now}
 use Rattle.sets.specs.Words.{value}
-use Rattle.query.specs.Carry.{rowsOf}
 use Rattle.search.specs.Search.{taskOf}
 use Rattle.query.proofs.RoomLaws.{roomy-less}
-use Rattle.query.proofs.Names.{naming-sub}
-use Rattle.search.proofs.Turns.{keeps-sub}
 use Rattle.search.proofs.Solved.{is-chosen, none-chosen}
 use Rattle.search.proofs.solve.Statement.{statement}
 use Rattle.search.proofs.solve.Tie as tie
@@ -38,6 +35,6 @@ solve-spec =
     returns
     (λ c κs. search needs)
     (λ c κs. let s = c .before .before .before in
-    (s .pre .0, sym (c .before .before .room-for .ensures) ∙ not-false _ (c .before .if1 .left), naming-sub (rowsOf (now (s .args .rows))) (now (s .args .below)) (now (s .args .holding)) (value (s .args .job .lower)) (s .args .authorized) (c .usable .result) (s .pre .1) (keeps-sub _ (s .args .authorized) (c .usable .result) (c .usable .ensures))))
+    (s .pre, sym (c .before .before .room-for .ensures) ∙ not-false _ (c .before .if1 .left)))
     (λ c κs. search needs)
     returns-2)

@@ -3,25 +3,16 @@
 use borrow.Author.Needs.{needs}
 use Rattle.model.specs.Policy.{meaning}
 use Rattle.rows.specs.Rows.{exclusionsIn}
-use Rattle.sets.specs.Words.{value, values}
-use Rattle.sets.proofs.Machine.{value-lt}
-use Rattle.asks.proofs.Rows.{naming-of, given-of}
+use Rattle.asks.proofs.Rows.{given-of}
 use Rattle.asks.proofs.ask.best.Statement.{statement}
 use Rattle.asks.proofs.ask.best.Tie as tie
-
-solve-requires : tie.Need-solve-requires
-solve-requires c κs =
-    let s = c .before .before .before .before .before .before .before .before .before in
-    let a = s .args in
-    let lt = value-lt (a .wanted .lower) (search needs) in
-    (search needs, naming-of (values (a .granted .now)) (a .below .now) (c .before .before .before .holding-of .result) (value (a .wanted .lower)) (a .authorized) (a .rows .now) (s .fits .authorized .fits) lt (s .pre .3) (c .before .before .before .holding-of .ensures))
 
 returns : tie.Need-returns
 unfolding exclusionsIn
 returns c p u g =
-    let d = c .before .before .before .before .before .before .before .before .before .reduce .ensures in
-    let a = c .before .before .before .before .before .before .before .before .before .before .args in
+    let d = c .before .before .before .before .before .before .before .reduce .ensures in
+    let a = c .before .before .before .before .before .before .before .before .args in
     c .solve .ensures (meaning p u) (a .l) (a .k) (given-of p u (a .authorized) (exclusionsIn (a .xs .now) (a .count)) (a .l) (a .k) _ _ _ _ (d .0) (d .1) g)
 
 pub best-spec : {M : Type 1} → statement M
-best-spec = tie.close (tie.spec (λ c κs. search needs) (λ c κs. search needs) solve-requires returns)
+best-spec = tie.close (tie.spec (λ c κs. search needs) (λ c κs. search needs) returns)

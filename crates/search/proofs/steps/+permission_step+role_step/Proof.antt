@@ -14,19 +14,19 @@ use Rattle.sets.specs.Words.{value}
 use Rattle.query.specs.Carry.{rowsOf}
 use Rattle.search.specs.Search.{taskOf}
 use Rattle.query.proofs.RoomLaws.{roomy-less}
-use Rattle.query.proofs.Names.{naming-less}
-use Rattle.search.proofs.Turns.{gives-up, reaches, goes-on, keeps-sub, runs-out, barred-sub, ready-more, tries-on, tries-off, wanted, wanted-less, roles-less}
+use Rattle.query.proofs.Turned.{turned-less}
+use Rattle.search.proofs.Turns.{gives-up, reaches, goes-on, tries-sub, runs-out, barred-sub, ready-more, tries-on, tries-off, wanted, wanted-less, roles-less}
 use Rattle.search.proofs.steps.permission_step.Reads as permission-step
 use Rattle.search.proofs.steps.permission_step.Kinds as permission-step-kinds
 use Rattle.search.proofs.steps.+permission_step+role_step.Lts-permission_step as permission-step-lts
 use Rattle.search.proofs.steps.role_step.Reads as role-step
 use Rattle.search.proofs.steps.role_step.Kinds as role-step-kinds
 use Rattle.search.proofs.steps.+permission_step+role_step.Lts-role_step as role-step-lts
-use Rattle.query.proofs.carry.holders.Reads as holders-reads
 use Rattle.query.proofs.carry.missing.Reads as missing-reads
 use Rattle.query.proofs.rank.key_of.Reads as key-of-reads
 use Rattle.query.proofs.rank.no_worse.Reads as no-worse-reads
 use Rattle.query.proofs.rooms.room_for.Reads as room-for-reads
+use Rattle.sets.proofs.inter.Reads as inter-reads
 use Rattle.sets.proofs.lowest.Reads as lowest-reads
 use Rattle.sets.proofs.perm_union.Reads as perm-union-reads
 use Rattle.sets.proofs.perm_within.Reads as perm-within-reads
@@ -35,23 +35,23 @@ use Rattle.sets.proofs.without.Reads as without-reads
 use Rattle.search.proofs.steps.+permission_step+role_step.{statement}
 use Rattle.search.proofs.steps.+permission_step+role_step.Tie.{close}
 
-abbrev μ-permission-step : Measures 5 permission-step-kinds.ps ℕ
+abbrev μ-permission-step : Measures 4 permission-step-kinds.ps ℕ
 μ-permission-step κs a = wanted (value (a .1 .1 .1 .0 .lower)) (value (a .1 .1 .1 .1 .1 .1 .0)) + 2 * count 64 (a .1 .1 .1 .1 .0) + 1
 
-abbrev μ-role-step : Measures 5 role-step-kinds.ps ℕ
+abbrev μ-role-step : Measures 4 role-step-kinds.ps ℕ
 μ-role-step κs a = wanted (value (a .1 .1 .1 .0 .lower)) (value (a .1 .1 .1 .1 .1 .1 .1 .0)) + 2 * count 64 (a .1 .1 .1 .1 .1 .0)
 
-abbrev permission-step-at : ℕ → In 5 permission-step-kinds.ps
-permission-step-at t = and 5 permission-step-kinds.ps (is 5 permission-step-kinds.ps μ-permission-step t) permission-step.Pre
+abbrev permission-step-at : ℕ → In 4 permission-step-kinds.ps
+permission-step-at t = and 4 permission-step-kinds.ps (is 4 permission-step-kinds.ps μ-permission-step t) permission-step.Pre
 
-abbrev permission-step-below : ℕ → In 5 permission-step-kinds.ps
-permission-step-below t = and 5 permission-step-kinds.ps (falls 5 permission-step-kinds.ps _<_ μ-permission-step t) permission-step.Pre
+abbrev permission-step-below : ℕ → In 4 permission-step-kinds.ps
+permission-step-below t = and 4 permission-step-kinds.ps (falls 4 permission-step-kinds.ps _<_ μ-permission-step t) permission-step.Pre
 
-abbrev role-step-at : ℕ → In 5 role-step-kinds.ps
-role-step-at t = and 5 role-step-kinds.ps (is 5 role-step-kinds.ps μ-role-step t) role-step.Pre
+abbrev role-step-at : ℕ → In 4 role-step-kinds.ps
+role-step-at t = and 4 role-step-kinds.ps (is 4 role-step-kinds.ps μ-role-step t) role-step.Pre
 
-abbrev role-step-below : ℕ → In 5 role-step-kinds.ps
-role-step-below t = and 5 role-step-kinds.ps (falls 5 role-step-kinds.ps _<_ μ-role-step t) role-step.Pre
+abbrev role-step-below : ℕ → In 4 role-step-kinds.ps
+role-step-below t = and 4 role-step-kinds.ps (falls 4 role-step-kinds.ps _<_ μ-role-step t) role-step.Pre
 
 pub +permission-step+role-step-spec : {M : Type 1} → statement M
 +permission-step+role-step-spec =
@@ -64,8 +64,8 @@ pub +permission-step+role-step-spec : {M : Type 1} → statement M
       perm-within-reads.Learnt,
       missing-reads.Asked,
       missing-reads.Learnt,
-      holders-reads.Asked,
-      holders-reads.Learnt,
+      inter-reads.Asked,
+      inter-reads.Learnt,
       role-step-below t,
       role-step.Post,
     )
@@ -86,13 +86,13 @@ pub +permission-step+role-step-spec : {M : Type 1} → statement M
     (λ c. search needs)
     (λ c κs. search needs)
     (λ c κs. let s = c .before .before .before .before .before .before .before .before .before .before in
-    (omega (arith, s .pre .0), (s .pre .1 .0, s .pre .1 .1, keeps-sub _ (s .args .free) (c .holders .result) (c .holders .ensures), s .pre .1 .2)))
+    (omega (arith, s .pre .0), (s .pre .1 .0, s .pre .1 .1, tries-sub (s .args .free) _ (c .inter .result) (c .inter .ensures), s .pre .1 .2)))
     (λ c. let h = c .before in
     let m = h .before .before .before in
     let w = m .before .before in
     let s = w .before .before .before .before .before in
     let g = s .args in
-    goes-on (taskOf (now (g .rows)) (now (g .masks)) (now (g .rooms)) (g .job)) (g .job .count) (g .chosen) (value (g .carried)) (g .best) (s .pre .1 .0) _ (w .perm-within .ensures) (now (g .below)) (now (g .holding)) (g .free) (m .missing .result .0) (h .holders .result) _ (m .before .if2 .left) (m .missing .ensures) (s .pre .1 .2) (h .holders .ensures) (c .role-step .ensures)))
+    goes-on (taskOf (now (g .rows)) (now (g .masks)) (now (g .rooms)) (g .job)) (g .job .count) (g .chosen) (value (g .carried)) (g .best) (s .pre .1 .0) _ (w .perm-within .ensures) (now (g .turned)) (g .free) (m .missing .result .0) (h .inter .result) _ (m .before .if2 .left) (m .missing .ensures) (s .pre .1 .2) (h .inter .ensures) (c .role-step .ensures)))
     λ t. role-step-lts.spec (
       lowest-reads.Asked,
       lowest-reads.Learnt,
@@ -123,7 +123,7 @@ pub +permission-step+role-step-spec : {M : Type 1} → statement M
     let g = s .args in
     let low = l .lowest .ensures in (
       omega (arith, s .pre .0, roles-less (g .free) (l .lowest .result .0) (f .without2 .result) (s .fits .free .fits) (low .small) (s .pre .1 .2 (l .lowest .result .0) (low .member)) (f .without2 .ensures)),
-      (s .pre .1 .0, s .pre .1 .1, barred-sub (g .tries) (g .free) (l .lowest .result .0) (f .before .without .result) (f .without2 .result) (s .pre .1 .2) (low .member) (f .before .without .ensures) (f .without2 .ensures), naming-less (rowsOf (now (g .rows))) (now (g .below)) (now (g .holding)) (value (g .job .lower)) (g .free) (f .without2 .result) (l .lowest .result .0) (s .pre .1 .3) (s .pre .1 .2 (l .lowest .result .0) (low .member)) (f .without2 .ensures)),
+      (s .pre .1 .0, s .pre .1 .1, barred-sub (g .tries) (g .free) (l .lowest .result .0) (f .before .without .result) (f .without2 .result) (s .pre .1 .2) (low .member) (f .before .without .ensures) (f .without2 .ensures), turned-less (rowsOf (now (g .rows))) (now (g .turned)) (value (g .job .lower)) (g .free) (f .without2 .result) (l .lowest .result .0) (s .pre .1 .3) (s .pre .1 .2 (l .lowest .result .0) (low .member)) (f .without2 .ensures)),
     ))
     (λ c. let w = c .before .before .before in
     let f = w .before in
@@ -144,7 +144,7 @@ pub +permission-step+role-step-spec : {M : Type 1} → statement M
     let g = s .args in
     let low = l .lowest .ensures in (
       omega (arith, s .pre .0, roles-less (g .free) (l .lowest .result .0) (f .without2 .result) (s .fits .free .fits) (low .small) (s .pre .1 .2 (l .lowest .result .0) (low .member)) (f .without2 .ensures), wanted-less (value (g .job .lower)) (value (g .carried)) _ (value (c .perm-union .result)) (c .perm-union .ensures)),
-      (ready-more (taskOf (now (g .rows)) (now (g .masks)) (now (g .rooms)) (g .job)) (g .job .count) (g .chosen) (value (g .carried)) (l .lowest .result .0) (s .pre .1 .0) _ _ _ _ (low .small) (w .with .ensures) (c .perm-union .ensures) refl (i .before .room-for .ensures) (not-false _ (i .if2 .left)), s .pre .1 .1, naming-less (rowsOf (now (g .rows))) (now (g .below)) (now (g .holding)) (value (g .job .lower)) (g .free) (f .without2 .result) (l .lowest .result .0) (s .pre .1 .3) (s .pre .1 .2 (l .lowest .result .0) (low .member)) (f .without2 .ensures)),
+      (ready-more (taskOf (now (g .rows)) (now (g .masks)) (now (g .rooms)) (g .job)) (g .job .count) (g .chosen) (value (g .carried)) (l .lowest .result .0) (s .pre .1 .0) _ _ _ _ (low .small) (w .with .ensures) (c .perm-union .ensures) refl (i .before .room-for .ensures) (not-false _ (i .if2 .left)), s .pre .1 .1, turned-less (rowsOf (now (g .rows))) (now (g .turned)) (value (g .job .lower)) (g .free) (f .without2 .result) (l .lowest .result .0) (s .pre .1 .3) (s .pre .1 .2 (l .lowest .result .0) (low .member)) (f .without2 .ensures)),
     ))
     (λ c κs. let f = c .before .before .before .before .before .before .before in
     let l = f .before .before in
@@ -152,7 +152,7 @@ pub +permission-step+role-step-spec : {M : Type 1} → statement M
     let g = s .args in
     let low = l .lowest .ensures in (
       omega (arith, s .pre .0, roles-less (g .free) (l .lowest .result .0) (f .without2 .result) (s .fits .free .fits) (low .small) (s .pre .1 .2 (l .lowest .result .0) (low .member)) (f .without2 .ensures)),
-      (s .pre .1 .0, s .pre .1 .1, barred-sub (g .tries) (g .free) (l .lowest .result .0) (f .before .without .result) (f .without2 .result) (s .pre .1 .2) (low .member) (f .before .without .ensures) (f .without2 .ensures), naming-less (rowsOf (now (g .rows))) (now (g .below)) (now (g .holding)) (value (g .job .lower)) (g .free) (f .without2 .result) (l .lowest .result .0) (s .pre .1 .3) (s .pre .1 .2 (l .lowest .result .0) (low .member)) (f .without2 .ensures)),
+      (s .pre .1 .0, s .pre .1 .1, barred-sub (g .tries) (g .free) (l .lowest .result .0) (f .before .without .result) (f .without2 .result) (s .pre .1 .2) (low .member) (f .before .without .ensures) (f .without2 .ensures), turned-less (rowsOf (now (g .rows))) (now (g .turned)) (value (g .job .lower)) (g .free) (f .without2 .result) (l .lowest .result .0) (s .pre .1 .3) (s .pre .1 .2 (l .lowest .result .0) (low .member)) (f .without2 .ensures)),
     ))
     (λ c. let i = c .before .before .before .before .before in
     let w = i .before .before in

@@ -1,17 +1,17 @@
--- `tables::holding::mark_word` meets its contract. The loop's invariant: role r has joined at the bits before those to come.
+-- `query::carriers::mark_word` meets its contract. The loop's invariant: role r has joined at the bits before those to come.
 -- Assumes nothing.
 use mathlib.Core.Path.{refl}
 use borrow.Author.Needs.{needs}
 use Rattle.model.specs.Sets.{count}
-use Rattle.tables.proofs.Marks.{Marks, marks-start, marks-next, marks-less, marks-end}
-use Rattle.tables.proofs.holding.mark_word.Statement.{statement}
-use Rattle.tables.proofs.holding.mark_word.Tie as tie
+use Rattle.query.proofs.Marks.{Marks, marks-start, marks-next, marks-less, marks-end}
+use Rattle.query.proofs.carriers.mark_word.Statement.{statement}
+use Rattle.query.proofs.carriers.mark_word.Tie as tie
 
 abbrev Inv-loop : tie.InvT-loop
-Inv-loop holding₀ place word r left₀ holding left = Marks place word (r .0) holding₀ left holding
+Inv-loop table₀ place word r left₀ table left = Marks place word (r .0) table₀ left table
 
 abbrev μ-loop : tie.MeasureT-loop
-μ-loop holding₀ place word r left₀ holding left = count 64 left
+μ-loop table₀ place word r left₀ table left = count 64 left
 
 loop-holds : tie.Need-loop-holds Inv-loop μ-loop
 loop-holds c = marks-start _ _ _ _ (c .fits .word .fits) (c .pre .2)
@@ -23,10 +23,10 @@ loop-again : tie.Need-loop-again Inv-loop μ-loop
 loop-again c =
     let w = c .before .before .before .before in
     let l = w .before .before in
-    marks-next _ _ _ _ (l .loop .left) (w .lowest .result .0) _ (l .loop .holding) (l .loop .inv) (w .lowest .ensures) (c .without .ensures) (l .before .pre .0) _ _ refl (c .before .with .ensures)
+    marks-next _ _ _ _ (l .loop .left) (w .lowest .result .0) _ (l .loop .table) (l .loop .inv) (w .lowest .ensures) (c .without .ensures) (l .before .pre .0) _ _ refl (c .before .with .ensures)
 
 returns : tie.Need-returns Inv-loop μ-loop
-returns c = marks-end _ _ _ _ (c .before .loop .left) (c .before .loop .holding) (c .loop-test .left) (c .before .loop .inv)
+returns c = marks-end _ _ _ _ (c .before .loop .left) (c .before .loop .table) (c .loop-test .left) (c .before .loop .inv)
 
 pub mark-word-spec : {M : Type 1} → statement M
 mark-word-spec =

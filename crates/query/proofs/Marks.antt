@@ -1,8 +1,8 @@
--- The turns of the loops that fill the table of the roles that hold the grants of wanted permissions.
+-- The turns of the loops that fill the turned table, of the roles that carry each wanted permission.
 -- Assumes nothing.
-use mathlib.Core.Path.{_≡_, refl, sym, ap, ap₂, _∙_}
+use mathlib.Core.Path.{_≡_, refl, sym, ap, ap₂, subst, _∙_}
 use mathlib.Core.Bool.{Bool, true, false, _&&_, not}
-use mathlib.Core.List.{List, []}
+use mathlib.Core.List.{List}
 use Prim.Native.Nat.{ℕ, _+_, _*_, _/_, _%_, _^_, _≤_, _<_, zero-le}
 use native.Mathlib.Omega.{arith}
 use native.Mathlib.Decide.{decLt}
@@ -14,17 +14,20 @@ use lib.ListN.{length, getD, set, replicate, length-set, getD-replicate}
 use lib.Seq.{getD-set-same, getD-set-other}
 use borrow.Author.Tests.{eqb-true, eqb-false, lt-ltb, le-ltb, ltb-true}
 use Rattle.model.specs.Tests.{pick}
-use Rattle.model.specs.Sets.{has, inter, with, count, setOf}
+use Rattle.model.specs.Sets.{has, inter, with, count}
+use Rattle.model.specs.Policy.{Policy, meaning}
+use Rattle.model.specs.Ranges.{InRange}
 use Rattle.model.proofs.Bools.{and-l, both, bool-ext}
 use Rattle.model.proofs.SetLaws.{has-inter}
-use Rattle.model.proofs.UnionLaws.{has-none}
+use Rattle.model.proofs.UnionLaws.{has-none, has-below}
+use Rattle.model.proofs.Closure.{carried-named}
 use Rattle.sets.specs.Members.{without, Lowest}
-use Rattle.sets.specs.Words.{value, values, Splits}
+use Rattle.sets.specs.Words.{value, Splits}
 use Rattle.sets.proofs.Machine.{value-has}
 use Rattle.sets.proofs.Taken.{has-without, without-gone, without-other, without-lt, count-without}
-use Rattle.sets.proofs.Unions.{values-at}
-use Rattle.hierarchy.proofs.Looping.{setOf-next}
-use Rattle.tables.specs.Holding.{holdersOf, Marked, Holding}
+use Rattle.query.specs.Carry.{Carry, Sub, Turned, Named, Marked}
+use Rattle.query.proofs.Members.{fewer-sub}
+use Rattle.query.proofs.Walks.{Walk, walk-starts, walk-next, walk-ends}
 
 -- the set at 64 * q + k, with role r where the test passes
 abbrev joinedAt : List ℕ → ℕ → ℕ → ℕ → Bool → ℕ
@@ -204,40 +207,63 @@ row-end row wanted fit fit′ r place before after a b w =
 
 -- ---- the table, role by role
 
--- the roles below n have joined
-pub record Held (granted : List (List ℕ)) (wanted n : ℕ) (table : List ℕ) : Type 0 where
+-- of the set s the roles of left are still to come, and those before them have joined at the wanted permissions of their rows
+pub record Joined (row : ℕ → ℕ) (wanted s left : ℕ) (table : List ℕ) : Type 0 where
   pub size : length table ≡ 256
-  pub sets : (q k : ℕ) → q < 4 → k < 64
-      → getD table (q * 64 + k) 0 ≡ setOf (λ g. has (getD (values granted) g 0) (q * 64 + k) && has wanted (q * 64 + k)) n
+  pub inside : Sub left s
+  pub sets : (q k : ℕ) → q < 4 → k < 64 → Walk (λ i. has (row i) (q * 64 + k) && has wanted (q * 64 + k)) s left (getD table (q * 64 + k) 0)
 
-module _ (granted : List (List ℕ)) (wanted : ℕ) where
-  pub held-start : Held granted wanted 0 (replicate 256 0)
-  unfolding setOf
-  held-start = record { size = refl; sets = λ q k a b. getD-replicate 256 (q * 64 + k) 0 0 (omega arith) }
+module _ (row : ℕ → ℕ) (wanted s : ℕ) where
+  -- the test of the set at 64 * q + k
+  abbrev test : ℕ → ℕ → ℕ → Bool
+  test q k i = has (row i) (q * 64 + k) && has wanted (q * 64 + k)
 
-  pub held-next : (n : ℕ) (table after row : List ℕ) → Held granted wanted n table → row ≡ getD granted n []
-      → Marked (λ q k. ltb q 4 && (has (value row) (q * 64 + k) && has wanted (q * 64 + k))) n table after → Held granted wanted (n + 1) after
-  held-next n table after row w er m = record { size = m .size; sets = λ q k a b. next q k a b }
+  pub joined-start : Joined row wanted s s (replicate 256 0)
+  joined-start =
+      record {
+        size = refl;
+        inside = λ i m. m;
+        sets = λ q k a b. subst (Walk (test q k) s s) (sym (getD-replicate 256 (q * 64 + k) 0 0 (omega arith))) (walk-starts (test q k) s);
+      }
+
+  -- the lowest role to come joins
+  pub joined-next : (left r less : ℕ) (table after cells : List ℕ) → Joined row wanted s left table → has left r ≡ true → less ≡ without left r
+      → value cells ≡ row r → Marked (λ q k. ltb q 4 && (has (value cells) (q * 64 + k) && has wanted (q * 64 + k))) r table after
+      → Joined row wanted s less after
+  joined-next left r less table after cells w h el er m =
+      rw el
+      (record {
+        size = m .size;
+        inside = λ i n. w .inside i (fewer-sub left r h i n);
+        sets = λ q k a b.
+            subst (Walk (test q k) s (without left r)) (sym (stored q k a b)) (walk-next (test q k) s left (getD table (q * 64 + k) 0) r h (w .sets q k a b));
+      })
     where
-      next : (q k : ℕ) → q < 4 → k < 64
-          → getD after (q * 64 + k) 0 ≡ setOf (λ g. has (getD (values granted) g 0) (q * 64 + k) && has wanted (q * 64 + k)) (n + 1)
-      next q k a b =
-          setOf-next (λ g. has (getD (values granted) g 0) (q * 64 + k) && has wanted (q * 64 + k)) n (getD table (q * 64 + k) 0) (getD after (q * 64 + k) 0)
-          (w .sets q k a b)
-          (m .sets q k b
-          ∙ ap (λ (t : Bool). pick t (with (getD table (q * 64 + k) 0) n) (getD table (q * 64 + k) 0))
-          (ap (λ (t : Bool). t && (has (value row) (q * 64 + k) && has wanted (q * 64 + k))) (lt-ltb q 4 a)
-          ∙ ap (λ (x : ℕ). has x (q * 64 + k) && has wanted (q * 64 + k)) (ap value er ∙ sym (values-at granted n))))
+      stored : (q k : ℕ) → q < 4 → k < 64
+          → getD after (q * 64 + k) 0 ≡ pick (test q k r) (with (getD table (q * 64 + k) 0) r) (getD table (q * 64 + k) 0)
+      stored q k a b =
+          m .sets q k b
+          ∙ ap (joinedAt table r q k)
+          (ap (λ (t : Bool). t && (has (value cells) (q * 64 + k) && has wanted (q * 64 + k))) (lt-ltb q 4 a)
+          ∙ ap (λ (x : ℕ). has x (q * 64 + k) && has wanted (q * 64 + k)) er)
 
-  pub held-end : (n : ℕ) (table : List ℕ) → n ≤ 64 → 64 ≤ n → Held granted wanted n table → Holding (values granted) wanted table
-  unfolding holdersOf
-  held-end n table a b w m l e =
+  -- at last no role is to come
+  pub joined-end : (left : ℕ) (table : List ℕ) → left ≡ 0 → wanted < 2 ^ 256 → Joined row wanted s left table → Turned row table wanted s
+  joined-end left table z v w i m e want =
       let d : m / 64 * 64 + m % 64 ≡ m = div-add-mod' m 64 in
-      ap (λ (x : ℕ). getD table x 0) (sym d) ∙ w .sets (m / 64) (m % 64) (omega arith) (mod-lt m (lit< tt))
-      ∙ ap (λ (x : ℕ). setOf (λ g. has (getD (values granted) g 0) x && has wanted x) n) d
-      ∙ ap₂ (λ (t : Bool) (x : ℕ). setOf (λ g. has (getD (values granted) g 0) m && t) x) e (le-antisymm a b)
-      ∙ ap (λ (f : ℕ → Bool). setOf f 64) (λ i g. whole (has (getD (values granted) g 0) m) i)
+      let l : m < 256 = has-below 256 wanted m v want in
+      ap (λ (x : ℕ). has (getD table x 0) i) (sym d)
+      ∙ walk-ends (test (m / 64) (m % 64)) s left (getD table (m / 64 * 64 + m % 64) 0) z (w .sets (m / 64) (m % 64) (omega arith) (mod-lt m (lit< tt))) i
+      ∙ ap (λ (x : ℕ). has s i && (has (row i) x && has wanted x)) d
+      ∙ ap₂ (λ (x y : Bool). x && (has (row i) m && y)) e want ∙ whole (has (row i) m)
     where
-      whole : (t : Bool) → (t && true) ≡ t
+      whole : (t : Bool) → (true && (t && true)) ≡ t
       whole true = refl
       whole false = refl
+
+-- where the policy's roles carry their rows, the sets are of the roles that have a granting role
+pub named-of : (p : Policy) (u : ℕ) (row : ℕ → ℕ) (table : List ℕ) (wanted s : ℕ) → InRange p → Carry (meaning p u) s row
+    → Turned row table wanted s → Named p table wanted s
+unfolding meaning
+named-of p u row table wanted s range carry t i m e want =
+    t i m e want ∙ ap (λ (x : ℕ). has x m) (sym (carry i e)) ∙ carried-named p range i m

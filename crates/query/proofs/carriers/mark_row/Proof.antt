@@ -1,19 +1,19 @@
--- `tables::holding::mark_row` meets its contract. The loop's invariant: role r has joined by the words so far.
+-- `query::carriers::mark_row` meets its contract. The loop's invariant: role r has joined by the words so far.
 -- Assumes nothing.
 use Prim.Native.Nat.{_≤_, _-_}
 use native.Mathlib.Omega.{arith}
 use lib.ListN.{getD}
 use borrow.Author.Needs.{needs}
 use Rattle.model.specs.Sets.{inter}
-use Rattle.tables.proofs.Marks.{Rowed, row-start, row-next, row-end}
-use Rattle.tables.proofs.holding.mark_row.Statement.{statement}
-use Rattle.tables.proofs.holding.mark_row.Tie as tie
+use Rattle.query.proofs.Marks.{Rowed, row-start, row-next, row-end}
+use Rattle.query.proofs.carriers.mark_row.Statement.{statement}
+use Rattle.query.proofs.carriers.mark_row.Tie as tie
 
 abbrev Inv-loop : tie.InvT-loop
-Inv-loop holding₀ r row wanted place₀ holding place = (place ≤ 4) × Rowed (λ q. inter (getD row q 0) (getD wanted q 0)) (r .0) holding₀ place holding
+Inv-loop table₀ r row wanted place₀ table place = (place ≤ 4) × Rowed (λ q. inter (getD row q 0) (getD wanted q 0)) (r .0) table₀ place table
 
 abbrev μ-loop : tie.MeasureT-loop
-μ-loop holding₀ r row wanted place₀ holding place = 4 - place
+μ-loop table₀ r row wanted place₀ table place = 4 - place
 
 loop-holds : tie.Need-loop-holds Inv-loop μ-loop
 loop-holds c = (omega arith, row-start _ _ _ (c .pre .1))
