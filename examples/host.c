@@ -1,5 +1,5 @@
-/* A small clinic against include/nutrameza.h: the windows of one doctor under the ward's policy (01, image A), and its ledger
- * carried over from four windows and back.
+/* A small clinic against include/nutrameza.h: the windows of one doctor under the ward's policy (01, image A), its ledger carried over
+ * from four windows and back, its policy compared with another and reviewed.
  *
  *     cc -std=c99 -Wall -Wextra -Werror -Iinclude examples/host.c target/staticlib/libnutrameza.a -o host && ./host
  *
@@ -208,6 +208,30 @@ static void comparing(void)
     answered("tidy it into a buffer that is too small", nutrameza_tidy(saved, sizeof saved, tidy, sizeof tidy - 1), NUTRAMEZA_ROOM, 0);
 }
 
+/* A review of who carries what: the table by roles, and turned by permissions. */
+static void reviewing(void)
+{
+    uint8_t table[NUTRAMEZA_TABLE_BYTES], turned[NUTRAMEZA_TABLE_BYTES], back[NUTRAMEZA_TABLE_BYTES];
+
+    answered("fill the table of who carries what", nutrameza_table(image, sizeof image, table, sizeof table), NUTRAMEZA_DONE, 0);
+    answered("turn it", nutrameza_turn(table, sizeof table, turned, sizeof turned), NUTRAMEZA_DONE, 0);
+    for (unsigned permission = 0; permission < 5; permission++) {
+        printf("    %s:", permission_names[permission]);
+        for (unsigned role = 0; role < 2; role++) {
+            int carries = (int)(nutrameza_turned_roles(turned, permission) >> role & 1);
+            printf("%s%s", carries ? " " : "", carries ? role_names[role] : "");
+            wrong |= carries != nutrameza_table_has(table, role, permission);
+        }
+        printf("\n");
+    }
+    answered("turn it back", nutrameza_unturn(turned, sizeof turned, back, sizeof back), NUTRAMEZA_DONE, 0);
+    if (table[0] != 0x0f || table[NUTRAMEZA_SET_BYTES] != 0x12 || memcmp(table, back, sizeof table) != 0) {
+        printf("    the table is not the paper's\n");
+        wrong = 1;
+    }
+    answered("turn a table that is cut", nutrameza_turn(table, sizeof table - 1, turned, sizeof turned), NUTRAMEZA_ROOM, 0);
+}
+
 int main(void)
 {
     build_image();
@@ -218,6 +242,7 @@ int main(void)
     day();
     moving();
     comparing();
+    reviewing();
     free(ledger);
     printf(wrong ? "an answer differs from the paper's\n" : "every answer is the paper's\n");
     return wrong;

@@ -42,6 +42,9 @@ extern "C" {
 /* Size in bytes of a chain of roles, a byte a role. */
 #define NUTRAMEZA_CHAIN_BYTES 64
 
+/* Size in bytes of a grant table: permissions for each of 64 roles or, turned, roles for each of 256 permissions. */
+#define NUTRAMEZA_TABLE_BYTES 2048
+
 /* Answer numbers: done, or why a call is refused. */
 enum nutrameza_number {
     NUTRAMEZA_DONE = 0,
@@ -63,7 +66,7 @@ enum nutrameza_number {
     NUTRAMEZA_PERMISSION = 16, /* a bound with a permission not below P; a permission to be explained not below P */
     NUTRAMEZA_BOUNDS = 17,     /* lower bound not within the upper */
     NUTRAMEZA_AIM = 18,        /* an aim above 2 */
-    NUTRAMEZA_ROOM = 19,       /* answer not 40 bytes, chain not 64, a move's target not the exact size; below the tidy image */
+    NUTRAMEZA_ROOM = 19,       /* a buffer not of the size that the call asks for; one below the tidy image */
     NUTRAMEZA_NONE = 20,       /* no admissible role set; no loop; no active role carries the permission */
     NUTRAMEZA_SCRIPT = 21,     /* unreadable line, given by the program nutrameza_script alone */
     NUTRAMEZA_LOOP = 22,       /* image: senior words lead from a role back to it; tested after 8 and before 9 */
@@ -231,6 +234,31 @@ uint64_t nutrameza_loop(const uint8_t *image, size_t image_len, uint8_t *chain, 
  * the buffer, no byte behind it changes, and the extra is the number of its words: never more than the image has, so that
  * a buffer of image_len bytes is enough. Refusals 1 to 8, 22, 23, and 19 if the buffer is smaller than the tidy image. */
 uint64_t nutrameza_tidy(const uint8_t *image, size_t image_len, uint8_t *out, size_t out_len);
+
+/* Table fills 2,048 bytes with the closed grant table, who carries what after seniority: 32 bytes for each of 64 roles,
+ * a permission set with its bits as in a bound; the rows of roles that the policy does not have are zero. Refusals 1 to
+ * 8, 22, 23, and 19 for another size. */
+uint64_t nutrameza_table(const uint8_t *image, size_t image_len, uint8_t *table, size_t table_len);
+
+/* Turn rearranges 2,048 bytes: bit p of row r, of 64 rows of 32 bytes, goes to bit r of row p, of 256 rows of 8 bytes.
+ * A turned grant table has for each permission the roles that carry it, role r as bit r mod 8 of byte r div 8. Unturn is
+ * the inverse: either undoes the other, for any bytes. Refusal 19 for a source or target of another size. */
+uint64_t nutrameza_turn(const uint8_t *source, size_t source_len, uint8_t *target, size_t target_len);
+uint64_t nutrameza_unturn(const uint8_t *source, size_t source_len, uint8_t *target, size_t target_len);
+
+/* 1 if role r carries permission p by a grant table that nutrameza_table filled, else 0. */
+static inline int nutrameza_table_has(const uint8_t *table, uint32_t role, uint32_t permission)
+{
+    return role < NUTRAMEZA_MAX_ROLES && nutrameza_has_permission(table + NUTRAMEZA_SET_BYTES * role, permission);
+}
+
+/* The roles that carry permission p by a turned grant table: role r is bit r. None for a permission above 255. */
+static inline uint64_t nutrameza_turned_roles(const uint8_t *turned, uint32_t permission)
+{
+    if (permission >= NUTRAMEZA_MAX_PERMISSIONS)
+        return 0;
+    return nutrameza_answer_roles(turned + NUTRAMEZA_ROLES_BYTES * permission);
+}
 
 /* The calls below judge the image first, as check does: 1 to 8, then 22 and 23, then the others by number.
  *

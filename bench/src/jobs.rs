@@ -1,5 +1,6 @@
 //! The check on the largest image; open, close, show and explain on a small and on the largest one; check, open, explain, ask and
-//! short ask over a deep hierarchy; open, show and ask of a user with one role over fifteen; the loop call; both moves; the tidy call.
+//! short ask over a deep hierarchy; open, show and ask of a user with one role over fifteen; the loop call; both moves; the tidy call;
+//! the grant table, turned and turned back.
 
 use crate::{plain, timing};
 use nutrameza_tests::gen::{policy, Rng};
@@ -8,6 +9,7 @@ use nutrameza_tests::kit::{self, Empty};
 use nutrameza_tests::solver::line::LINE;
 #[cfg(feature = "calls")]
 use nutrameza_tests::solver::moves::{Move, BOTH};
+use nutrameza_tests::solver::turned::Way;
 use nutrameza_tests::{ward, words};
 use std::hint::black_box;
 
@@ -135,6 +137,41 @@ pub fn tidy() {
         };
         let mut plain = || {
             black_box(plain::tidy(black_box(&image), &mut second));
+        };
+        timing::row(name, &mut kit, &mut plain);
+    }
+}
+
+/// Times the grant table, and a table turned and turned back.
+pub fn tables() {
+    for (name, image) in [
+        ("table, 13 words", ward::image_a()),
+        ("table, 4,096 words, in any order", largest(false)),
+        ("table, 4,096 words, deep hierarchy", deep(false)),
+    ] {
+        let (mut first, mut second) = ([7; 2048], [9; 2048]);
+        let (by_kit, by_plain) = (kit::table(Empty::Null, &image, &mut first), plain::table(&image, &mut second));
+        assert_eq!((by_kit, first, by_plain), (0, second, 0));
+        let mut kit = || {
+            black_box(kit::table(Empty::Null, black_box(&image), &mut first));
+        };
+        let mut plain = || {
+            black_box(plain::table(black_box(&image), &mut second));
+        };
+        timing::row(name, &mut kit, &mut plain);
+    }
+    let source = Rng::new(2048).bytes(2048);
+    let ways: [(&str, Way, fn(&[u8], &mut [u8]) -> u64); 2] =
+        [("turn", Way::Turn, plain::turn), ("unturn", Way::Unturn, plain::unturn)];
+    for (name, way, by_plain) in ways {
+        let (mut first, mut second) = ([7; 2048], [9; 2048]);
+        assert_eq!((kit::turn(Empty::Null, way, &source, &mut first), by_plain(&source, &mut second)), (0, 0));
+        assert_eq!(first, second);
+        let mut kit = || {
+            black_box(kit::turn(Empty::Null, way, black_box(&source), &mut first));
+        };
+        let mut plain = || {
+            black_box(by_plain(black_box(&source), &mut second));
         };
         timing::row(name, &mut kit, &mut plain);
     }

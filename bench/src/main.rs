@@ -23,6 +23,7 @@ fn main() {
     jobs::check();
     jobs::find_loop();
     jobs::tidy();
+    jobs::tables();
     #[cfg(feature = "calls")]
     jobs::calls();
     #[cfg(feature = "calls")]

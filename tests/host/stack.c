@@ -86,6 +86,15 @@ static int tidied(void) {
     return nutrameza_number_of(first) == NUTRAMEZA_DONE && length < image_len && second == first && memcmp(tidy, twice, length) == 0;
 }
 
+/* The grant table of the image, turned and turned back; 1 if it is the same. */
+static int turned(void) {
+    static uint8_t table[NUTRAMEZA_TABLE_BYTES], by_permission[NUTRAMEZA_TABLE_BYTES], back[NUTRAMEZA_TABLE_BYTES];
+    int done = nutrameza_table(image, image_len, table, sizeof table) == NUTRAMEZA_DONE &&
+               nutrameza_turn(table, sizeof table, by_permission, sizeof by_permission) == NUTRAMEZA_DONE &&
+               nutrameza_unturn(by_permission, sizeof by_permission, back, sizeof back) == NUTRAMEZA_DONE;
+    return done && memcmp(table, back, sizeof table) == 0 && nutrameza_table_has(table, 0, 3) && nutrameza_turned_roles(by_permission, 3) == 15;
+}
+
 static void *work(void *unused) {
     (void)unused;
     answered = 1;
@@ -100,6 +109,7 @@ static void *work(void *unused) {
     }
     answered &= moves();
     answered &= tidied();
+    answered &= turned();
     return NULL;
 }
 

@@ -87,6 +87,21 @@ static void test_sets(void) {
     same("roles 0 and 63", nutrameza_answer_roles(answer), 0x8000000000000001u);
 }
 
+/* One bit of a table and of a turned one, and none for numbers beyond. */
+static void test_tables(void) {
+    uint8_t table[NUTRAMEZA_TABLE_BYTES] = {0}, turned[NUTRAMEZA_TABLE_BYTES] = {0};
+    table[32 * 63 + 31] = 0x80;
+    turned[8 * 255 + 7] = 0x80;
+    same("last bit of a table", (uint64_t)nutrameza_table_has(table, 63, 255), 1);
+    same("the bit before it", (uint64_t)nutrameza_table_has(table, 63, 254), 0);
+    same("the row before it", (uint64_t)nutrameza_table_has(table, 62, 255), 0);
+    same("a role beyond", (uint64_t)nutrameza_table_has(table, 64, 0), 0);
+    same("a permission beyond", (uint64_t)nutrameza_table_has(table, 63, 256), 0);
+    same("last row of a turned table", nutrameza_turned_roles(turned, 255), 0x8000000000000000u);
+    same("the row before", nutrameza_turned_roles(turned, 254), 0);
+    same("a row beyond", nutrameza_turned_roles(turned, 256), 0);
+}
+
 /* Image A of 01 by its entries. */
 static int write_ward(const char *path) {
     uint32_t words[NUTRAMEZA_MAX_WORDS];
@@ -122,6 +137,7 @@ int main(int count, char **arguments) {
     test_returned_values();
     test_lines();
     test_sets();
+    test_tables();
     if (count != 2 || write_ward(arguments[1]) != 0) {
         printf("no image written\n");
         failures++;

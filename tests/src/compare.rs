@@ -9,6 +9,7 @@ use crate::solver::loops::{self, Found};
 #[cfg(feature = "calls")]
 use crate::solver::moves::{self, Carried, Move};
 use crate::solver::tidy::{self, Written};
+use crate::solver::turned::{self, Filled, Way};
 use crate::words;
 use std::collections::BTreeMap;
 use std::io::Write;
@@ -231,6 +232,25 @@ pub fn tidy(image: &[u8], room: usize, empty: Empty, guard: u8) -> Written {
         filled(image, room, guard, (written.returned(), written.image.as_deref()), |image, out| kit::tidy(empty, image, out))?;
         Ok(written)
     })
+}
+
+/// The table call by both on a target of this length; panics with a shrunk image if they differ.
+pub fn table(image: &[u8], room: usize, empty: Empty, guard: u8) -> Filled {
+    over_image(&format!("the table call on {room} bytes"), image, |image| {
+        let table = turned::table(image, room);
+        filled(image, room, guard, (table.returned(), table.table.as_deref()), |image, out| kit::table(empty, image, out))?;
+        Ok(table)
+    })
+}
+
+/// A table turned one way or the other by both, into a target of this length; panics if they differ.
+pub fn turn(way: Way, source: &[u8], room: usize, empty: Empty, guard: u8) -> Filled {
+    let table = turned::turn(way, source, room);
+    let expected = (table.returned(), table.table.as_deref());
+    if let Err(text) = filled(source, room, guard, expected, |source, target| kit::turn(empty, way, source, target)) {
+        panic!("seed {}: {way:?} of {} bytes into {room}: {text}, on {source:02x?}", seed(), source.len());
+    }
+    table
 }
 
 /// A move by both from an old ledger to a target that holds these bytes: what it did, or what differs.

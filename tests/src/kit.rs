@@ -3,12 +3,16 @@
 use crate::solver::calls::Call;
 #[cfg(feature = "calls")]
 use crate::solver::moves::Move;
+use crate::solver::turned::Way;
 
 mod raw {
     extern "C" {
         pub fn nutrameza_check(image: *const u8, image_len: usize) -> u64;
         pub fn nutrameza_loop(image: *const u8, image_len: usize, chain: *mut u8, chain_len: usize) -> u64;
         pub fn nutrameza_tidy(image: *const u8, image_len: usize, out: *mut u8, out_len: usize) -> u64;
+        pub fn nutrameza_table(image: *const u8, image_len: usize, table: *mut u8, table_len: usize) -> u64;
+        pub fn nutrameza_turn(source: *const u8, source_len: usize, target: *mut u8, target_len: usize) -> u64;
+        pub fn nutrameza_unturn(source: *const u8, source_len: usize, target: *mut u8, target_len: usize) -> u64;
     }
 
     #[cfg(feature = "calls")]
@@ -133,6 +137,22 @@ pub fn find_loop(empty: Empty, image: &[u8], chain: &mut [u8]) -> u64 {
 pub fn tidy(empty: Empty, image: &[u8], out: &mut [u8]) -> u64 {
     // SAFETY: as in `find_loop`.
     unsafe { raw::nutrameza_tidy(empty.read(image), image.len(), empty.write(out), out.len()) }
+}
+
+/// The table call.
+pub fn table(empty: Empty, image: &[u8], table: &mut [u8]) -> u64 {
+    // SAFETY: as in `find_loop`.
+    unsafe { raw::nutrameza_table(empty.read(image), image.len(), empty.write(table), table.len()) }
+}
+
+/// A table turned or turned back: the source is read, the target written.
+pub fn turn(empty: Empty, way: Way, source: &[u8], target: &mut [u8]) -> u64 {
+    let call = match way {
+        Way::Turn => raw::nutrameza_turn,
+        Way::Unturn => raw::nutrameza_unturn,
+    };
+    // SAFETY: as in `find_loop`.
+    unsafe { call(empty.read(source), source.len(), empty.write(target), target.len()) }
 }
 
 #[cfg(feature = "calls")]

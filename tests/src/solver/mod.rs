@@ -1,5 +1,5 @@
 //! A separate solver of the session kit, written from the papers (01 and 02) alone in plain sets and loops.
-//! The tests hold the kit against it: the answer, the extra, every byte of ledger, answer, chain, a move's target and a tidy image.
+//! The tests hold the kit against it: the answer, the extra, every byte of ledger, answer, chain, a move's target, tidy image and table.
 
 pub mod calls;
 pub mod choice;
@@ -10,3 +10,4 @@ pub mod moves;
 pub mod policy;
 pub mod script;
 pub mod tidy;
+pub mod turned;
