@@ -266,6 +266,10 @@ module _ (s : List ℕ) (h : Head) (accepted : judgeWords s ≡ Accepted h) wher
   facts : Known s (Accepted h)
   facts = subst (Known s) accepted (known s)
 
+  -- its entries are valid
+  pub words-valid : Valid (headOf (wordAt s 0)) emptyRows start (entriesOf s)
+  words-valid = facts .1
+
   -- its numbers of users, roles and permissions
   head-in-range : OneTo 64 (policyOf s .head .users) × OneTo 64 (policyOf s .head .roles) × OneTo 256 (policyOf s .head .permissions)
   unfolding policyOf headOf headRight

@@ -1,14 +1,18 @@
 -- The two runs of specs/Apart.antt are the same for user 0, by computation from the bytes of the images.
 -- Assumes nothing.
-use mathlib.Core.Path.{_≡_, refl}
-use mathlib.Core.Bool.{Bool, true, false, _||_}
+use mathlib.Core.Path.{_≡_, refl, sym}
+use mathlib.Core.Bool.{Bool, true, false, _||_, true≢false}
+use mathlib.Core.List.{[], _∷_}
 use lib.Dec.{lit<}
 use Rattle.model.specs.declared.Head.{Head}
 use Rattle.model.specs.declared.Kind.the-variants.{MsDmer}
 use Rattle.model.specs.Policy.{policyOf, onlyFor, excludes, sameExclusion, Agree}
 use Rattle.model.specs.Line.{SESSIONS}
-use Rattle.model.specs.Independence.{Run, SameFor, callsOf, firstLine}
-use Rattle.model.specs.Apart.{oneImage, otherImage, oneLedger, otherLedger, oneList, otherList, Apart}
+use Rattle.model.specs.Independence.{Run, SameFor, callsOf, firstLine, hasText}
+use Rattle.model.specs.Apart.{oneImage, otherImage, oneLedger, otherLedger, oneList, otherList, Apart, movedImage, clauseText, ApartText}
+use Rattle.model.specs.OwnWords.{wordsFrom, entryOf, isOwn, wordsWith, ownWords}
+use Rattle.model.specs.Run.{openBy, closeBy}
+use Rattle.model.specs.Ward.{opens}
 use Rattle.model.proofs.Computing.{computing}
 
 two-users : Head
@@ -39,8 +43,8 @@ agree =
     }
 
 same-for-user : SameFor SESSIONS 0 one other
-unfolding computing one other two-users callsOf firstLine oneImage otherImage oneLedger otherLedger oneList otherList
-same-for-user = record { agree = agree; below = lit< tt; line = refl; calls = refl }
+unfolding computing one other two-users callsOf firstLine hasText oneImage otherImage oneLedger otherLedger oneList otherList
+same-for-user = record { agree = agree; below = lit< tt; line = refl; calls = refl; words = λ e. absurd (true≢false (sym e)) }
 
 fed : onlyFor 0 (policyOf oneImage) .assigned ≡ onlyFor 0 (policyOf otherImage) .assigned
 unfolding computing onlyFor oneImage otherImage
@@ -50,3 +54,33 @@ pub apart : Apart
 unfolding one other
 apart =
     record { one = one; other = other; images = (refl, refl); ledgers = (refl, refl); calls = (refl, refl); same = same-for-user; fed = fed }
+
+-- ---- with a clause text
+
+one-text : Run SESSIONS
+unfolding computing two-users oneImage oneLedger clauseText
+one-text = record { image = oneImage; head = two-users; accepted = refl; ledger = oneLedger; fits = refl; calls = opens ∷ clauseText ∷ [] }
+
+other-text : Run SESSIONS
+unfolding computing two-users movedImage otherLedger clauseText
+other-text =
+    record {
+      image = movedImage;
+      head = two-users;
+      accepted = refl;
+      ledger = otherLedger;
+      fits = refl;
+      calls = openBy 1 ∷ opens ∷ closeBy 1 0 ∷ clauseText ∷ [];
+    }
+
+agree-text : Agree 0 (policyOf oneImage) (policyOf movedImage)
+unfolding computing excludes oneImage movedImage
+agree-text = record { heads = refl; own = refl; grants = refl; seniors = refl; exclusions = λ x. refl }
+
+same-text : SameFor SESSIONS 0 one-text other-text
+unfolding computing one-text other-text two-users callsOf firstLine wordsFrom entryOf isOwn wordsWith ownWords oneImage movedImage oneLedger otherLedger clauseText
+same-text = record { agree = agree-text; below = lit< tt; line = refl; calls = refl; words = λ _. refl }
+
+pub apart-text : ApartText
+unfolding one-text other-text
+apart-text = record { one = one-text; other = other-text; images = (refl, refl); ledgers = (refl, refl); calls = (refl, refl); same = same-text }

@@ -18,7 +18,7 @@ use Rattle.model.specs.Bytes.{number}
 use Rattle.model.specs.Policy.{Meaning, authorized}
 use Rattle.model.specs.Line.{readLine, writeLine, emptySession, isOpen, exclusionsMet, sound, sessionAt, lowestClosed, opening, closing, putIn}
 use Rattle.model.specs.Choice.{carriedBy, admissible}
-use Rattle.model.specs.Session.{Query, Operation, open-session, close-session, ask, short-ask, show, explain, sessionOf, queryOf, refuse, done, given, Result, Refusal, bad-line, bad-session, is-closed, is-full, bad-set, bad-permission, bad-bounds, bad-aim, bad-room, no-set, not-below, not-carried, refusalNumber, canGive, chosen, applies, explanation, asked, explained, perform, unless, rule}
+use Rattle.model.specs.Session.{Query, Operation, open-session, close-session, ask, short-ask, show, explain, clauses, sessionOf, queryOf, refuse, done, given, wrote, Result, Refusal, bad-line, bad-session, is-closed, is-full, bad-set, bad-permission, bad-bounds, bad-aim, bad-room, no-set, not-below, not-carried, too-long, refusalNumber, canGive, chosen, applies, explanation, asked, explained, perform, unless, rule}
 use Rattle.model.specs.Frames.{fitsSession, fitsLine}
 use Rattle.model.specs.Kept.{Antitone, SoundBytes}
 use Rattle.model.proofs.Bools.{and-l, and-r, both, not-both}
@@ -127,6 +127,7 @@ module _ (W : ℕ) (m : Meaning) (wide : W ≤ 64) (small : m .roles ≤ 64) (ow
       asked-well k q (there k q _ e) (chosen m line k q) refl
   performed-well (show k room) e = safe
   performed-well (explain k n) e = subst (SoundBytes W m) (sym (explained-line bs _)) safe
+  performed-well (clauses k q) e = safe
 
   -- a refused call leaves the line that was
   unless-well : (o : Option Refusal) (r : Result) → (o ≡ none → SoundBytes W m (r .line)) → SoundBytes W m (unless o bs r .line)
@@ -154,6 +155,7 @@ module _ (W : ℕ) (m : Meaning) (wide : W ≤ 64) (small : m .roles ≤ 64) (ow
   other-refusal no-set k q a e = omega arith
   other-refusal (not-below n) k q a e = omega arith
   other-refusal (not-carried n) k q a e = omega arith
+  other-refusal too-long k q a e = omega arith
 
   -- an ask gives 0 or 20
   asked-answer : (k : ℕ) (o : Option ℕ) → ¬ (asked m line bs k o .reply .number ≡ 11)
@@ -169,13 +171,14 @@ module _ (W : ℕ) (m : Meaning) (wide : W ≤ 64) (small : m .roles ≤ 64) (ow
 
   -- the work done gives 0 or 20
   performed-answer : (op : Operation) → ¬ (perform W m line bs op .reply .number ≡ 11)
-  unfolding perform done given
+  unfolding perform done given wrote
   performed-answer open-session e = omega arith
   performed-answer (close-session k) e = omega arith
   performed-answer (ask k q) e = asked-answer k (chosen m line k q) e
   performed-answer (short-ask k lower upper room) e = asked-answer k (chosen m line k (queryOf (short-ask k lower upper room))) e
   performed-answer (show k room) e = omega arith
   performed-answer (explain k n) e = explained-answer (explanation (m .granter n) (sessionAt line k .active)) e
+  performed-answer (clauses k q) e = omega arith
 
   -- a refused call gives the number of a refusal that applies
   unless-answer : (o : Option Refusal) (r : Result) → ((f : Refusal) → o ≡ some f → ¬ (refusalNumber f ≡ 11)) → ¬ (r .reply .number ≡ 11)

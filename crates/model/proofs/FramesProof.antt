@@ -1,8 +1,8 @@
 -- What a call leaves alone of a ledger: all but its user's line, and all of it where the call is refused or a show.
 -- Assumes nothing.
-use mathlib.Core.Path.{_≡_, refl, ap, ap₂, _∙_}
+use mathlib.Core.Path.{_≡_, refl, sym, ap, ap₂, _∙_}
 use mathlib.Core.Logic.{_⊎_, inl, inr}
-use mathlib.Core.Bool.{Bool, true, false, not}
+use mathlib.Core.Bool.{Bool, true, false, not, true≢false}
 use mathlib.Core.Option.{Option, none, some}
 use mathlib.Core.List.{List, []}
 use Prim.Native.Nat.{ℕ, _+_, _*_, _<_}
@@ -17,43 +17,57 @@ use Rattle.model.specs.Bytes.{bytesOf}
 use Rattle.model.specs.Judgement.{judge}
 use Rattle.model.specs.Policy.{Policy, Meaning, policyOf, meaning}
 use Rattle.model.specs.Line.{lineSize, readLine}
-use Rattle.model.specs.Session.{Operation, open-session, close-session, ask, short-ask, show, explain, sessionOf, queryOf, refuse, done, given, Refusal, Result, canGive, applies, asked, explained, perform, unless, rule}
-use Rattle.model.specs.Run.{Call, lineAt, withLine, ruled, stepOn, stepBy, step, showBy, explainBy}
-use Rattle.model.specs.Frames.{Frame, StepFrame, ShowKeeps, ExplainKeeps}
+use Rattle.model.specs.Session.{Query, Operation, open-session, close-session, ask, short-ask, show, explain, clauses, sessionOf, queryOf, isText, refuse, done, given, wrote, Refusal, Result, canGive, applies, asked, explained, perform, unless, rule}
+use Rattle.model.specs.Run.{Call, lineAt, withLine, ruled, stepOn, stepBy, step, showBy, explainBy, clausesBy}
+use Rattle.model.specs.Frames.{Frame, StepFrame, ShowKeeps, ExplainKeeps, ClausesKeep}
 use Rattle.model.proofs.LineLaws.{unless-part, explained-line, length-bytesOf}
 use Rattle.model.proofs.LedgerLaws.{patch-outside, apart, withLine-length, own-line, new-length}
 
 -- ---- what the session rules answer
 
--- a refused call keeps the line and fills nothing; a done one fills nothing or 40 bytes
-record Quiet (bs : List ℕ) (r : Result) : Type 0 where
+-- a refused call keeps the line and fills nothing; a done one fills nothing or 40 bytes, or a text of the length that it tells
+record Quiet (op : Operation) (bs : List ℕ) (r : Result) : Type 0 where
   line : ¬ (r .reply .number ≡ 0) → r .line ≡ bs
   filled : ¬ (r .reply .number ≡ 0) → r .reply .filled ≡ []
-  room : (r .reply .filled ≡ []) ⊎ (length (r .reply .filled) ≡ 40)
+  room : isText op ≡ false → (r .reply .filled ≡ []) ⊎ (length (r .reply .filled) ≡ 40)
+  text : isText op ≡ true → (r .reply .filled ≡ []) ⊎ (length (r .reply .filled) ≡ r .reply .extra)
+
+-- a call that is no clause text
+abbrev Plain : Operation → Type 0
+Plain op = isText op ≡ false
 
 -- the three sorts of answer: done, refused, done with roles and permissions
-done-quiet : (bs after : List ℕ) (x : ℕ) → Quiet bs (record { reply = done x; line = after })
+done-quiet : (op : Operation) (bs after : List ℕ) (x : ℕ) → Quiet op bs (record { reply = done x; line = after })
 unfolding done
-done-quiet bs after x = record { line = λ h. absurd (h refl); filled = λ h. absurd (h refl); room = inl refl }
+done-quiet op bs after x =
+    record { line = λ h. absurd (h refl); filled = λ h. absurd (h refl); room = λ _. inl refl; text = λ _. inl refl }
 
-refuse-quiet : (bs : List ℕ) (n x : ℕ) → Quiet bs (record { reply = refuse n x; line = bs })
+refuse-quiet : (op : Operation) (bs : List ℕ) (n x : ℕ) → Quiet op bs (record { reply = refuse n x; line = bs })
 unfolding refuse
-refuse-quiet bs n x = record { line = λ h. refl; filled = λ h. refl; room = inl refl }
+refuse-quiet op bs n x = record { line = λ h. refl; filled = λ h. refl; room = λ _. inl refl; text = λ _. inl refl }
 
-given-quiet : (bs after : List ℕ) (roles permissions : ℕ) → Quiet bs (record { reply = given roles permissions; line = after })
+given-quiet : (op : Operation) → Plain op → (bs after : List ℕ) (roles permissions : ℕ)
+    → Quiet op bs (record { reply = given roles permissions; line = after })
 unfolding given
-given-quiet bs after roles permissions =
+given-quiet op t bs after roles permissions =
     record {
       line = λ h. absurd (h refl);
       filled = λ h. absurd (h refl);
-      room = inr (length-append (bytesOf 8 roles) (bytesOf 32 permissions) ∙ ap₂ _+_ (length-bytesOf 8 roles) (length-bytesOf 32 permissions));
+      text = λ e. absurd (true≢false (sym e ∙ t));
+      room = λ _. inr (length-append (bytesOf 8 roles) (bytesOf 32 permissions) ∙ ap₂ _+_ (length-bytesOf 8 roles) (length-bytesOf 32 permissions));
     }
 
 -- an explain, which fills nothing
-explained-quiet : (bs : List ℕ) (o : Option ℕ) → Quiet bs (explained bs o)
+explained-quiet : (op : Operation) (bs : List ℕ) (o : Option ℕ) → Quiet op bs (explained bs o)
 unfolding explained
-explained-quiet bs none = refuse-quiet bs 20 0
-explained-quiet bs (some x) = done-quiet bs bs x
+explained-quiet op bs none = refuse-quiet op bs 20 0
+explained-quiet op bs (some x) = done-quiet op bs bs x
+
+-- a clause text
+wrote-quiet : (k : ℕ) (q : Query) (bs text : List ℕ) → Quiet (clauses k q) bs (record { reply = wrote text; line = bs })
+unfolding wrote isText
+wrote-quiet k q bs text =
+    record { line = λ h. refl; filled = λ h. absurd (h refl); room = λ e. absurd (true≢false e); text = λ _. inr refl }
 
 pub explained-fills : (bs : List ℕ) (o : Option ℕ) → explained bs o .reply .filled ≡ []
 unfolding explained refuse done
@@ -62,40 +76,48 @@ explained-fills bs (some x) = refl
 
 -- an ask, any call that nothing refuses, and any call
 module _ (W : ℕ) (m : Meaning) (bs : List ℕ) where
-  asked-quiet : (l : Line) (k : ℕ) (o : Option ℕ) → Quiet bs (asked m l bs k o)
+  asked-quiet : (op : Operation) → Plain op → (l : Line) (k : ℕ) (o : Option ℕ) → Quiet op bs (asked m l bs k o)
   unfolding asked
-  asked-quiet l k none = refuse-quiet bs 20 0
-  asked-quiet l k (some s) = given-quiet bs _ _ _
+  asked-quiet op t l k none = refuse-quiet op bs 20 0
+  asked-quiet op t l k (some s) = given-quiet op t bs _ _ _
 
-  perform-quiet : (l : Line) (op : Operation) → Quiet bs (perform W m l bs op)
-  unfolding perform
-  perform-quiet l open-session = done-quiet bs _ _
-  perform-quiet l (close-session k) = done-quiet bs _ _
-  perform-quiet l (ask k q) = asked-quiet l k _
-  perform-quiet l (short-ask k lower upper room) = asked-quiet l k _
-  perform-quiet l (show k room) = given-quiet bs _ _ _
-  perform-quiet l (explain k n) = explained-quiet bs _
+  perform-quiet : (l : Line) (op : Operation) → Quiet op bs (perform W m l bs op)
+  unfolding perform isText
+  perform-quiet l open-session = done-quiet open-session bs _ _
+  perform-quiet l (close-session k) = done-quiet (close-session k) bs _ _
+  perform-quiet l (ask k q) = asked-quiet (ask k q) refl l k _
+  perform-quiet l (short-ask k lower upper room) = asked-quiet (short-ask k lower upper room) refl l k _
+  perform-quiet l (show k room) = given-quiet (show k room) refl bs _ _ _
+  perform-quiet l (explain k n) = explained-quiet (explain k n) bs _
+  perform-quiet l (clauses k q) = wrote-quiet k q bs _
 
-  unless-quiet : (o : Option Refusal) (r : Result) → Quiet bs r → Quiet bs (unless o bs r)
+  unless-quiet : (op : Operation) (o : Option Refusal) (r : Result) → Quiet op bs r → Quiet op bs (unless o bs r)
   unfolding unless
-  unless-quiet none r h = h
-  unless-quiet (some f) r h = refuse-quiet bs _ 0
+  unless-quiet op none r h = h
+  unless-quiet op (some f) r h = refuse-quiet op bs _ 0
 
-  rule-quiet : (op : Operation) → Quiet bs (rule W m bs op)
+  rule-quiet : (op : Operation) → Quiet op bs (rule W m bs op)
   unfolding rule
-  rule-quiet op = unless-quiet _ _ (perform-quiet (readLine W bs) op)
+  rule-quiet op = unless-quiet op _ _ (perform-quiet (readLine W bs) op)
 
 -- ---- a call on a ledger
 
 -- a call that the session rules do not see
-refuse-frame : (z u : ℕ) (l : List ℕ) (n x : ℕ) → Frame z u l (record { reply = refuse n x; ledger = l })
+refuse-frame : (z : ℕ) (c : Call) (l : List ℕ) (n x : ℕ) → Frame z c l (record { reply = refuse n x; ledger = l })
 unfolding refuse
-refuse-frame z u l n x =
-    record { keeps-length = refl; outside = λ i h. refl; refused-ledger = λ h. refl; refused-filled = λ h. refl; filled = inl refl }
+refuse-frame z c l n x =
+    record {
+      keeps-length = refl;
+      outside = λ i h. refl;
+      refused-ledger = λ h. refl;
+      refused-filled = λ h. refl;
+      filled = λ _. inl refl;
+      text = λ _. inl refl;
+    }
 
 -- a user with a line, under an accepted policy, under a judged image
 module _ (W : ℕ) (p : Policy) (l : List ℕ) (c : Call) where
-  ruled-frame : length l ≡ lineSize W * p .head .users → c .user < p .head .users → Frame (lineSize W) (c .user) l (ruled W p l c)
+  ruled-frame : length l ≡ lineSize W * p .head .users → c .user < p .head .users → Frame (lineSize W) c l (ruled W p l c)
   unfolding ruled
   ruled-frame hl hu =
       let z = lineSize W in
@@ -109,23 +131,24 @@ module _ (W : ℕ) (p : Policy) (l : List ℕ) (c : Call) where
         refused-ledger = λ h. ap (λ (x : List ℕ). withLine z u x l) (q .line h) ∙ own-line z u l;
         refused-filled = q .filled;
         filled = q .room;
+        text = q .text;
       }
 
-  stepOn-frame : Frame (lineSize W) (c .user) l (stepOn W p l c)
+  stepOn-frame : Frame (lineSize W) c l (stepOn W p l c)
   unfolding stepOn pick
   stepOn-frame = go (eqb (length l) (lineSize W * p .head .users)) refl (ltb (c .user) (p .head .users)) refl
     where
       go : (a : Bool) → eqb (length l) (lineSize W * p .head .users) ≡ a → (b : Bool) → ltb (c .user) (p .head .users) ≡ b
-          → Frame (lineSize W) (c .user) l
+          → Frame (lineSize W) c l
           (pick (not a) (record { reply = refuse 9 0; ledger = l }) (pick (not b) (record { reply = refuse 10 0; ledger = l }) (ruled W p l c)))
-      go false e b f = refuse-frame (lineSize W) (c .user) l 9 0
-      go true e false f = refuse-frame (lineSize W) (c .user) l 10 0
+      go false e b f = refuse-frame (lineSize W) c l 9 0
+      go true e false f = refuse-frame (lineSize W) c l 10 0
       go true e true f = ruled-frame (eqb-true (length l) (lineSize W * p .head .users) e) (ltb-true (c .user) (p .head .users) f)
 
-  stepBy-frame : (v : Checked) → Frame (lineSize W) (c .user) l (stepBy W v p l c)
+  stepBy-frame : (v : Checked) → Frame (lineSize W) c l (stepBy W v p l c)
   unfolding stepBy
   stepBy-frame (Accepted h) = stepOn-frame
-  stepBy-frame (Refused n place) = refuse-frame (lineSize W) (c .user) l n place
+  stepBy-frame (Refused n place) = refuse-frame (lineSize W) c l n place
 
 -- A call changes nothing outside its user's line, and nothing at all where it is refused.
 pub step-frame : (W : ℕ) → StepFrame W
@@ -154,6 +177,12 @@ pub show-keeps : (W : ℕ) → ShowKeeps W
 unfolding step rule perform showBy
 show-keeps W image ledger u k room =
     stepBy-keeps W (policyOf image) ledger (showBy u k room) (λ m bs. unless-part bs (λ (x : List ℕ). x) _ _ refl) (judge image)
+
+-- Nor does a clause text.
+pub clauses-keep : (W : ℕ) → ClausesKeep W
+unfolding step rule perform clausesBy
+clauses-keep W image ledger u k lower upper a b room =
+    stepBy-keeps W (policyOf image) ledger (clausesBy u k lower upper a b room) (λ m bs. unless-part bs (λ (x : List ℕ). x) _ _ refl) (judge image)
 
 -- An explain changes no byte of the ledger, and fills nothing.
 module _ (W : ℕ) (p : Policy) (l : List ℕ) (u k n : ℕ) where

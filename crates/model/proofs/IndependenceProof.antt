@@ -7,20 +7,23 @@ use mathlib.Core.List.{List, [], _∷_}
 use Prim.Native.Nat.{ℕ, _*_, _<_}
 use native.Mathlib.Nat.{lt-of-lt-of-le}
 use lib.Dec.{eqb}
-use lib.ListN.{length}
+use lib.ListN.{length, getD}
 use borrow.Author.Tests.{eqb-true, eqb-false}
 use Rattle.model.specs.declared.Head.{Head}
 use Rattle.model.specs.declared.Checked.{Checked}
 use Rattle.model.specs.declared.Checked.the-variants.{Accepted}
 use Rattle.model.specs.Judgement.{judge}
-use Rattle.model.specs.Policy.{Meaning, policyOf, meaning, onlyFor}
+use Rattle.model.specs.Policy.{Policy, Meaning, policyOf, meaning, onlyFor, excludes, Agree}
 use Rattle.model.specs.Line.{lineSize}
-use Rattle.model.specs.Session.{Result}
+use Rattle.model.specs.Session.{Operation, Result}
 use Rattle.model.specs.Run.{Call, lineAt, stepOn, stepBy, step, run}
-use Rattle.model.specs.Independence.{rules, callsOf, seenBy, Steady, no-call, own-call, other-call, SteadyFor, Run, eventsOf, viewOf, firstLine, SameFor, Independent}
+use Rattle.model.specs.OwnWords.{policyIn, ownWords}
+use Rattle.model.specs.Independence.{rules, callsOf, seenBy, Steady, no-call, own-call, other-call, SteadyFor, Run, eventsOf, viewOf, firstLine, hasText, SameFor, Independent}
 use Rattle.model.proofs.Judgements.{accepted-head, accepted-in-range}
 use Rattle.model.proofs.LedgerLaws.{step-length, step-own, step-other}
-use Rattle.model.proofs.Meanings.{agree-meaning, only-meaning}
+use Rattle.model.proofs.Listed.{listed, rules-listed}
+use Rattle.model.proofs.Meanings.{agree-listed, only-meaning}
+use Rattle.model.proofs.OwnWords.{words-agree, words-meaning}
 
 -- ---- a run under an accepted image, by induction on the calls
 module _ (W u : ℕ) (s : List ℕ) (g : Head) (e : judge s ≡ Accepted g) (hu : u < policyOf s .head .users) where
@@ -91,11 +94,49 @@ module _ (W u : ℕ) (r : Run W) (hu : u < r .head .users) where
   unfolding eventsOf firstLine
   steady-run = run-steady W u (r .image) (r .head) (r .accepted) in-policy (r .ledger) fits-policy (r .calls)
 
+  user-small : u < 64
+  user-small = lt-of-lt-of-le hu (rw head-is at (accepted-in-range (r .image) (r .head) (r .accepted) .users .1))
+
   -- other users' assignments have no say in what the policy means for the user
   only-means : meaning (policyOf (r .image)) u ≡ meaning (onlyFor u (policyOf (r .image))) u
-  only-means = only-meaning u (lt-of-lt-of-le hu (rw head-is at (accepted-in-range (r .image) (r .head) (r .accepted) .users .1))) (policyOf (r .image))
+  only-means = only-meaning u user-small (policyOf (r .image))
+
+  -- nor has the end word
+  words-mean : meaning (policyOf (r .image)) u ≡ meaning (policyIn (ownWords u (r .image))) u
+  words-mean = words-meaning u user-small (r .image) (r .head) (r .accepted)
 
 -- ---- two runs
+
+-- images of the same words, other users' assignments and the end word left out, have policies that agree
+pub same-words-agree : (u : ℕ) (s t : List ℕ) (g h : Head) → judge s ≡ Accepted g → judge t ≡ Accepted h → u < 64 → ownWords u s ≡ ownWords u t
+    → Agree u (policyOf s) (policyOf t)
+same-words-agree u s t g h a b small e =
+    let x = words-agree u small s g a in
+    let y = words-agree u small t h b in
+    let p = ap policyIn e in
+    record {
+      heads = x .heads ∙ ap (λ (q : Policy). q .head) p ∙ sym (y .heads);
+      own = x .own ∙ ap (λ (q : Policy). getD (q .assigned) u 0) p ∙ sym (y .own);
+      grants = x .grants ∙ ap (λ (q : Policy). q .granted) p ∙ sym (y .grants);
+      seniors = x .seniors ∙ ap (λ (q : Policy). q .juniors) p ∙ sym (y .seniors);
+      exclusions = λ z. x .exclusions z ∙ ap (λ (q : Policy). excludes q z) p ∙ sym (y .exclusions z);
+    }
+
+-- the session rules give the same: where no clause text is asked for, whatever the order of the exclusions, else by the same words
+module _ (W u : ℕ) (r s : Run W) (h : SameFor W u r s) (below : u < s .head .users) where
+  abbrev given : Meaning → List Result
+  given m = rules W m (firstLine W u r) (callsOf u (r .calls))
+
+  same-rules : given (meaning (policyOf (r .image)) u) ≡ given (meaning (policyOf (s .image)) u)
+  same-rules = go (hasText (callsOf u (r .calls))) refl
+    where
+      go : (b : Bool) → hasText (callsOf u (r .calls)) ≡ b → given (meaning (policyOf (r .image)) u) ≡ given (meaning (policyOf (s .image)) u)
+      go true e =
+          ap given (words-mean W u r (h .below) ∙ ap (λ (ws : List ℕ). meaning (policyIn ws) u) (h .words e) ∙ sym (words-mean W u s below))
+      go false e =
+          rules-listed (meaning (policyOf (r .image)) u) [] W (firstLine W u r) (callsOf u (r .calls)) e
+          ∙ ap given (agree-listed u (policyOf (r .image)) (policyOf (s .image)) (h .agree) [])
+          ∙ sym (rules-listed (meaning (policyOf (s .image)) u) [] W (firstLine W u r) (callsOf u (r .calls)) e)
 
 -- The independence rule (demand 3).
 pub independence : (W u : ℕ) (r s : Run W) → SameFor W u r s → Independent W u r s
@@ -105,11 +146,10 @@ independence W u r s h =
     (sym (head-is W u r (h .below)) ∙ h .agree .heads ∙ accepted-head (s .image) (s .head) (s .accepted)) (h .below) in
     record {
       same =
-          view-by-rules W u r (h .below)
-          ∙ (λ i. rules W (agree-meaning u (policyOf (r .image)) (policyOf (s .image)) (h .agree) i) (h .line i) (h .calls i))
+          view-by-rules W u r (h .below) ∙ same-rules W u r s h below
+          ∙ ap₂ (λ (x : List ℕ) (os : List Operation). rules W (meaning (policyOf (s .image)) u) x os) (h .line) (h .calls)
           ∙ sym (view-by-rules W u s below);
-      by-rules =
-          view-by-rules W u r (h .below)
-          ∙ ap (λ (m : Meaning). rules W m (firstLine W u r) (callsOf u (r .calls))) (only-means W u r (h .below));
+      by-rules = view-by-rules W u r (h .below) ∙ ap (given W u r s h below) (only-means W u r (h .below));
+      by-words = view-by-rules W u r (h .below) ∙ ap (given W u r s h below) (words-mean W u r (h .below));
       steady = (steady-run W u r (h .below), steady-run W u s below);
     }

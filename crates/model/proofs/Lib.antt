@@ -6,6 +6,7 @@ pub mod Scanned
 pub mod Accepted
 pub mod Computing
 pub mod Cases
+pub mod TextedProof
 pub mod UnionLaws
 pub mod LowestLaws
 pub mod Closure
@@ -26,7 +27,9 @@ pub mod ConditionsProof
 pub mod LineLaws
 pub mod LedgerLaws
 pub mod RoundTrip
+pub mod Listed
 pub mod Meanings
+pub mod OwnWords
 pub mod IndependenceProof
 pub mod ApartProof
 pub mod FramesProof

@@ -14,7 +14,7 @@ use Rattle.model.specs.Bytes.{bytesOf}
 use Rattle.model.specs.Policy.{Meaning}
 use Rattle.model.specs.Line.{readSessions, readLine, writeSessions, writeLine, lineSize, putIn, opening, closing}
 use Rattle.model.specs.Frames.{sessionBytes}
-use Rattle.model.specs.Session.{Operation, open-session, close-session, ask, short-ask, show, explain, Refusal, Result, asked, explained, perform, unless, rule}
+use Rattle.model.specs.Session.{Operation, open-session, close-session, ask, short-ask, show, explain, clauses, Refusal, Result, asked, explained, perform, unless, rule}
 
 -- ---- lengths
 
@@ -131,6 +131,7 @@ module _ (W : ℕ) (m : Meaning) (bs : List ℕ) (h : length bs ≡ lineSize W) 
   perform-length (short-ask k lower upper room) = asked-length k _
   perform-length (show k room) = h
   perform-length (explain k n) = ap length (explained-line bs _) ∙ h
+  perform-length (clauses k q) = h
 
   unless-length : (o : Option Refusal) (r : Result) → length (r .line) ≡ lineSize W → length (unless o bs r .line) ≡ lineSize W
   unfolding unless

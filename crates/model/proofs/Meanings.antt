@@ -12,9 +12,11 @@ use Rattle.model.specs.declared.Kind.the-variants.{SsDmer, MsDmer, SsHme
 use Rattle.model.specs.declared.Exclusion.{Exclusion}
 use Rattle.model.specs.Tests.{pick, any, all}
 use Rattle.model.specs.Sets.{has, unionAt}
-use Rattle.model.specs.Policy.{Policy, meaning, authorized, closed, belowTable, withSelves, reached, carriedTable, granterBy, granter, met, onlyFor, kindNumber, sameExclusion, excludes, Agree}
+use Rattle.model.specs.Policy.{Policy, Meaning, meaning, authorized, closed, belowTable, withSelves, reached, carriedTable, granterBy, granter, met, onlyFor, kindNumber, sameExclusion, excludes, Agree}
+use Rattle.model.specs.Session.{Operation, isText, rule}
 use Rattle.model.proofs.Bools.{and-l, and-r, or-r, bool-ext}
 use Rattle.model.proofs.Closure.{getD-tableOf}
+use Rattle.model.proofs.Listed.{listed, rule-listed}
 
 -- ---- a test of all members goes by membership alone
 module _ {A : Type 0} (same : A → A → Bool) (same-refl : (x : A) → same x x ≡ true) (same-eq : (x y : A) → same x y ≡ true → x ≡ y) where
@@ -86,10 +88,10 @@ module _ (u : ℕ) (p q : Policy) (h : Agree u p q) where
   agree-met counted =
       all-same sameExclusion sameExclusion-refl sameExclusion-eq (met counted) (p .exclusions) (q .exclusions) (h .exclusions)
 
-  -- the session rules see the same
-  pub agree-meaning : meaning p u ≡ meaning q u
+  -- the session rules see the same, by the exclusions as they are listed
+  agree-by : (xs ys : List Exclusion) → xs ≡ ys → listed (meaning p u) xs ≡ listed (meaning q u) ys
   unfolding meaning authorized carriedTable granter reached belowTable
-  agree-meaning = λ i.
+  agree-by xs ys e = λ i.
       record {
         roles = h .heads i .roles;
         permissions = h .heads i .permissions;
@@ -97,7 +99,21 @@ module _ (u : ℕ) (p q : Policy) (h : Agree u p q) where
         carried = map (unionAt (h .grants i)) (withSelves (closed (h .heads i .roles) (h .seniors i)));
         granter = λ m r. granterBy (withSelves (closed (h .heads i .roles) (h .seniors i))) (λ g. has (getD (h .grants i) g 0) m) r;
         allMet = λ counted. agree-met counted i;
+        exclusions = e i;
       }
+
+  pub agree-listed : (xs : List Exclusion) → listed (meaning p u) xs ≡ listed (meaning q u) xs
+  agree-listed xs = agree-by xs xs refl
+
+  -- so they give the same to a call that is no clause text
+  pub agree-rule : (W : ℕ) (bs : List ℕ) (op : Operation) → isText op ≡ false → rule W (meaning p u) bs op ≡ rule W (meaning q u) bs op
+  agree-rule W bs op e =
+      rule-listed (meaning p u) [] W bs op e ∙ ap (λ (m : Meaning). rule W m bs op) (agree-listed [])
+      ∙ sym (rule-listed (meaning q u) [] W bs op e)
+
+  pub agree-meaning : p .exclusions ≡ q .exclusions → meaning p u ≡ meaning q u
+  unfolding meaning
+  agree-meaning e = agree-by (p .exclusions) (q .exclusions) e
 
 -- ---- the policy without other users' assignments
 module _ (u : ℕ) (small : u < 64) (p : Policy) where
@@ -118,4 +134,5 @@ module _ (u : ℕ) (small : u < 64) (p : Policy) where
 
   -- and means the same for the user
   pub only-meaning : meaning p u ≡ meaning (onlyFor u p) u
-  only-meaning = agree-meaning u p (onlyFor u p) only-agree
+  unfolding onlyFor
+  only-meaning = agree-meaning u p (onlyFor u p) only-agree refl

@@ -10,7 +10,7 @@ use lib.Pow.{areBytes}
 use Rattle.model.specs.declared.Line.{Line}
 use Rattle.model.specs.Policy.{Meaning}
 use Rattle.model.specs.Line.{lineSize, readLine, writeLine, opening, closing, putIn}
-use Rattle.model.specs.Session.{Operation, open-session, close-session, ask, short-ask, show, explain, sessionOf, asked, perform, rule}
+use Rattle.model.specs.Session.{Operation, open-session, close-session, ask, short-ask, show, explain, clauses, sessionOf, asked, perform, rule}
 use Rattle.model.specs.Frames.{sessionBytes, SessionFrames}
 use Rattle.model.proofs.LineLaws.{unless-part, explained-line, blockAt, block-set, block-line, behind-opened, history-part}
 use Rattle.model.proofs.RoundTrip.{write-read}
@@ -36,6 +36,7 @@ module _ (W : ℕ) (m : Meaning) (bs : List ℕ) (hb : areBytes bs ≡ true) (hn
   perform-others (short-ask k lower upper room) j h = asked-others k j _ h
   perform-others (show k room) j h = refl
   perform-others (explain k n) j h = ap (sessionBytes j) (explained-line bs _)
+  perform-others (clauses k q) j h = refl
 
   rule-others : (op : Operation) (j : ℕ) → ¬ (j ≡ sessionOf op) → sessionBytes j (rule W m bs op .line) ≡ sessionBytes j bs
   unfolding rule

@@ -166,7 +166,7 @@ pub shl-one : (d r : ℕ) → r < d → (1 * 2 ^ r) % 2 ^ d ≡ 2 ^ r
 shl-one d r h = ap (λ (x : ℕ). x % 2 ^ d) (one-mul (2 ^ r)) ∙ mod-eq-of-lt (pow-lt h)
 
 -- ---- counts of related sets
-count-cong : (f g : ℕ → Bool) (d : ℕ) → ((k : ℕ) → k < d → f k ≡ g k) → countTo f d ≡ countTo g d
+pub count-cong : (f g : ℕ → Bool) (d : ℕ) → ((k : ℕ) → k < d → f k ≡ g k) → countTo f d ≡ countTo g d
 unfolding countTo
 count-cong f g zero h = refl
 count-cong f g (suc d) h =

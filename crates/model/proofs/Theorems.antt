@@ -17,13 +17,15 @@ use Rattle.model.specs.declared.Checked.the-variants.{Accepted}
 use Rattle.model.specs.Tests.{isSome, all}
 use Rattle.model.specs.Sets.{has, count}
 use Rattle.model.specs.Judgement.{judge}
-use Rattle.model.specs.Policy.{Meaning, policyOf, entriesOf, withMembers, reached, carriedTable, granter, authorized, meaning}
+use Rattle.model.specs.Policy.{Meaning, policyOf, entriesOf, withMembers, reached, carriedTable, granter, authorized, meaning, Agree}
+use Rattle.model.specs.OwnWords.{ownWords}
 use Rattle.model.specs.Choice.{carriedBy, admissible}
 use Rattle.model.specs.Line.{lineSize}
 use Rattle.model.specs.Session.{explanation}
 use Rattle.model.specs.Ward.{holds, starred, settled}
 use Rattle.model.specs.Refusals.{isJudged, judgedImages, isLooped, loopedImages}
 use Rattle.model.specs.Returned.{isSeen, returnedCases, isChecked, checkedCases}
+use Rattle.model.specs.Texted.{isTexted, textCases}
 use Rattle.model.specs.Read.{ReadOff}
 use Rattle.model.specs.Chains.{Chain, Authorized, Carries, Provides, GranterIs}
 use Rattle.model.specs.Explained.{ExplanationIs}
@@ -32,12 +34,13 @@ use Rattle.model.specs.Ranges.{InRange}
 use Rattle.model.specs.Chosen.{ChoiceIs, RankIs}
 use Rattle.model.specs.Conditions.{Conditions, Admitted}
 use Rattle.model.specs.Independence.{Run, SameFor, Independent}
-use Rattle.model.specs.Apart.{Apart}
+use Rattle.model.specs.Apart.{Apart, ApartText}
 use Rattle.model.specs.Kept.{LineKept, RunKept}
-use Rattle.model.specs.Frames.{LineBytes, StepFrame, ShowKeeps, ExplainKeeps, AnswerKeepsLength, SessionFrames}
+use Rattle.model.specs.Frames.{LineBytes, StepFrame, ShowKeeps, ExplainKeeps, ClausesKeep, AnswerKeepsLength, TextsKeep, SessionFrames}
 use Rattle.model.specs.Moves.{Resized, move, MoveIs}
 use Rattle.model.specs.MoveCases.{movesSo, moveCases}
 use Rattle.model.proofs.Cases
+use Rattle.model.proofs.TextedProof
 use Rattle.model.proofs.Tables
 use Rattle.model.proofs.Accepted
 use Rattle.model.proofs.Closure
@@ -81,6 +84,10 @@ looped-cases = Cases.looped-so
 -- what a host sees: the number that a call returns, and the bytes of its answer buffer and of the ledger after it
 pub returned-cases : all isSeen returnedCases ≡ true
 returned-cases = Cases.returned-so
+
+-- clause texts as a host sees them
+pub texted-cases : all isTexted textCases ≡ true
+texted-cases = TextedProof.texted-so
 
 -- what a check returns
 pub checked-cases : all isChecked checkedCases ≡ true
@@ -220,9 +227,18 @@ module _ (s : List ℕ) (h : Head) (accepted : judge s ≡ Accepted h) where
 pub independence : (W u : ℕ) (r s : Run W) → SameFor W u r s → Independent W u r s
 independence = IndependenceProof.independence
 
+-- images that are the same words, other users' assignments and the end word left out, have policies that agree: for a clause text the
+-- independence rule asks for no more than the words
+pub same-words-agree : (u : ℕ) (s t : List ℕ) (g h : Head) → judge s ≡ Accepted g → judge t ≡ Accepted h → u < 64 → ownWords u s ≡ ownWords u t
+    → Agree u (policyOf s) (policyOf t)
+same-words-agree = IndependenceProof.same-words-agree
+
 -- two runs that differ in all that others may change are the same for a user
 pub apart-runs : Apart
 apart-runs = ApartProof.apart
+
+pub apart-texts : ApartText
+apart-texts = ApartProof.apart-text
 
 -- ---- bytes
 
@@ -240,8 +256,14 @@ show-keeps = FramesProof.show-keeps
 pub explain-keeps : (W : ℕ) (image ledger : List ℕ) (u k n : ℕ) → ExplainKeeps W image ledger u k n
 explain-keeps = FramesProof.explain-keeps
 
+pub clauses-keep : (W : ℕ) → ClausesKeep W
+clauses-keep = FramesProof.clauses-keep
+
 pub answer-keeps-length : (W : ℕ) → AnswerKeepsLength W
 answer-keeps-length = AnswerProof.answer-keeps-length
+
+pub texts-keep : (W : ℕ) → TextsKeep W
+texts-keep = AnswerProof.texts-keep
 
 -- a call changes no byte of another session
 pub session-frame : (W : ℕ) → SessionFrames W

@@ -7,8 +7,9 @@ use Prim.Native.Nat.{ℕ}
 use lib.ListN.{replicate}
 use Rattle.model.specs.Policy.{policyOf, onlyFor}
 use Rattle.model.specs.Line.{SESSIONS}
-use Rattle.model.specs.Run.{Call, openBy, closeBy}
+use Rattle.model.specs.Run.{Call, openBy, closeBy, clausesBy}
 use Rattle.model.specs.Independence.{Run, SameFor}
+use Rattle.model.specs.Bytes.{bytesOf}
 use Rattle.model.specs.Words.{imageBytes, ended}
 use Rattle.model.specs.Ward.{opens, asks, shows, damaged}
 
@@ -52,3 +53,25 @@ pub record Apart : Type 0 where
   pub calls : (one .calls ≡ oneList) × (other .calls ≡ otherList)
   pub same : SameFor SESSIONS 0 one other
   pub fed : onlyFor 0 (policyOf oneImage) .assigned ≡ onlyFor 0 (policyOf otherImage) .assigned
+
+-- ---- the same with a clause text among the user's calls
+
+-- image A for two users again, with the second user's assignments at other places and to the other role, and so another end word: the other
+-- words are the same in the same order
+unfoldable pub movedImage : List ℕ
+movedImage =
+    imageBytes
+    (ended
+    (0x104080A0 ∷ 0x20410000 ∷ 0x20000000 ∷ 0x20010000 ∷ 0x30000000 ∷ 0x30004000 ∷ 0x20410000 ∷ 0x30008000 ∷ 0x3000C000 ∷ 0x30404000 ∷ 0x30410000
+    ∷ 0x40010000 ∷ 0x54102000 ∷ 0x60000000 ∷ 0x60400000 ∷ []))
+
+unfoldable pub clauseText : Call
+clauseText = clausesBy 0 0 (bytesOf 32 0x3) (bytesOf 32 0x1f) 1 0 1000
+
+pub record ApartText : Type 0 where
+  pub one : Run SESSIONS
+  pub other : Run SESSIONS
+  pub images : (one .image ≡ oneImage) × (other .image ≡ movedImage)
+  pub ledgers : (one .ledger ≡ oneLedger) × (other .ledger ≡ otherLedger)
+  pub calls : (one .calls ≡ opens ∷ clauseText ∷ []) × (other .calls ≡ openBy 1 ∷ opens ∷ closeBy 1 0 ∷ clauseText ∷ [])
+  pub same : SameFor SESSIONS 0 one other

@@ -3,7 +3,7 @@
 -- Assumes nothing.
 use mathlib.Core.Path.{_≡_}
 use mathlib.Core.Logic.{_⊎_}
-use mathlib.Core.Bool.{Bool, true, _&&_}
+use mathlib.Core.Bool.{Bool, true, false, _&&_}
 use mathlib.Core.List.{List, []}
 use Prim.Native.Nat.{ℕ, _+_, _*_, _^_, _≤_, _<_}
 use lib.Dec.{ltb}
@@ -14,8 +14,8 @@ use Rattle.model.specs.declared.Line.{Line}
 use Rattle.model.specs.Tests.{all}
 use Rattle.model.specs.Policy.{Meaning}
 use Rattle.model.specs.Line.{lineSize, readLine, writeLine}
-use Rattle.model.specs.Session.{Operation, open-session, close-session, sessionOf, queryOf, rule}
-use Rattle.model.specs.Run.{Call, Event, step, answered, showBy, explainBy}
+use Rattle.model.specs.Session.{Operation, open-session, close-session, sessionOf, queryOf, isText, rule}
+use Rattle.model.specs.Run.{Call, Event, step, answered, written, showBy, explainBy, clausesBy}
 
 -- ---- a line and its bytes
 
@@ -37,18 +37,20 @@ pub record LineBytes (W : ℕ) : Type 0 where
 abbrev pub Outside : ℕ → ℕ → ℕ → Type 0
 Outside z u i = (i < z * u) ⊎ (z * u + z ≤ i)
 
--- A call of user u, on lines of z bytes, keeps the ledger's length and every byte outside the user's line. A refused one, whose number
--- is not 0, keeps the whole ledger and fills nothing; one that is done fills nothing or the 40 bytes of the answer buffer.
-pub record Frame (z u : ℕ) (before : List ℕ) (e : Event) : Type 0 where
+-- A call, on lines of z bytes, keeps the ledger's length and every byte outside its user's line. A refused one, whose number is not 0,
+-- keeps the whole ledger and fills nothing; one that is done fills nothing or the 40 bytes of the answer buffer, and a clause text as many
+-- bytes as its extra says.
+pub record Frame (z : ℕ) (c : Call) (before : List ℕ) (e : Event) : Type 0 where
   pub keeps-length : length (e .ledger) ≡ length before
-  pub outside : (i : ℕ) → Outside z u i → getD (e .ledger) i 0 ≡ getD before i 0
+  pub outside : (i : ℕ) → Outside z (c .user) i → getD (e .ledger) i 0 ≡ getD before i 0
   pub refused-ledger : ¬ (e .reply .number ≡ 0) → e .ledger ≡ before
   pub refused-filled : ¬ (e .reply .number ≡ 0) → e .reply .filled ≡ []
-  pub filled : (e .reply .filled ≡ []) ⊎ (length (e .reply .filled) ≡ 40)
+  pub filled : isText (c .operation) ≡ false → (e .reply .filled ≡ []) ⊎ (length (e .reply .filled) ≡ 40)
+  pub text : isText (c .operation) ≡ true → (e .reply .filled ≡ []) ⊎ (length (e .reply .filled) ≡ e .reply .extra)
 
 -- every call is framed so, under any image and on any ledger
 abbrev pub StepFrame : ℕ → Type 0
-StepFrame W = (image ledger : List ℕ) (c : Call) → Frame (lineSize W) (c .user) ledger (step W image ledger c)
+StepFrame W = (image ledger : List ℕ) (c : Call) → Frame (lineSize W) c ledger (step W image ledger c)
 
 -- a show keeps the whole ledger
 abbrev pub ShowKeeps : ℕ → Type 0
@@ -59,10 +61,25 @@ pub record ExplainKeeps (W : ℕ) (image ledger : List ℕ) (u k n : ℕ) : Type
   pub ledger-kept : step W image ledger (explainBy u k n) .ledger ≡ ledger
   pub nothing-filled : step W image ledger (explainBy u k n) .reply .filled ≡ []
 
+-- a clause text keeps the whole ledger
+abbrev pub ClausesKeep : ℕ → Type 0
+ClausesKeep W = (image ledger : List ℕ) (u k : ℕ) (lower upper : List ℕ) (a b room : ℕ)
+    → step W image ledger (clausesBy u k lower upper a b room) .ledger ≡ ledger
+
 -- the answer buffer of a call keeps its length
 abbrev pub AnswerKeepsLength : ℕ → Type 0
-AnswerKeepsLength W = (image ledger : List ℕ) (c : Call) (buffer : List ℕ) → length buffer ≡ queryOf (c .operation) .room
-    → length (answered buffer (step W image ledger c .reply)) ≡ length buffer
+AnswerKeepsLength W = (image ledger : List ℕ) (c : Call) (buffer : List ℕ) → isText (c .operation) ≡ false
+    → length buffer ≡ queryOf (c .operation) .room → length (answered buffer (step W image ledger c .reply)) ≡ length buffer
+
+-- so does the buffer of a clause text, and its bytes behind the text stay
+pub record TextKeeps (W : ℕ) (image ledger : List ℕ) (c : Call) (buffer : List ℕ) : Type 0 where
+  pub keeps-length : length (written buffer (step W image ledger c .reply)) ≡ length buffer
+  pub behind : (i : ℕ) → length (step W image ledger c .reply .filled) ≤ i
+      → getD (written buffer (step W image ledger c .reply)) i 0 ≡ getD buffer i 0
+
+abbrev pub TextsKeep : ℕ → Type 0
+TextsKeep W = (image ledger : List ℕ) (c : Call) (buffer : List ℕ) → isText (c .operation) ≡ true
+    → length buffer ≡ queryOf (c .operation) .room → TextKeeps W image ledger c buffer
 
 -- ---- a call on a line
 

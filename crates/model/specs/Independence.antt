@@ -2,18 +2,20 @@
 -- whatever the other users' assignments, lines and calls are.
 -- Assumes nothing.
 use mathlib.Core.Path.{_≡_}
-use mathlib.Core.Bool.{true, false}
+use mathlib.Core.Bool.{Bool, true, false}
 use mathlib.Core.List.{List, [], _∷_}
 use Prim.Native.Nat.{ℕ, _*_, _<_}
 use lib.Dec.{eqb}
 use lib.ListN.{length}
 use Rattle.model.specs.declared.Head.{Head}
 use Rattle.model.specs.declared.Checked.the-variants.{Accepted}
+use Rattle.model.specs.Tests.{any}
 use Rattle.model.specs.Judgement.{judge}
 use Rattle.model.specs.Policy.{Meaning, policyOf, meaning, onlyFor, Agree}
 use Rattle.model.specs.Line.{lineSize}
-use Rattle.model.specs.Session.{Operation, Result, rule}
+use Rattle.model.specs.Session.{Operation, isText, Result, rule}
 use Rattle.model.specs.Run.{Call, Event, lineAt, run}
+use Rattle.model.specs.OwnWords.{policyIn, ownWords}
 
 -- ---- the session rules alone
 
@@ -73,17 +75,24 @@ SteadyFor W u r = Steady (lineSize W) u (firstLine W u r) (r .calls) (eventsOf W
 
 -- ---- the claim
 
+-- a clause text is among the calls
+unfoldable pub hasText : List Operation → Bool
+hasText os = any isText os
+
 -- two runs that are the same for user u, who has a line: the policies agree in all but other users' assignments, the first ledgers
--- agree in u's line, and u makes the same calls in the same order
+-- agree in u's line, and u makes the same calls in the same order. Where a clause text is among them, both images, other users'
+-- assignments and the end word left out, are the same words in the same order.
 pub record SameFor (W u : ℕ) (r s : Run W) : Type 0 where
   pub agree : Agree u (policyOf (r .image)) (policyOf (s .image))
   pub below : u < r .head .users
   pub line : firstLine W u r ≡ firstLine W u s
   pub calls : callsOf u (r .calls) ≡ callsOf u (s .calls)
+  pub words : hasText (callsOf u (r .calls)) ≡ true → ownWords u (r .image) ≡ ownWords u (s .image)
 
 -- user u sees the same in both runs, and it is what the session rules give from u's own policy, first line and calls; nobody else's
--- call changes u's line
+-- call changes u's line. The rules may be fed the image's words in place of the policy, other users' assignments and the end word left out.
 pub record Independent (W u : ℕ) (r s : Run W) : Type 0 where
   pub same : viewOf W u r ≡ viewOf W u s
   pub by-rules : viewOf W u r ≡ rules W (meaning (onlyFor u (policyOf (r .image))) u) (firstLine W u r) (callsOf u (r .calls))
+  pub by-words : viewOf W u r ≡ rules W (meaning (policyIn (ownWords u (r .image))) u) (firstLine W u r) (callsOf u (r .calls))
   pub steady : SteadyFor W u r × SteadyFor W u s

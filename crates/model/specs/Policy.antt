@@ -159,7 +159,8 @@ unfoldable pub met : (Kind → ℕ) → Exclusion → Bool
 met counted x = ltb (count 64 (inter (x .members) (counted (x .kind)))) (x .limit)
 
 -- what the session rules see of a policy: the numbers of roles and permissions, the roles that the user may activate, what each role
--- carries and through which granting role, and whether every exclusion is met where kind k counts the roles `counted k`
+-- carries and through which granting role, whether every exclusion is met where kind k counts the roles `counted k`, and the exclusions in
+-- image order, by which the clause text alone goes
 pub record Meaning : Type 0 where
   pub roles : ℕ
   pub permissions : ℕ
@@ -167,6 +168,7 @@ pub record Meaning : Type 0 where
   pub carried : List ℕ
   pub granter : ℕ → ℕ → Option ℕ
   pub allMet : (Kind → ℕ) → Bool
+  pub exclusions : List Exclusion
 
 unfoldable pub meaning : Policy → ℕ → Meaning
 meaning p u =
@@ -177,6 +179,7 @@ meaning p u =
       carried = carriedTable p;
       granter = granter p;
       allMet = λ counted. all (met counted) (p .exclusions);
+      exclusions = p .exclusions;
     }
 
 -- ---- policies that agree for one user

@@ -12,7 +12,7 @@ use Rattle.model.specs.Tests.{pick}
 use Rattle.model.specs.Judgement.{judge}
 use Rattle.model.specs.Policy.{Policy, policyOf, meaning}
 use Rattle.model.specs.Line.{lineSize}
-use Rattle.model.specs.Session.{Operation, open-session, close-session, ask, short-ask, show, explain, Reply, refuse, rule}
+use Rattle.model.specs.Session.{Operation, open-session, close-session, ask, short-ask, show, explain, clauses, Reply, refuse, rule}
 
 -- a call is made by the user that it names
 pub record Call : Type 0 where
@@ -78,6 +78,10 @@ filledWith room (b ∷ bs) = b ∷ bs
 unfoldable pub answered : List ℕ → Reply → List ℕ
 answered room r = filledWith room (r .filled)
 
+-- the buffer of a clause text after the call: what fills it from its front on, and behind that as it was
+unfoldable pub written : List ℕ → Reply → List ℕ
+written room r = r .filled ++ drop (length (r .filled)) room
+
 -- ---- the calls of a host; bounds by their bytes, an answer buffer by its length
 
 unfoldable pub openBy : ℕ → Call
@@ -98,3 +102,7 @@ showBy u k room = record { user = u; operation = show k room }
 
 unfoldable pub explainBy : ℕ → ℕ → ℕ → Call
 explainBy u k n = record { user = u; operation = explain k n }
+
+unfoldable pub clausesBy : ℕ → ℕ → List ℕ → List ℕ → ℕ → ℕ → ℕ → Call
+clausesBy u k lower upper a b room =
+    record { user = u; operation = clauses k (record { lower = lower; upper = upper; permissionAim = a; roleAim = b; room = room }) }

@@ -13,10 +13,11 @@ use Rattle.model.specs.Bytes.{number, bytesOf}
 use Rattle.model.specs.Policy.{Meaning}
 use Rattle.model.specs.Line.{readLine, writeLine, sessionAt, isOpen, sound, lowestClosed, opening, closing, putIn}
 use Rattle.model.specs.Choice.{carriedBy, choose}
+use Rattle.model.specs.Dimacs.{textOf}
 
 -- ---- calls
 
--- what an ask asks for: the bounds as their bytes, both objectives, and the answer buffer's length
+-- what an ask or a clause text asks for: the bounds as their bytes, both objectives, and the answer buffer's length
 pub record Query : Type 0 where
   pub lower : List ℕ
   pub upper : List ℕ
@@ -33,6 +34,7 @@ pub data Operation : Type 0 where
   short-ask : ℕ → List ℕ → List ℕ → ℕ → Operation
   show : ℕ → ℕ → Operation
   explain : ℕ → ℕ → Operation
+  clauses : ℕ → Query → Operation
 
 -- both objectives of a short ask: fewest permissions, then fewest roles
 unfoldable pub shortAim : ℕ
@@ -46,6 +48,7 @@ sessionOf (ask k q) = k
 sessionOf (short-ask k lower upper room) = k
 sessionOf (show k room) = k
 sessionOf (explain k n) = k
+sessionOf (clauses k q) = k
 
 -- what a call asks for; a call that asks for nothing has no bounds, and a call with no answer buffer no room
 unfoldable pub queryOf : Operation → Query
@@ -55,6 +58,17 @@ queryOf (ask k q) = q
 queryOf (short-ask k lower upper room) = record { lower = lower; upper = upper; permissionAim = shortAim; roleAim = shortAim; room = room }
 queryOf (show k room) = record { lower = []; upper = []; permissionAim = 0; roleAim = 0; room = room }
 queryOf (explain k n) = record { lower = []; upper = []; permissionAim = 0; roleAim = 0; room = 0 }
+queryOf (clauses k q) = q
+
+-- the call asks for a clause text, which alone goes by the order of the image's words
+unfoldable pub isText : Operation → Bool
+isText open-session = false
+isText (close-session k) = false
+isText (ask k q) = false
+isText (short-ask k lower upper room) = false
+isText (show k room) = false
+isText (explain k n) = false
+isText (clauses k q) = true
 
 -- ---- answers
 
@@ -74,16 +88,21 @@ done x = record { number = 0; extra = x; filled = [] }
 unfoldable pub given : ℕ → ℕ → Reply
 given roles permissions = record { number = 0; extra = 0; filled = bytesOf 8 roles ++ bytesOf 32 permissions }
 
+-- done, with a text and its length
+unfoldable pub wrote : List ℕ → Reply
+wrote text = record { number = 0; extra = length text; filled = text }
+
 -- an answer, and the line after the call
 pub record Result : Type 0 where
   pub reply : Reply
   pub line : List ℕ
 
--- ---- the refusals 11 to 20, by the words of the register; the last two are of one permission
+-- ---- the refusals 11 to 20, by the words of the register; two are of one permission, and `too-long` is of a clause text
 
 pub data Refusal : Type 0 where
   bad-line bad-session is-closed is-full bad-set bad-permission bad-bounds bad-aim bad-room no-set : Refusal
   not-below not-carried : ℕ → Refusal
+  too-long : Refusal
 
 unfoldable pub refusalNumber : Refusal → ℕ
 refusalNumber bad-line = 11
@@ -98,6 +117,7 @@ refusalNumber bad-room = 19
 refusalNumber no-set = 20
 refusalNumber (not-below n) = 16
 refusalNumber (not-carried n) = 20
+refusalNumber too-long = 19
 
 -- those that a call can give, in number order
 unfoldable pub canGive : Operation → List Refusal
@@ -107,10 +127,15 @@ canGive (ask k q) = bad-line ∷ bad-session ∷ is-closed ∷ bad-set ∷ bad-p
 canGive (short-ask k lower upper room) = bad-line ∷ bad-session ∷ is-closed ∷ bad-set ∷ bad-permission ∷ bad-bounds ∷ bad-room ∷ no-set ∷ []
 canGive (show k room) = bad-line ∷ bad-session ∷ is-closed ∷ bad-room ∷ []
 canGive (explain k n) = bad-line ∷ bad-session ∷ is-closed ∷ not-below n ∷ not-carried n ∷ []
+canGive (clauses k q) = bad-line ∷ bad-session ∷ is-closed ∷ bad-set ∷ bad-permission ∷ bad-bounds ∷ bad-aim ∷ too-long ∷ []
 
 -- the set that a query is answered with
 unfoldable pub chosen : Meaning → Line → ℕ → Query → Option ℕ
 chosen m l k q = choose m l k (number (q .lower)) (number (q .upper)) (q .permissionAim) (q .roleAim)
+
+-- the clause text of a query
+unfoldable pub textFor : Meaning → Line → ℕ → Query → List ℕ
+textFor m l k q = textOf m l k (number (q .lower)) (number (q .upper)) (q .permissionAim) (q .roleAim)
 
 unfoldable pub isNone : Option ℕ → Bool
 isNone none = true
@@ -148,6 +173,7 @@ applies W m l k q bad-room = not (eqb (q .room) 40)
 applies W m l k q no-set = isNone (chosen m l k q)
 applies W m l k q (not-below n) = not (ltb n (m .permissions))
 applies W m l k q (not-carried n) = isNone (explanation (m .granter n) (sessionAt l k .active))
+applies W m l k q too-long = ltb (q .room) (length (textFor m l k q))
 
 -- ---- a call that nothing refuses; bs are the bytes of the line l
 
@@ -168,6 +194,7 @@ perform W m l bs (ask k q) = asked m l bs k (chosen m l k q)
 perform W m l bs (short-ask k lower upper room) = asked m l bs k (chosen m l k (queryOf (short-ask k lower upper room)))
 perform W m l bs (show k room) = record { reply = given (sessionAt l k .active) (carriedBy m (sessionAt l k .active)); line = bs }
 perform W m l bs (explain k n) = explained bs (explanation (m .granter n) (sessionAt l k .active))
+perform W m l bs (clauses k q) = record { reply = wrote (textFor m l k q); line = bs }
 
 -- ---- the rules
 

@@ -1,0 +1,131 @@
+-- A call that is no clause text does not look at the order in which the exclusions stand: it goes by the rest of a policy's meaning.
+-- Assumes nothing.
+use mathlib.Core.Path.{_≡_, refl, sym, ap, ap₂, _∙_}
+use mathlib.Core.Bool.{Bool, true, false, _&&_, _||_, not, true≢false}
+use mathlib.Core.Option.{Option, none, some}
+use mathlib.Core.List.{List, [], _∷_}
+use Prim.Native.Nat.{ℕ, suc, _^_}
+use lib.Dec.{ltb}
+use Rattle.model.specs.declared.Exclusion.{Exclusion}
+use Rattle.model.specs.declared.Session.{Session}
+use Rattle.model.specs.declared.Line.{Line}
+use Rattle.model.specs.Tests.{any, first}
+use Rattle.model.specs.Sets.{subsets}
+use Rattle.model.specs.Bytes.{number}
+use Rattle.model.specs.Policy.{Meaning}
+use Rattle.model.specs.Line.{readLine, exclusionsMet, sessionSound, sessionsSound, sound}
+use Rattle.model.specs.Choice.{carriedBy, admissible, permissionCost, better, best, choose}
+use Rattle.model.specs.Session.{Query, Operation, open-session, close-session, ask, short-ask, show, explain, clauses, sessionOf, queryOf, isText, Result, Refusal, bad-line, bad-session, is-closed, is-full, bad-set, bad-permission, bad-bounds, bad-aim, bad-room, no-set, not-below, not-carried, canGive, chosen, isNone, applies, asked, perform, unless, rule}
+use Rattle.model.specs.Independence.{rules, hasText}
+use Rattle.model.specs.Ranges.{Each}
+
+-- a meaning with its exclusions listed otherwise
+abbrev pub listed : Meaning → List Exclusion → Meaning
+listed m xs =
+    record {
+      roles = m .roles;
+      permissions = m .permissions;
+      authorized = m .authorized;
+      carried = m .carried;
+      granter = m .granter;
+      allMet = m .allMet;
+      exclusions = xs;
+    }
+
+-- tests that are the same on a list find the same
+first-same : {A : Type 0} (f g : A → Bool) (xs : List A) → Each (λ (x : A). f x ≡ g x) xs → first f xs ≡ first g xs
+unfolding first
+first-same f g [] h = refl
+first-same {A} f g (x ∷ xs) h =
+    ap₂ (λ (b : Bool) (o : Option A). elim b [ true ↦ some x | false ↦ o ]) (h .0) (first-same f g xs (h .1))
+
+pub or-false : (a b : Bool) → (a || b) ≡ false → (a ≡ false) × (b ≡ false)
+or-false true b e = absurd (true≢false e)
+or-false false b e = (refl, e)
+
+module _ (m : Meaning) (xs : List Exclusion) where
+  -- ---- soundness
+  sessions-listed : (l : Line) (k : ℕ) (ss : List Session) → sessionsSound m l k ss ≡ sessionsSound (listed m xs) l k ss
+  unfolding sessionsSound sessionSound
+  sessions-listed l k [] = refl
+  sessions-listed l k (s ∷ ss) = ap (λ (b : Bool). sessionSound m l k s && b) (sessions-listed l (suc k) ss)
+
+  sound-listed : (W : ℕ) (l : Line) → sound W m l ≡ sound W (listed m xs) l
+  unfolding sound exclusionsMet
+  sound-listed W l =
+      ap (λ (b : Bool). ltb (l .opened) (2 ^ W) && ltb (l .history) (2 ^ m .roles) && b && exclusionsMet m l) (sessions-listed l 0 (l .sessions))
+
+  -- ---- the choice
+  admissible-listed : (l : Line) (k lower upper s : ℕ) → admissible m l k lower upper s ≡ admissible (listed m xs) l k lower upper s
+  unfolding admissible carriedBy exclusionsMet
+  admissible-listed l k lower upper s = refl
+
+  better-listed : (a b s t : ℕ) → better m a b s t ≡ better (listed m xs) a b s t
+  unfolding better permissionCost carriedBy
+  better-listed a b s t = refl
+
+  chosen-listed : (l : Line) (k : ℕ) (q : Query) → chosen m l k q ≡ chosen (listed m xs) l k q
+  unfolding chosen choose
+  chosen-listed l k q =
+      λ i. best (λ s. admissible-listed l k (number (q .lower)) (number (q .upper)) s i) (λ s t. better-listed (q .permissionAim) (q .roleAim) s t i)
+      (subsets 64 (m .authorized))
+
+  -- ---- the refusals
+  module _ (W : ℕ) (l : Line) (k : ℕ) (q : Query) where
+    abbrev Same : Refusal → Type 0
+    Same f = applies W m l k q f ≡ applies W (listed m xs) l k q f
+
+    same-line : Same bad-line
+    unfolding applies
+    same-line = ap not (sound-listed W l)
+
+    same-set : Same no-set
+    unfolding applies
+    same-set = ap isNone (chosen-listed l k q)
+
+    refusals-listed : (op : Operation) → isText op ≡ false → Each Same (canGive op)
+    unfolding canGive applies isText
+    refusals-listed open-session e = (same-line, (refl, tt))
+    refusals-listed (close-session k) e = (same-line, (refl, (refl, tt)))
+    refusals-listed (ask k r) e = (same-line, (refl, (refl, (refl, (refl, (refl, (refl, (refl, (same-set, tt)))))))))
+    refusals-listed (short-ask k lower upper room) e = (same-line, (refl, (refl, (refl, (refl, (refl, (refl, (same-set, tt))))))))
+    refusals-listed (show k room) e = (same-line, (refl, (refl, (refl, tt))))
+    refusals-listed (explain k n) e = (same-line, (refl, (refl, (refl, (refl, tt)))))
+    refusals-listed (clauses k r) e = absurd (true≢false e)
+
+  -- ---- the work done
+  asked-listed : (l : Line) (bs : List ℕ) (k : ℕ) (o : Option ℕ) → asked m l bs k o ≡ asked (listed m xs) l bs k o
+  unfolding asked carriedBy
+  asked-listed l bs k none = refl
+  asked-listed l bs k (some s) = refl
+
+  answer-listed : (l : Line) (bs : List ℕ) (k : ℕ) (q : Query) → asked m l bs k (chosen m l k q) ≡ asked (listed m xs) l bs k (chosen (listed m xs) l k q)
+  answer-listed l bs k q = asked-listed l bs k (chosen m l k q) ∙ ap (asked (listed m xs) l bs k) (chosen-listed l k q)
+
+  perform-listed : (W : ℕ) (l : Line) (bs : List ℕ) (op : Operation) → isText op ≡ false → perform W m l bs op ≡ perform W (listed m xs) l bs op
+  unfolding perform isText carriedBy
+  perform-listed W l bs open-session e = refl
+  perform-listed W l bs (close-session k) e = refl
+  perform-listed W l bs (ask k q) e = answer-listed l bs k q
+  perform-listed W l bs (short-ask k lower upper room) e = answer-listed l bs k (queryOf (short-ask k lower upper room))
+  perform-listed W l bs (show k room) e = refl
+  perform-listed W l bs (explain k n) e = refl
+  perform-listed W l bs (clauses k q) e = absurd (true≢false e)
+
+  -- ---- the rules
+  pub rule-listed : (W : ℕ) (bs : List ℕ) (op : Operation) → isText op ≡ false → rule W m bs op ≡ rule W (listed m xs) bs op
+  unfolding rule
+  rule-listed W bs op e =
+      let l = readLine W bs in
+      ap₂ (λ (o : Option Refusal) (r : Result). unless o bs r)
+      (first-same (applies W m l (sessionOf op) (queryOf op)) (applies W (listed m xs) l (sessionOf op) (queryOf op)) (canGive op)
+      (refusals-listed W l (sessionOf op) (queryOf op) op e)) (perform-listed W l bs op e)
+
+  pub rules-listed : (W : ℕ) (bs : List ℕ) (os : List Operation) → hasText os ≡ false → rules W m bs os ≡ rules W (listed m xs) bs os
+  unfolding rules hasText any
+  rules-listed W bs [] e = refl
+  rules-listed W bs (o ∷ os) e =
+      let f = or-false (isText o) (any isText os) e in
+      let q = rule-listed W bs o (f .0) in
+      ap₂ {C = List Result} (λ (r : Result) (rs : List Result). r ∷ rs) q
+      (rules-listed W (rule W m bs o .line) os (f .1) ∙ ap (λ (r : Result). rules W (listed m xs) (r .line) os) q)
