@@ -15,7 +15,7 @@ use Rattle.model.specs.declared.Exclusions.{Exclusions}
 use Rattle.model.specs.Tests.{pick, all, first}
 use Rattle.model.specs.Policy.{Policy, Meaning, authorized, met, meaning}
 use Rattle.model.specs.Line.{lineSize, readLine, sound}
-use Rattle.model.specs.Session.{Operation, open-session, close-session, ask, short-ask, show, explain, sessionOf, queryOf, refuse, Result, Refusal, bad-line, refusalNumber, canGive, applies, perform, unless, rule}
+use Rattle.model.specs.Session.{Operation, open-session, close-session, ask, short-ask, show, explain, clauses, sessionOf, queryOf, refuse, Result, Refusal, bad-line, refusalNumber, canGive, applies, perform, unless, rule}
 use Rattle.model.specs.Run.{Call, Event, lineAt, withLine, ruled, stepOn, returned, filledWith, answered}
 use Rattle.model.proofs.LedgerLaws.{apart, own-line, step-below}
 use Rattle.model.proofs.Reaches.{authorized-alone}
@@ -114,6 +114,7 @@ rule11 W m bs op e = rule-refuses W m bs op bad-line (go op)
     go (short-ask k lower upper room) = holds _ _ _ (ap not e)
     go (show k room) = holds _ _ _ (ap not e)
     go (explain k n) = holds _ _ _ (ap not e)
+    go (clauses k q) = holds _ _ _ (ap not e)
 
 module _ (W : ℕ) (p : Policy) (ledger : List ℕ) (c : Call) where
   -- under a refusal of the session rules the ledger stays

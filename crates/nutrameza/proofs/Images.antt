@@ -41,12 +41,12 @@ known-of s h own granted below rows count e t =
 
 module _ (W : ℕ) (s ledger : List ℕ) (c : Call) where
   -- a call goes by the policy of an accepted image
-  step-accepted : (h : Head) → judge s ≡ Accepted h → step W s ledger c ≡ stepOn W (policyOf s) ledger c
+  pub step-accepted : (h : Head) → judge s ≡ Accepted h → step W s ledger c ≡ stepOn W (policyOf s) ledger c
   unfolding step stepBy
   step-accepted h e = rw e
 
   -- and is refused as the image is
-  step-refused : (n place : ℕ) → judge s ≡ Refused n place → step W s ledger c ≡ record { reply = refuse n place; ledger = ledger }
+  pub step-refused : (n place : ℕ) → judge s ≡ Refused n place → step W s ledger c ≡ record { reply = refuse n place; ledger = ledger }
   unfolding step stepBy
   step-refused n place e = rw e
 

@@ -5,3 +5,4 @@ pub mod ShortAsks
 pub mod Tidying
 pub mod TableCalls
 pub mod SearchTable
+pub mod Texts

@@ -16,8 +16,10 @@ use calls::given::Rules;
 use calls::given::Window;
 use model::Checked;
 
+pub mod clauses; // clauses.rt: the clause text of an ask
+
 // What a call returns under a refused image.
-fn refusal_of(c: Checked) -> u64
+pub fn refusal_of(c: Checked) -> u64
     ensures { λ r. ⌜ r ≡ checkNumber c ⌝ }
 {
     let Checked::Refused(number, place) = c else {

@@ -9,29 +9,17 @@ use native.Mathlib.Omega.{arith}
 use mir.Val.{Fits}
 use mir.Syntax.{w64}
 use lib.Dec.{ltb, lit<}
-use lib.Bits.{bitAnd, bitXor}
 use lib.ListN.{getD}
 use borrow.Author.Tests.{ltb-true, ltb-false}
 use Rattle.model.specs.Sets.{has, within}
 use Rattle.model.proofs.Bools.{and-l, and-r, not-both}
-use Rattle.model.proofs.SetLaws.{has-inter, has-beyond}
+use Rattle.model.proofs.SetLaws.{has-beyond}
 use Rattle.sets.specs.Members.{Lowest}
 use Rattle.sets.specs.Words.{value, Splits}
 use Rattle.sets.proofs.Machine.{value-has, value-lt}
-use Rattle.sets.proofs.Taken.{apart, has-xor}
+use Rattle.sets.proofs.Taken.{lacking, has-lacking}
 use Rattle.query.specs.Carry.{Missing}
 use Rattle.query.proofs.Members.{sub-within, no-member}
-
--- what a has and b lacks
-abbrev pub lacking : ℕ → ℕ → ℕ
-lacking a b = bitXor a (bitAnd a b)
-
-pub has-lacking : (a b k : ℕ) → has (lacking a b) k ≡ (has a k && not (has b k))
-has-lacking a b k = has-xor a (bitAnd a b) k ∙ ap (apart (has a k)) (has-inter a b k) ∙ table (has a k) (has b k)
-  where
-    table : (x y : Bool) → apart x (x && y) ≡ (x && not y)
-    table true y = refl
-    table false y = refl
 
 nothing-lacks : (a b k : ℕ) → lacking a b ≡ 0 → has a k ≡ true → has b k ≡ true
 nothing-lacks a b k e m = go (has b k) refl

@@ -23,15 +23,16 @@ use Rattle.model.specs.Policy.{Policy, authorized, meaning}
 use Rattle.model.specs.Line.{emptySession, sessionAt, activeIn, exclusionsMet, putIn}
 use Rattle.model.specs.Choice.{carriedBy, admissible}
 use Rattle.model.specs.Conditions.{others, countedAfter, MetAfter}
+use Rattle.model.specs.Reduced.{stay, stays, maskOf, roomOf}
 use Rattle.model.proofs.Bools.{and-r, both, bool-ext}
 use Rattle.model.proofs.Every.{all-mem, mem-all, all-at, at-all}
 use Rattle.model.proofs.SetLaws.{has-union, has-inter}
 use Rattle.model.proofs.Actives.{active-middle}
 use Rattle.model.proofs.ConditionsProof.{solution}
-use Rattle.query.specs.Rooms.{fits, roomy, stay, maskOf, roomOf}
+use Rattle.sets.proofs.Taken.{has-lacking}
+use Rattle.query.specs.Rooms.{fits, roomy}
 use Rattle.query.specs.Reduction.{Reduces}
 use Rattle.query.proofs.Members.{sub-within, within-sub, none-sub, no-member}
-use Rattle.query.proofs.Lacking.{has-lacking}
 use Rattle.query.proofs.RoomLaws.{below-at, at-below}
 
 -- ---- the roles active in sessions
@@ -71,10 +72,7 @@ module _ (m b s : ℕ) where
           e ∙ sym (le-ltb (count 64 (inter m (union b s))) limit (omega (arith, apart 64)))
 
 -- ---- what each kind counts at session k then: what stays, and s
-abbrev pub staysAt : Line → ℕ → Kind → ℕ
-staysAt l k c = stay c (activeIn (others k (l .sessions))) (sessionAt l k .history) (l .history)
-
-counted-then : (l : Line) (k s : ℕ) (c : Kind) → countedAfter l k s k c ≡ union (staysAt l k c) s
+counted-then : (l : Line) (k s : ℕ) (c : Kind) → countedAfter l k s k c ≡ union (stays l k c) s
 unfolding countedAfter stay pick
 counted-then l k s SsDmer = rw (eq-eqb k k refl) (sym (or-zero-l s))
 counted-then l k s MsDmer = or-comm s (activeIn (others k (l .sessions)))
@@ -83,13 +81,13 @@ counted-then l k s MsHmer = refl
 
 -- the exclusion is met at session k once s is put in
 unfoldable metThen : Line → ℕ → ℕ → Exclusion → Bool
-metThen l k s x = fits (maskOf (x .members) (staysAt l k (x .kind))) (roomOf (x .members) (x .limit) (staysAt l k (x .kind))) s
+metThen l k s x = fits (maskOf (x .members) (stays l k (x .kind))) (roomOf (x .members) (x .limit) (stays l k (x .kind))) s
 
 met-then : (l : Line) (k s : ℕ) (x : Exclusion) → (metThen l k s x ≡ true) ↔ MetAfter l k s k x
 unfolding metThen
 met-then l k s x =
     let e : metThen l k s x ≡ ltb (count 64 (inter (x .members) (countedAfter l k s k (x .kind)))) (x .limit) =
-    fits-same (x .members) (staysAt l k (x .kind)) s (x .limit) ∙ ap (λ (n : ℕ). ltb (count 64 (inter (x .members) n)) (x .limit)) (sym (counted-then l k s (x .kind))) in (
+    fits-same (x .members) (stays l k (x .kind)) s (x .limit) ∙ ap (λ (n : ℕ). ltb (count 64 (inter (x .members) n)) (x .limit)) (sym (counted-then l k s (x .kind))) in (
       λ h. ltb-true _ (x .limit) (sym e ∙ h),
       λ h. e ∙ lt-ltb _ (x .limit) h,
     )
@@ -123,8 +121,8 @@ module _ (p : Policy) (u : ℕ) (l : Line) (k : ℕ) (inside : k < length (l .se
 
   -- the exclusions are the first n of a list, and masks and rooms have them reduced
   pub reduced-same : (xs : List Exclusion) (d : Exclusion) (n : ℕ) (masks rooms : List ℕ) → n ≤ length xs → p .exclusions ≡ take n xs
-      → ((i : ℕ) → i < n → getD masks i 0 ≡ maskOf (getD xs i d .members) (staysAt l k (getD xs i d .kind)))
-      → ((i : ℕ) → i < n → getD rooms i 0 ≡ roomOf (getD xs i d .members) (getD xs i d .limit) (staysAt l k (getD xs i d .kind)))
+      → ((i : ℕ) → i < n → getD masks i 0 ≡ maskOf (getD xs i d .members) (stays l k (getD xs i d .kind)))
+      → ((i : ℕ) → i < n → getD rooms i 0 ≡ roomOf (getD xs i d .members) (getD xs i d .limit) (stays l k (getD xs i d .kind)))
       → exclusionsMet (meaning p u) (putIn k s l) ≡ roomy masks rooms n s
   unfolding roomy metThen
   reduced-same xs d n masks rooms h e em er =
@@ -173,16 +171,30 @@ module _ (xs : List Exclusion) (d : Exclusion) (elsewhere session user : ℕ) wh
             (kw ∙ ap (roomOf (getD xs n d .members) (getD xs n d .limit)) kb);
       }
 
+-- what an element is does not depend on what stands for one outside
+inside-any : (xs : List Exclusion) (i : ℕ) (d e : Exclusion) → i < length xs → getD xs i d ≡ getD xs i e
+inside-any [] i d e h = absurd (omega arith)
+inside-any (x ∷ xs) zero d e h = refl
+inside-any (x ∷ xs) (suc i) d e h = inside-any xs i d e (omega arith)
+
 -- all done, they are reduced for the line and session k
 pub reduces : (x : Exclusions) (d : Exclusion) (l : Line) (k elsewhere session n : ℕ) (masks rooms : List ℕ) → k < length (l .sessions) → x .count ≤ length (x .list)
     → x .count ≤ n → elsewhere ≡ activeIn (others k (l .sessions)) → session ≡ sessionAt l k .history → Filled (x .list) d elsewhere session (l .history) masks rooms n
     → Reduces x l k masks rooms
 reduces x d l k elsewhere session n masks rooms hk hx hn ee es f =
     record {
-      same = λ p u e met s own. reduced-same p u l k hk met s own (x .list) d (x .count) masks rooms hx e
-          (λ i q. f .mask i (omega arith) ∙ ap₂ (λ (a b : ℕ). maskOf (getD (x .list) i d .members) (stay (getD (x .list) i d .kind) a b (l .history))) ee es)
-          (λ i q. f .room i (omega arith) ∙ ap₂ (λ (a b : ℕ). roomOf (getD (x .list) i d .members) (getD (x .list) i d .limit) (stay (getD (x .list) i d .kind) a b (l .history))) ee es);
+      same = λ p u e met s own. reduced-same p u l k hk met s own (x .list) d (x .count) masks rooms hx e em er;
+      members = λ o i q. em i q ∙ ap (λ (y : Exclusion). maskOf (y .members) (stays l k (y .kind))) (inside-any (x .list) i d o (omega arith));
+      space = λ o i q. er i q ∙ ap (λ (y : Exclusion). roomOf (y .members) (y .limit) (stays l k (y .kind))) (inside-any (x .list) i d o (omega arith));
     }
+  where
+    em : (i : ℕ) → i < x .count → getD masks i 0 ≡ maskOf (getD (x .list) i d .members) (stays l k (getD (x .list) i d .kind))
+    em i q = f .mask i (omega arith) ∙ ap₂ (λ (a b : ℕ). maskOf (getD (x .list) i d .members) (stay (getD (x .list) i d .kind) a b (l .history))) ee es
+
+    er : (i : ℕ) → i < x .count → getD rooms i 0 ≡ roomOf (getD (x .list) i d .members) (getD (x .list) i d .limit) (stays l k (getD (x .list) i d .kind))
+    er i q =
+        f .room i (omega arith)
+        ∙ ap₂ (λ (a b : ℕ). roomOf (getD (x .list) i d .members) (getD (x .list) i d .limit) (stay (getD (x .list) i d .kind) a b (l .history))) ee es
 
 -- a list that is mapped is as long
 pub length-mapped : (X Y : Type 0) (f : X → Y) (l : List X) (n : ℕ) → length (map f l) ≡ n → length l ≡ n

@@ -9,7 +9,7 @@ use Rattle.model.specs.declared.Checked.{Checked}
 use Rattle.model.specs.declared.Checked.the-variants.{Accepted, Refused}
 use Rattle.model.specs.Policy.{Policy, Meaning, policyOf, meaning}
 use Rattle.model.specs.Judgement.{judge}
-use Rattle.model.specs.Session.{Operation, open-session, close-session, ask, short-ask, show, explain, Reply, refuse, done, given, Result, Refusal, bad-line, bad-session, is-closed, is-full, bad-set, bad-permission, bad-bounds, bad-aim, bad-room, no-set, not-below, not-carried, refusalNumber, asked, explained, perform, unless, rule}
+use Rattle.model.specs.Session.{Operation, open-session, close-session, ask, short-ask, show, explain, clauses, Reply, refuse, done, given, wrote, Result, Refusal, bad-line, bad-session, is-closed, is-full, bad-set, bad-permission, bad-bounds, bad-aim, bad-room, no-set, not-below, not-carried, too-long, refusalNumber, asked, explained, perform, unless, rule}
 use Rattle.model.specs.Run.{Call, Event, step, stepBy, stepOn, ruled, returned}
 use Rattle.model.proofs.Bools.{pick-case}
 use Rattle.model.proofs.ImageNumbers.{Numbered}
@@ -46,6 +46,7 @@ refusal-small bad-room = omega arith
 refusal-small no-set = omega arith
 refusal-small (not-below n) = omega arith
 refusal-small (not-carried n) = omega arith
+refusal-small too-long = omega arith
 
 asked-small : (m : Meaning) (l : _) (bs : List ℕ) (k : ℕ) (o : Option ℕ) → asked m l bs k o .reply .number < 256
 unfolding asked refuse given
@@ -58,13 +59,14 @@ explained-small bs none = omega arith
 explained-small bs (some x) = omega arith
 
 perform-small : (W : ℕ) (m : Meaning) (l : _) (bs : List ℕ) (op : Operation) → perform W m l bs op .reply .number < 256
-unfolding perform done given
+unfolding perform done given wrote
 perform-small W m l bs open-session = omega arith
 perform-small W m l bs (close-session k) = omega arith
 perform-small W m l bs (ask k q) = asked-small m l bs k _
 perform-small W m l bs (short-ask k lower upper room) = asked-small m l bs k _
 perform-small W m l bs (show k room) = omega arith
 perform-small W m l bs (explain k n) = explained-small bs _
+perform-small W m l bs (clauses k q) = omega arith
 
 unless-small : (o : Option Refusal) (bs : List ℕ) (r : Result) → r .reply .number < 256 → unless o bs r .reply .number < 256
 unfolding unless refuse

@@ -8,11 +8,11 @@ use native.Mathlib.Numerals.{add-one, one-add}
 use native.Mathlib.Omega.{arith}
 use borrow.Author.Tests.{eqb-true, eqb-false, eq-eqb, ne-eqb}
 use lib.Dec.{eqb, lit<}
-use lib.Bits.{bitXor, xor-shr, xor-mod, xor-lt, or-lt}
+use lib.Bits.{bitAnd, bitXor, xor-shr, xor-mod, xor-lt, or-lt}
 use lib.Pow.{pow-pos, pow-lt, shr-shr, shr-lt}
 use lib.Count.{trailingZeros, under}
 use Rattle.model.specs.Sets.{has, with, count}
-use Rattle.model.proofs.SetLaws.{has-power, has-with, same-members, count-with}
+use Rattle.model.proofs.SetLaws.{has-power, has-inter, has-with, same-members, count-with}
 use Rattle.sets.specs.Members.{without, lowestOf, Lowest}
 
 -- ---- a member taken out
@@ -40,6 +40,17 @@ unfolding has
 has-xor a b k =
     ap (λ (x : ℕ). eqb (x % 2) 1) (xor-shr a b k) ∙ ap (λ (x : ℕ). eqb x 1) (xor-mod (a / 2 ^ k) (b / 2 ^ k) 1)
     ∙ xor-table (a / 2 ^ k % 2) (b / 2 ^ k % 2) (mod-lt (a / 2 ^ k) (pow-pos 1)) (mod-lt (b / 2 ^ k) (pow-pos 1))
+
+-- what one set has and another lacks
+abbrev pub lacking : ℕ → ℕ → ℕ
+lacking a b = bitXor a (bitAnd a b)
+
+pub has-lacking : (a b k : ℕ) → has (lacking a b) k ≡ (has a k && not (has b k))
+has-lacking a b k = has-xor a (bitAnd a b) k ∙ ap (apart (has a k)) (has-inter a b k) ∙ table (has a k) (has b k)
+  where
+    table : (x y : Bool) → apart x (x && y) ≡ (x && not y)
+    table true y = refl
+    table false y = refl
 
 taken-out : (a b : Bool) → (b ≡ true → a ≡ true) → apart a b ≡ (a && not b)
 taken-out true b h = refl

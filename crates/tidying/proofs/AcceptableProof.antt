@@ -18,7 +18,8 @@ use Rattle.model.specs.Image.{wordAt, behindHead, field, isKind, inRange, headO
 use Rattle.model.specs.Policy.{entryAt, entriesFrom, entriesOf, exclusionsOf, policyOf}
 use Rattle.model.specs.Judgement.{judge}
 use Rattle.model.specs.Ranges.{Each, OneTo}
-use Rattle.tidying.specs.Groups.{wordsFrom, wordsBehind, entryOf, spread, Acceptable}
+use Rattle.model.specs.OwnWords.{wordsFrom}
+use Rattle.tidying.specs.Groups.{wordsBehind, entryOf, spread, Acceptable}
 use Rattle.model.proofs.Bools.{and-l, and-r}
 use Rattle.model.proofs.Tables.{empty-length}
 use Rattle.model.proofs.Accepted.{head-tests, one-to}

@@ -1,7 +1,7 @@
 -- The limits of a policy go by its head, tables and number of exclusions.
 -- Assumes nothing.
 use mathlib.Core.Path.{_≡_, ap, _∙_, subst}
-use mathlib.Core.List.{List}
+use mathlib.Core.List.{List, []}
 use Prim.Native.Nat.{ℕ, _≤_}
 use lib.ListN.{length, getD}
 use Rattle.model.specs.Sets.{has, count}
@@ -10,7 +10,7 @@ use Rattle.model.specs.Chains.{over, Chain, here, step}
 use Rattle.model.specs.Ordered.{Loopless}
 use Rattle.tidying.specs.Groups.{Limits}
 use Rattle.tidying.specs.Same.{SamePolicy}
-use Rattle.model.proofs.Meanings.{agree-meaning}
+use Rattle.model.proofs.Meanings.{agree-listed}
 use Rattle.tidying.proofs.AlikeProof.{agree}
 
 -- a chain goes by the senior words alone
@@ -32,7 +32,7 @@ loopless-same p q e l r b =
 
 authorized-same : (p q : Policy) → SamePolicy p q → (u : ℕ) → authorized p u ≡ authorized q u
 unfolding meaning
-authorized-same p q e u = ap (λ (m : Meaning). m .authorized) (agree-meaning u p q (agree u p q e))
+authorized-same p q e u = ap (λ (m : Meaning). m .authorized) (agree-listed u p q (agree u p q e) [])
 
 -- ---- the limits of a policy are those of one with the same tables and no more exclusions than are allowed
 pub limits-same : (p q : Policy) → SamePolicy p q → length (q .exclusions) ≤ 32 → Limits p → Limits q

@@ -16,7 +16,8 @@ use Rattle.model.specs.declared.Checked.the-variants.{Accepted, Refused}
 use Rattle.model.specs.Tests.{pick}
 use Rattle.model.specs.Image.{wordAt, behindHead, decode, wrongKind, inRange, repeats, crowds, entryFault, fault, assigning, next, balanced, scan, headOf, headRight, lengthRight, emptyRows, start, judgeWords}
 use Rattle.model.specs.Words.{sumOf}
-use Rattle.tidying.specs.Groups.{wordsFrom, wordsBehind, entryOf}
+use Rattle.model.specs.OwnWords.{wordsFrom}
+use Rattle.tidying.specs.Groups.{wordsBehind, entryOf}
 use Rattle.model.proofs.Scanned.{no-fault}
 
 -- ---- a word without fault

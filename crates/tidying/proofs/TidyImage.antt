@@ -22,7 +22,8 @@ use Rattle.model.specs.Words.{headWord, assignWord, grantWord, seniorWord, sumO
 use Rattle.model.specs.Policy.{Policy, granting, ordering, fold, entriesOf, exclusionsOf, policyOf, sameExclusion, excludes}
 use Rattle.model.specs.Judgement.{judge}
 use Rattle.model.specs.Ranges.{Each, InRange}
-use Rattle.tidying.specs.Groups.{wordsFrom, wordsBehind, entryOf, Group, spread, RightMember, RightGroup, Acceptable}
+use Rattle.model.specs.OwnWords.{wordsFrom}
+use Rattle.tidying.specs.Groups.{wordsBehind, entryOf, Group, spread, RightMember, RightGroup, Acceptable}
 use Rattle.tidying.specs.Same.{SamePolicy}
 use Rattle.tidying.specs.Tidy.{single, tableGroups, sorted, tidyGroups, tidyWords, tidy, tidyOf, TidyWords}
 use Rattle.model.proofs.Bools.{both, and-r, bool-ext}

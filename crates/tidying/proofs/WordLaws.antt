@@ -21,7 +21,8 @@ use Rattle.model.specs.Image.{wordAt, behindHead, field, isKind, user, role, pe
 use Rattle.model.specs.Words.{headWord, assignWord, grantWord, seniorWord, exclusionWord, memberWord, endWord, imageBytes}
 use Rattle.model.specs.Policy.{kindNumber}
 use Rattle.model.specs.Ranges.{Each, OneTo}
-use Rattle.tidying.specs.Groups.{wordsFrom, wordsBehind}
+use Rattle.model.specs.OwnWords.{wordsFrom}
+use Rattle.tidying.specs.Groups.{wordsBehind}
 use Rattle.model.proofs.Bools.{both}
 
 -- ---- decoding, by the number of the kind

@@ -11,16 +11,12 @@ use Rattle.model.specs.declared.Entry.the-variants.{Assignment, Grant, Senior, 
 use Rattle.model.specs.Sets.{count}
 use Rattle.model.specs.Image.{wordAt, behindHead, role, field, decode, inRange, repeats, headOf, headRight, lengthRight, start}
 use Rattle.model.specs.Words.{sumOf}
+use Rattle.model.specs.OwnWords.{wordsFrom}
 use Rattle.model.specs.Policy.{Policy, policyOf}
 use Rattle.model.specs.Ranges.{Each}
 use Rattle.model.specs.Ordered.{Loopless, FewRoles}
 
 -- ---- the words behind the head
-
--- n words from the place on
-unfoldable pub wordsFrom : List ℕ → ℕ → ℕ → List ℕ
-wordsFrom s zero place = []
-wordsFrom s (suc n) place = wordAt s place ∷ wordsFrom s n (place + 1)
 
 unfoldable pub wordsBehind : List ℕ → List ℕ
 wordsBehind s = wordsFrom s (behindHead s) 1

@@ -1,6 +1,7 @@
 -- Images that say the same and policies that are the same, order and repeats of entries aside, and images under which calls answer alike.
 -- Assumes nothing.
 use mathlib.Core.Path.{_≡_}
+use mathlib.Core.Bool.{Bool, false}
 use mathlib.Core.Logic.{_↔_}
 use mathlib.Core.List.{List}
 use Prim.Native.Nat.{ℕ}
@@ -9,6 +10,8 @@ use Rattle.model.specs.declared.Entry.the-variants.{Assignment, Grant, Senior}
 use Rattle.model.specs.Image.{wordAt, user, role, permission, headOf}
 use Rattle.model.specs.Policy.{Policy, entriesOf, excludes}
 use Rattle.model.specs.Judgement.{judge}
+use Rattle.model.specs.Tests.{any}
+use Rattle.model.specs.Session.{isText}
 use Rattle.model.specs.Run.{Call, step, run}
 use Rattle.model.specs.Read.{Said, Excluded}
 
@@ -28,9 +31,13 @@ pub record SamePolicy (p q : Policy) : Type 0 where
   pub juniors : p .juniors ≡ q .juniors
   pub exclusions : (x : Exclusion) → excludes p x ≡ excludes q x
 
+-- the call is a clause text, which follows image order
+unfoldable pub asksText : Call → Bool
+asksText c = isText (c .operation)
+
 -- calls answer alike under two images: a check, and for every number of sessions and every ledger every call (open, close, ask, short
--- ask, show, explain) and every list of calls, with the same number, extra, filled bytes and ledger
+-- ask, show, explain) and every list of them, with the same number, extra, filled bytes and ledger
 pub record Alike (s t : List ℕ) : Type 0 where
   pub checks : judge s ≡ judge t
-  pub steps : (W : ℕ) (ledger : List ℕ) (c : Call) → step W s ledger c ≡ step W t ledger c
-  pub runs : (W : ℕ) (ledger : List ℕ) (cs : List Call) → run W s ledger cs ≡ run W t ledger cs
+  pub steps : (W : ℕ) (ledger : List ℕ) (c : Call) → asksText c ≡ false → step W s ledger c ≡ step W t ledger c
+  pub runs : (W : ℕ) (ledger : List ℕ) (cs : List Call) → any asksText cs ≡ false → run W s ledger cs ≡ run W t ledger cs

@@ -5,7 +5,8 @@ use native.Mathlib.Omega.{arith}
 use mathlib.Core.Path.{_≡_}
 use Prim.Native.Nat.{ℕ, _-_, _≤_, _<_}
 use lib.ListN.{getD}
-use Rattle.query.proofs.Lacking.{lacking, missing-at, missing-none, none-next}
+use Rattle.sets.proofs.Taken.{lacking}
+use Rattle.query.proofs.Lacking.{missing-at, missing-none, none-next}
 use Rattle.query.proofs.carry.missing.Statement.{statement}
 use Rattle.query.proofs.carry.missing.Tie as tie
 

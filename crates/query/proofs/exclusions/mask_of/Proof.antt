@@ -1,7 +1,7 @@
 -- `query::exclusions::mask_of` meets its contract.
 -- Assumes nothing.
 use mathlib.Core.Path.{refl}
-use Rattle.query.specs.Rooms.{maskOf}
+use Rattle.model.specs.Reduced.{maskOf}
 use Rattle.query.proofs.exclusions.mask_of.Statement.{statement}
 use Rattle.query.proofs.exclusions.mask_of.Tie as tie
 

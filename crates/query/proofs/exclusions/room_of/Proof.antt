@@ -2,7 +2,7 @@
 -- Assumes nothing.
 use native.Mathlib.Omega.{arith}
 use borrow.Author.Needs.{needs}
-use Rattle.query.specs.Rooms.{roomOf}
+use Rattle.model.specs.Reduced.{roomOf}
 use Rattle.query.proofs.exclusions.room_of.Statement.{statement}
 use Rattle.query.proofs.exclusions.room_of.Tie as tie
 

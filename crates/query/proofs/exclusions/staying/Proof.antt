@@ -1,7 +1,7 @@
 -- `query::exclusions::staying` meets its contract.
 -- Assumes nothing.
 use borrow.Author.Needs.{needs}
-use Rattle.query.specs.Rooms.{stay}
+use Rattle.model.specs.Reduced.{stay}
 use Rattle.query.proofs.exclusions.staying.Statement.{statement}
 use Rattle.query.proofs.exclusions.staying.Tie as tie
 

@@ -1,0 +1,2 @@
+-- What a host gets from a clause text.
+pub mod Tells

@@ -1,0 +1,141 @@
+-- The text by the words that the code has is the model's text of the ask that they stand for.
+-- Assumes nothing.
+use mathlib.Core.Path.{_≡_, refl, sym, ap, ap₂, _∙_}
+use mathlib.Core.List.{List, [], _∷_, _++_}
+use Prim.Native.Nat.{ℕ, zero, suc, _+_, _*_, _≤_, _<_}
+use native.Mathlib.Omega.{arith}
+use lib.ListN.{length, getD}
+use Rattle.model.specs.declared.Exclusion.{Exclusion}
+use Rattle.model.specs.declared.Line.{Line}
+use Rattle.model.specs.declared.Kind.the-variants.{SsDmer}
+use Rattle.model.specs.Sets.{has}
+use Rattle.model.specs.Policy.{Meaning}
+use Rattle.model.specs.Reduced.{stays}
+use Rattle.model.specs.Clauses.{Literal, Clause, listTo, when, gives, holds, fails, roleVariable, permissionVariable, lastPlain, barring, carries, carrying, carriers, carried, bounding, uncounted, room as roomIn, counter, excluding, helpers, excludingAll, hard, soft, top, variablesIn}
+use Rattle.model.specs.Dimacs.{clausesText, headText, weighing, helpersOf, variablesOf, clausesOf, textOf}
+use Rattle.clauses.specs.Writing.{Written}
+use Rattle.clauses.specs.Parts.{barred, barringTo, carriedAs, carryingRow, carryingTo, carrier, carriersTo, carriedOne, carriedTo, lower as lowerOf, loweringTo, upper as upperOf, upperingTo, counters, wantingPermissions, wantingRoles}
+use Rattle.clauses.specs.Sizes.{sumTo, helpersTo}
+use Rattle.clauses.specs.Whole.{hardBy, softBy, clausesBy, textBy}
+use Rattle.clauses.specs.Stands.{Reduced, Stands}
+
+listTo-same : {A : Type 0} (n : ℕ) (f g : ℕ → List A) → ((i : ℕ) → i < n → f i ≡ g i) → listTo n f ≡ listTo n g
+unfolding listTo
+listTo-same zero f g h = refl
+listTo-same (suc n) f g h = ap₂ (λ x y. x ++ y) (listTo-same n f g (λ i l. h i (omega arith))) (h n (omega arith))
+
+-- ---- exclusions
+
+module _ (l : Line) (k : ℕ) where
+  module _ (x : Exclusion) (mask room : ℕ) (r : Reduced l k x mask room) where
+    variables-are : variablesIn mask ≡ uncounted x (stays l k (x .kind))
+    unfolding uncounted
+    variables-are = ap variablesIn (r .members)
+
+    counter-is : (a : ℕ) → counter room a (variablesIn mask) ≡ excluding l k a x
+    unfolding excluding roomIn
+    counter-is a = rw (variables-are, r .space)
+
+    helpers-are : length (variablesIn mask) * room ≡ helpers l k x
+    unfolding helpers roomIn
+    helpers-are = rw (variables-are, r .space)
+
+  module _ (masks rooms : List ℕ) (d : Exclusion) where
+    abbrev From : List Exclusion → ℕ → Type 0
+    From xs i = (j : ℕ) → j < length xs → Reduced l k (getD xs j d) (getD masks (i + j) 0) (getD rooms (i + j) 0)
+
+    first : (x : Exclusion) (xs : List Exclusion) (i : ℕ) → From (x ∷ xs) i → Reduced l k x (getD masks i 0) (getD rooms i 0)
+    first x xs i h = let e : i + 0 ≡ i = omega arith in rw e at (h 0 (omega arith))
+
+    others : (x : Exclusion) (xs : List Exclusion) (i : ℕ) → From (x ∷ xs) i → From xs (suc i)
+    others x xs i h j q = let e : i + suc j ≡ suc i + j = omega arith in rw e at (h (suc j) (omega arith))
+
+    counters-are : (xs : List Exclusion) (i a : ℕ) → From xs i → counters masks rooms (length xs) i a ≡ excludingAll l k a xs
+    unfolding counters excludingAll
+    counters-are [] i a h = refl
+    counters-are (x ∷ xs) i a h =
+        let r = first x xs i h in
+        ap₂ (λ c m. c ++ counters masks rooms (length xs) (suc i) (a + m)) (counter-is x (getD masks i 0) (getD rooms i 0) r a) (helpers-are x (getD masks i 0) (getD rooms i 0) r)
+        ∙ ap (λ cs. excluding l k a x ++ cs) (counters-are xs (suc i) (a + helpers l k x) (others x xs i h))
+
+    abbrev at : ℕ → ℕ
+    at i = length (variablesIn (getD masks i 0)) * getD rooms i 0
+
+    sum-suc : (f : ℕ → ℕ) (n : ℕ) → sumTo f (suc n) ≡ sumTo f n + f n
+    unfolding sumTo
+    sum-suc f n = refl
+
+    helpers-from : (xs : List Exclusion) (i : ℕ) → From xs i → sumTo at (i + length xs) ≡ sumTo at i + helpersOf l k xs
+    unfolding helpersOf
+    helpers-from [] i h = let e : i + 0 ≡ i = omega arith in rw e (omega arith)
+    helpers-from (x ∷ xs) i h =
+        let e : i + suc (length xs) ≡ suc i + length xs = omega arith in
+        rw e (omega (arith, helpers-from xs (suc i) (others x xs i h), sum-suc at i, helpers-are x (getD masks i 0) (getD rooms i 0) (first x xs i h)))
+
+-- ---- all hard clauses
+
+module _ (p : Meaning) (l : Line) (k : ℕ) (row : ℕ → ℕ) (masks rooms : List ℕ) (count : ℕ) (s : Stands p l k row masks rooms count) where
+  abbrev R : ℕ
+  R = p .roles
+
+  abbrev P : ℕ
+  P = p .permissions
+
+  carrying-is : carryingTo R P row ≡ carrying p
+  unfolding carryingTo carryingRow carriedAs carrying carries
+  carrying-is =
+      listTo-same R (λ r. listTo P (λ q. when (has (row r) q) (gives (r + 1) (R + q + 1))))
+      (λ r. listTo P (λ q. when (has (getD (p .carried) r 0) q) (gives (r + 1) (R + q + 1))))
+      (λ r h. ap (λ (t : ℕ). listTo P (λ q. when (has t q) (gives (r + 1) (R + q + 1)))) (s .carried r h))
+
+  carriers-are : (q : ℕ) → carriersTo R row q ≡ carriers p q
+  unfolding carriersTo carrier carriers carries
+  carriers-are q =
+      listTo-same R (λ r. when (has (row r) q) (holds (r + 1))) (λ r. when (has (getD (p .carried) r 0) q) (holds (r + 1)))
+      (λ r h. ap (λ (t : ℕ). when (has t q) (holds (r + 1))) (s .carried r h))
+
+  carried-is : carriedTo R P row ≡ carried p
+  unfolding carriedTo carriedOne carried
+  carried-is =
+      listTo-same P (λ q. (fails (R + q + 1) ∷ carriersTo R row q) ∷ []) (λ q. (fails (R + q + 1) ∷ carriers p q) ∷ [])
+      (λ q h. ap (λ (c : List Literal). (fails (R + q + 1) ∷ c) ∷ []) (carriers-are q))
+
+  abbrev other : Exclusion
+  other = record { kind = SsDmer; limit = 0; members = 0 }
+
+  from : From l k masks rooms other (p .exclusions) 0
+  from j q = let e : 0 + j ≡ j = omega arith in rw e (s .reduced other j q)
+
+  exclusions-are : (a : ℕ) → counters masks rooms count 0 a ≡ excludingAll l k a (p .exclusions)
+  exclusions-are a = rw (s .all) (counters-are l k masks rooms other (p .exclusions) 0 a from)
+
+  variables-told : R + P + helpersTo masks rooms count ≡ variablesOf p l k
+  unfolding helpersTo variablesOf sumTo
+  variables-told =
+      let e : 0 + length (p .exclusions) ≡ count = omega (arith, s .all) in
+      let f : sumTo (at l k masks rooms other) (0 + length (p .exclusions)) ≡ 0 + helpersOf l k (p .exclusions) = helpers-from l k masks rooms other (p .exclusions) 0 from in
+      omega (arith, f, ap (sumTo (at l k masks rooms other)) e)
+
+  module _ (low high : ℕ) where
+    hard-is : hardBy R P (p .authorized) row low high masks rooms count ≡ hard p l k low high
+    unfolding hardBy hard barringTo barred barring loweringTo lowerOf upperingTo upperOf bounding
+    hard-is = rw (carrying-is, carried-is, exclusions-are (R + P))
+
+    module _ (a b : ℕ) where
+      soft-is : softBy R P a b ≡ soft p a b
+      unfolding softBy wantingPermissions wantingRoles soft
+      soft-is = refl
+
+      clauses-are : clausesBy R P (p .authorized) row low high masks rooms count a b ≡ clausesOf p l k low high a b
+      unfolding clausesBy clausesOf
+      clauses-are = rw (soft-is, hard-is)
+
+      -- the text is that of the model
+      pub text-is : textBy R P (p .authorized) row low high masks rooms count a b ≡ textOf p l k low high a b
+      unfolding textBy textOf
+      text-is = rw (variables-told, soft-is, clauses-are)
+
+      -- so a call that writes it writes the model's
+      pub written-is : {before after : List ℕ} {size : ℕ} → Written before (textBy R P (p .authorized) row low high masks rooms count a b) after size
+          → Written before (textOf p l k low high a b) after size
+      written-is {before} {after} {size} w = rw text-is at w

@@ -1,0 +1,83 @@
+-- The parts of the clause text, by the words that the code has: R roles, P permissions, what role r carries as `row r`.
+-- Assumes nothing.
+use mathlib.Core.Bool.{not}
+use mathlib.Core.List.{List, [], _∷_, _++_}
+use Prim.Native.Nat.{ℕ, zero, suc, _+_, _*_}
+use lib.ListN.{getD, length}
+use Rattle.model.specs.Sets.{has}
+use Rattle.model.specs.Clauses.{Literal, holds, fails, Clause, Weighted, listTo, when, must, mustNot, gives, roleVariable, variablesIn, counter, wanting}
+use Rattle.model.specs.Dimacs.{clauseText, clausesText, weighing}
+use Rattle.sets.specs.Words.{value}
+
+-- the line of a clause of weight w
+unfoldable pub lineOf : ℕ → Clause → List ℕ
+lineOf w c = clauseText (record { weight = w; clause = c })
+
+-- the lines of clauses of weight w
+unfoldable pub linesOf : ℕ → List Clause → List ℕ
+linesOf w cs = clausesText (weighing w cs)
+
+-- what role r carries, by rows of four words
+abbrev pub rowsOf : List (List ℕ) → ℕ → ℕ
+rowsOf rows r = value (getD rows r [])
+
+-- ---- own roles, what roles carry, the bounds
+
+-- role r, where it is not authorized
+unfoldable pub barred : ℕ → ℕ → List Clause
+barred s r = when (not (has s r)) (mustNot (roleVariable r))
+
+unfoldable pub barringTo : ℕ → ℕ → List Clause
+barringTo R s = listTo R (λ r. barred s r)
+
+-- permission q, where the set has it, by variable x
+unfoldable pub carriedAs : ℕ → ℕ → ℕ → ℕ → List Clause
+carriedAs R set x q = when (has set q) (gives x (R + q + 1))
+
+unfoldable pub carryingRow : ℕ → ℕ → ℕ → ℕ → List Clause
+carryingRow R P set x = listTo P (λ q. carriedAs R set x q)
+
+unfoldable pub carryingTo : ℕ → ℕ → (ℕ → ℕ) → List Clause
+carryingTo R P row = listTo R (λ r. carryingRow R P (row r) (roleVariable r))
+
+-- role r, where it carries q
+unfoldable pub carrier : (ℕ → ℕ) → ℕ → ℕ → List Literal
+carrier row q r = when (has (row r) q) (holds (roleVariable r))
+
+unfoldable pub carriersTo : ℕ → (ℕ → ℕ) → ℕ → List Literal
+carriersTo R row q = listTo R (λ r. carrier row q r)
+
+unfoldable pub carriedOne : ℕ → (ℕ → ℕ) → ℕ → Clause
+carriedOne R row q = fails (R + q + 1) ∷ carriersTo R row q
+
+unfoldable pub carriedTo : ℕ → ℕ → (ℕ → ℕ) → List Clause
+carriedTo R P row = listTo P (λ q. carriedOne R row q ∷ [])
+
+unfoldable pub lower : ℕ → ℕ → ℕ → List Clause
+lower R set q = when (has set q) (must (R + q + 1))
+
+unfoldable pub loweringTo : ℕ → ℕ → ℕ → List Clause
+loweringTo R P set = listTo P (λ q. lower R set q)
+
+unfoldable pub upper : ℕ → ℕ → ℕ → List Clause
+upper R set q = when (not (has set q)) (mustNot (R + q + 1))
+
+unfoldable pub upperingTo : ℕ → ℕ → ℕ → List Clause
+upperingTo R P set = listTo P (λ q. upper R set q)
+
+-- ---- exclusions, by the members that are not counted yet and the room
+
+-- k exclusions from i on, the helpers behind a
+unfoldable pub counters : List ℕ → List ℕ → ℕ → ℕ → ℕ → List Clause
+counters masks rooms zero i a = []
+counters masks rooms (suc k) i a =
+    counter (getD rooms i 0) a (variablesIn (getD masks i 0))
+    ++ counters masks rooms k (suc i) (a + length (variablesIn (getD masks i 0)) * getD rooms i 0)
+
+-- ---- objectives
+
+unfoldable pub wantingPermissions : ℕ → ℕ → ℕ → List Weighted
+wantingPermissions R P a = listTo P (λ q. wanting a (R + 1) (R + q + 1))
+
+unfoldable pub wantingRoles : ℕ → ℕ → List Weighted
+wantingRoles R b = listTo R (λ r. wanting b 1 (roleVariable r))

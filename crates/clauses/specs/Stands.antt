@@ -1,0 +1,21 @@
+-- The words that the code has stand for an ask under a policy.
+-- Assumes nothing.
+use mathlib.Core.Path.{_≡_}
+use mathlib.Core.List.{List}
+use Prim.Native.Nat.{ℕ, _<_}
+use lib.ListN.{getD, length}
+use Rattle.model.specs.declared.Exclusion.{Exclusion}
+use Rattle.model.specs.declared.Line.{Line}
+use Rattle.model.specs.Policy.{Meaning}
+use Rattle.model.specs.Reduced.{stays, maskOf, roomOf}
+
+-- an exclusion, reduced for session k of the line, by the members that are not counted yet and the room
+pub record Reduced (l : Line) (k : ℕ) (x : Exclusion) (mask room : ℕ) : Type 0 where
+  pub members : mask ≡ maskOf (x .members) (stays l k (x .kind))
+  pub space : room ≡ roomOf (x .members) (x .limit) (stays l k (x .kind))
+
+-- each role carries what its row says, and each exclusion is reduced
+pub record Stands (m : Meaning) (l : Line) (k : ℕ) (row : ℕ → ℕ) (masks rooms : List ℕ) (count : ℕ) : Type 0 where
+  pub carried : (r : ℕ) → r < m .roles → row r ≡ getD (m .carried) r 0
+  pub all : count ≡ length (m .exclusions)
+  pub reduced : (d : Exclusion) (i : ℕ) → i < length (m .exclusions) → Reduced l k (getD (m .exclusions) i d) (getD masks i 0) (getD rooms i 0)

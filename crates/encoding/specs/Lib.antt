@@ -1,0 +1,3 @@
+-- What is claimed of the clauses of an ask and of their text.
+pub mod Satisfied
+pub mod Texts
