@@ -45,6 +45,9 @@ extern "C" {
 /* Size in bytes of a grant table: permissions for each of 64 roles or, turned, roles for each of 256 permissions. */
 #define NUTRAMEZA_TABLE_BYTES 2048
 
+/* No clause text has more bytes. */
+#define NUTRAMEZA_MAX_CLAUSES_BYTES 8388608
+
 /* Answer numbers: done, or why a call is refused. */
 enum nutrameza_number {
     NUTRAMEZA_DONE = 0,
@@ -66,7 +69,7 @@ enum nutrameza_number {
     NUTRAMEZA_PERMISSION = 16, /* a bound with a permission not below P; a permission to be explained not below P */
     NUTRAMEZA_BOUNDS = 17,     /* lower bound not within the upper */
     NUTRAMEZA_AIM = 18,        /* an aim above 2 */
-    NUTRAMEZA_ROOM = 19,       /* a buffer not of the size that the call asks for; one below the tidy image */
+    NUTRAMEZA_ROOM = 19,       /* a buffer not of the size that the call asks for; one below the tidy image or the clause text */
     NUTRAMEZA_NONE = 20,       /* no admissible role set; no loop; no active role carries the permission */
     NUTRAMEZA_SCRIPT = 21,     /* unreadable line, given by the program nutrameza_script alone */
     NUTRAMEZA_LOOP = 22,       /* image: senior words lead from a role back to it; tested after 8 and before 9 */
@@ -89,7 +92,8 @@ enum nutrameza_exclusion_kind {
 /* A call returns its number plus 256 times its extra: the place of the refused word for 1 to 8 (the head is
  * place 0), the lowest role on a loop for 22, the lowest user who may activate more than 16 roles for 23, the user for
  * 24 and for 11 of a move, the session that a done open took, the length of the chain that a done loop call gave, 64
- * times a role plus its granting role of a done explain, the number of words that a done tidy wrote, else 0. */
+ * times a role plus its granting role of a done explain, the number of words that a done tidy wrote, the length of a
+ * clause text, else 0. */
 static inline unsigned nutrameza_number_of(uint64_t returned) { return (unsigned)(returned % 256); }
 static inline uint64_t nutrameza_extra_of(uint64_t returned) { return returned / 256; }
 
@@ -305,6 +309,14 @@ uint64_t nutrameza_widen(const uint8_t *image, size_t image_len, const uint8_t *
  * user after 11 also 24 where any of the sessions 4 to 7 is open. Widening what it fills gives the old bytes. */
 uint64_t nutrameza_narrow(const uint8_t *image, size_t image_len, const uint8_t *old_ledger, size_t old_ledger_len,
                           uint8_t *new_ledger, size_t new_ledger_len);
+
+/* Clauses writes an ask as weighted clauses for a PMaxSAT program, in the classic DIMACS form with a 'p wcnf' line, into
+ * the first bytes of a buffer: the extra is how many. docs/CLAUSES.md has the rule for the text. The numbers and bounds are
+ * those of ask. It changes no ledger byte and no byte of the buffer behind the text. Refusals 1 to 8, 22, 23, 9 to 13, 15 to
+ * 18, and 19 if the text is longer than the buffer; never 20, since an ask without an admissible role set has a text too. */
+uint64_t nutrameza_clauses(const uint8_t *image, size_t image_len, const uint8_t *ledger, size_t ledger_len,
+                           uint64_t user, uint64_t session, const uint8_t *lower, size_t lower_len, const uint8_t *upper,
+                           size_t upper_len, uint64_t permission_aim, uint64_t role_aim, uint8_t *out, size_t out_len);
 
 #ifdef __cplusplus
 }

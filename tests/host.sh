@@ -171,6 +171,25 @@ small_stack() {
   host stack "$root/tests/host/stack.c" -pthread && timeout 300 ./host
 }
 
+# An ask as clauses, solved by a program that tries every assignment: Doctor, with four permissions of weight 3 and itself.
+clauses_solved() {
+  local form
+  for form in '' --row; do
+    NUTRAMEZA_LIB=$lib PMAXSAT="python3 $root/tests/host/pmaxsat.py $form" bash "$root/examples/clauses.sh" > "$work/solved" || return 1
+    diff "$work/solved" <(printf '%s\n' 'target/ward/ask.wcnf: p wcnf 11 26 18, 258 bytes' 'roles 0; violated weight 13') || return 1
+  done
+}
+
+# The text of the example is the page's.
+clauses_listed() {
+  sed -n '/^```wcnf$/,/^```$/p' "$root/docs/CLAUSES.md" | sed '1d;/^```$/,$d' | cmp - "$root/target/ward/ask.wcnf"
+}
+
+# Bounds that no role set meets: the text has no model.
+clauses_without_a_set() {
+  NUTRAMEZA_LIB=$lib PMAXSAT="python3 $root/tests/host/pmaxsat.py" bash "$root/examples/clauses.sh" 3 3 1 1 | tail -1 | grep -qx 'no role set'
+}
+
 it 'the library is there' test -s "$lib/libnutrameza.a"
 it 'the ward policy builds' ward_image
 it 'make shows a line for each crate that is proved and keeps the rest' quiet_done
@@ -193,5 +212,8 @@ it 'a ledger carried over and back comes out byte for byte' carried
 it 'the program that carries ledgers is a C++ program too' carrying_cxx
 it 'the check and the policy tool judge 3,000 images alike, each number from 0 to 8, 22 and 23 among them' judged
 it 'the kit and the policy tool write the same tidy images of those that are accepted' tidied
-it 'long and deep asks, the longest moves and the calls over the image fit a stack of 64 KiB' small_stack
+it 'long and deep asks, their clause texts, the longest moves and the calls over the image fit a stack of 64 KiB' small_stack
+it 'the clauses of an ask are solved and the roles read back, from literals and from a row of digits' clauses_solved
+it 'the text of the example is that of docs/CLAUSES.md' clauses_listed
+it 'an ask without a role set has a text without a model' clauses_without_a_set
 counted

@@ -135,11 +135,11 @@ fn table_4() -> Vec<Family> {
 }
 
 /// One ask, posed and ready to be put again and again.
-struct Asked {
-    image: Vec<u8>,
-    lower: Vec<u8>,
-    upper: Vec<u8>,
-    aims: (u64, u64),
+pub struct Asked {
+    pub image: Vec<u8>,
+    pub lower: Vec<u8>,
+    pub upper: Vec<u8>,
+    pub aims: (u64, u64),
 }
 
 /// Who answers.
@@ -189,8 +189,8 @@ fn put_all(asks: &[Asked], way: Way) {
     }
 }
 
-/// Times the asks of a family under one pair of aims.
-fn row(family: &Family, aims: (u64, u64)) {
+/// The asks of a family under one pair of aims, two for each problem.
+fn asks_of(family: &Family, aims: (u64, u64)) -> Vec<Asked> {
     let mut rng = Rng::new(family.name.len() as u64);
     let mut asks = Vec::new();
     for problem in &family.problems {
@@ -199,6 +199,21 @@ fn row(family: &Family, aims: (u64, u64)) {
             asks.push(Asked { image, lower, upper: all(*problem), aims });
         }
     }
+    asks
+}
+
+/// The asks whose clause texts are timed: of each family those under its first pair of aims.
+pub fn texts() -> Vec<(String, Vec<Asked>)> {
+    let of = |family: &Family| {
+        let aims = family.aims[0];
+        (format!("{} {} {}", family.name, aims.0, aims.1), asks_of(family, aims))
+    };
+    table_3().iter().chain(&table_4()).map(of).collect()
+}
+
+/// Times the asks of a family under one pair of aims.
+fn row(family: &Family, aims: (u64, u64)) {
+    let asks = asks_of(family, aims);
     let done = asks.iter().filter(|asked| asked.agreed() == 0).count();
     let mut kit = || put_all(&asks, Way::Kit);
     let mut plain = || put_all(&asks, Way::Plain(Method::Kit));

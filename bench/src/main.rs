@@ -8,6 +8,8 @@ mod jobs;
 mod plain;
 #[cfg(feature = "script")]
 mod program;
+#[cfg(feature = "asks")]
+mod texts;
 mod timing;
 
 fn main() {
@@ -30,6 +32,8 @@ fn main() {
     jobs::moves();
     #[cfg(feature = "asks")]
     families::asks();
+    #[cfg(feature = "asks")]
+    texts::texts();
     #[cfg(feature = "script")]
     program::lines();
 }

@@ -1,9 +1,10 @@
-/* Long and deep asks, the longest moves and the calls over the image alone, on a thread whose stack is 64 KiB: users of 16 roles, 64
-   roles in 16 chains of seniors, 256 permissions, 32 exclusions; asks in every window under each pair of aims, and the ledger of all 64
-   users carried back and over. Prints 'done' if every call is answered as it should be. */
+/* Long and deep asks, their clause texts, the longest moves and the calls over the image alone, on a thread whose stack is 64 KiB: users
+   of 16 roles, 64 roles in 16 chains of seniors, 256 permissions, 32 exclusions; asks and their texts in every window under each pair of
+   aims, and the ledger of all 64 users carried back and over. Prints 'done' if every call is answered as it should be. */
 #define _POSIX_C_SOURCE 200809L
 #include <pthread.h>
 #include <stdio.h>
+#include <stdlib.h>
 #include <string.h>
 
 #include "nutrameza.h"
@@ -14,6 +15,7 @@ static uint8_t image[NUTRAMEZA_MAX_IMAGE_BYTES];
 static size_t image_len;
 static uint8_t ledger[USERS * NUTRAMEZA_LINE_BYTES], again[USERS * NUTRAMEZA_LINE_BYTES];
 static uint8_t old_ledger[USERS * NUTRAMEZA_OLD_LINE_BYTES];
+static uint8_t *text;
 static int answered;
 
 /* The roles from 4k up to 4k + 3 form a chain. A user has the first roles of four chains, and so may activate the roles below
@@ -45,7 +47,14 @@ static void make_image(void) {
     image_len = n * NUTRAMEZA_WORD_BYTES;
 }
 
-/* An ask of the last user for the permissions below `needed` with these aims; 1 if its number is the expected one. */
+/* The clause text of such an ask; 1 if it is written, with a newline last. */
+static int write_clauses(uint64_t session, const uint8_t *lower, const uint8_t *upper, uint64_t first, uint64_t second) {
+    uint64_t returned = nutrameza_clauses(image, image_len, ledger, sizeof ledger, LAST, session, lower, NUTRAMEZA_SET_BYTES, upper,
+                                          NUTRAMEZA_SET_BYTES, first, second, text, NUTRAMEZA_MAX_CLAUSES_BYTES);
+    return nutrameza_number_of(returned) == NUTRAMEZA_DONE && text[nutrameza_extra_of(returned) - 1] == '\n';
+}
+
+/* An ask of the last user for the permissions below `needed` with these aims, and its clause text; 1 if its number is the expected one. */
 static int ask(uint32_t needed, uint32_t allowed, uint64_t first, uint64_t second, unsigned expected) {
     uint64_t session = (3 * first + second) % NUTRAMEZA_SESSIONS;
     uint8_t lower[NUTRAMEZA_SET_BYTES] = {0}, upper[NUTRAMEZA_SET_BYTES] = {0}, answer[NUTRAMEZA_ANSWER_BYTES];
@@ -56,6 +65,10 @@ static int ask(uint32_t needed, uint32_t allowed, uint64_t first, uint64_t secon
         if (permission < allowed) {
             nutrameza_add_permission(upper, permission);
         }
+    }
+    if (!write_clauses(session, lower, upper, first, second)) {
+        printf("clauses %u %u %u %u\n", needed, allowed, (unsigned)first, (unsigned)second);
+        return 0;
     }
     uint64_t returned = nutrameza_ask(image, image_len, ledger, sizeof ledger, LAST, session, lower, sizeof lower, upper,
                                       sizeof upper, first, second, answer, sizeof answer);
@@ -117,7 +130,8 @@ int main(void) {
     pthread_attr_t attributes;
     pthread_t thread;
     make_image();
-    if (pthread_attr_init(&attributes) != 0 || pthread_attr_setstacksize(&attributes, STACK_BYTES) != 0 ||
+    text = malloc(NUTRAMEZA_MAX_CLAUSES_BYTES);
+    if (text == NULL || pthread_attr_init(&attributes) != 0 || pthread_attr_setstacksize(&attributes, STACK_BYTES) != 0 ||
         pthread_create(&thread, &attributes, work, NULL) != 0 || pthread_join(thread, NULL) != 0) {
         return 1;
     }

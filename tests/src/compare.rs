@@ -358,7 +358,10 @@ pub fn step(judged: &Judged, image: &[u8], ledger: &mut Vec<u8>, call: &Call, em
     let (mut kit_ledger, mut kit_answer) = (Guarded::new(ledger, guard), Guarded::new(&filler, !guard));
     let returned = kit::play(empty, image, kit_ledger.inner(), call, kit_answer.inner());
     let reply = calls::play(judged, ledger, call);
-    let answer = reply.answer.map_or(filler, |bytes| bytes.to_vec());
+    let mut answer = filler;
+    if let Some(filled) = &reply.answer {
+        answer[..filled.len()].copy_from_slice(filled);
+    }
     if returned != reply.returned() {
         return Err(format!(
             "returned {} + 256 * {}, the solver {} + 256 * {}",
@@ -372,12 +375,13 @@ pub fn step(judged: &Judged, image: &[u8], ledger: &mut Vec<u8>, call: &Call, em
         let wrong = (0..ledger.len()).find(|place| kit_ledger.inner()[*place] != ledger[*place]);
         return Err(format!("after answer {} ledger byte {wrong:?} differs", reply.number));
     }
-    if kit_answer.inner() != answer.as_slice() {
+    if let Some(wrong) = (0..answer.len()).find(|place| kit_answer.inner()[*place] != answer[*place]) {
+        let near = wrong.saturating_sub(40)..(wrong + 40).min(answer.len());
         return Err(format!(
-            "after answer {} the answer is {:02x?}, the solver's {:02x?}",
+            "after answer {} the answer differs at {wrong}: {:02x?} there, the solver's {:02x?}",
             reply.number,
-            kit_answer.inner(),
-            answer
+            &kit_answer.inner()[near.clone()],
+            &answer[near]
         ));
     }
     if !kit_ledger.guards_stand() || !kit_answer.guards_stand() || before != image {

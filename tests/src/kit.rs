@@ -95,6 +95,22 @@ mod raw {
             answer: *mut u8,
             answer_len: usize,
         ) -> u64;
+        pub fn nutrameza_clauses(
+            image: *const u8,
+            image_len: usize,
+            ledger: *const u8,
+            ledger_len: usize,
+            user: u64,
+            session: u64,
+            lower: *const u8,
+            lower_len: usize,
+            upper: *const u8,
+            upper_len: usize,
+            permission_aim: u64,
+            role_aim: u64,
+            out: *mut u8,
+            out_len: usize,
+        ) -> u64;
     }
 }
 
@@ -254,6 +270,29 @@ pub fn short_ask(empty: Empty, image: &[u8], ledger: &mut [u8], wish: &Wish, ans
     }
 }
 
+#[cfg(feature = "asks")]
+pub fn clauses(empty: Empty, image: &[u8], ledger: &[u8], wish: &Wish, objectives: (u64, u64), out: &mut [u8]) -> u64 {
+    // SAFETY: as in `open`.
+    unsafe {
+        raw::nutrameza_clauses(
+            empty.read(image),
+            image.len(),
+            empty.read(ledger),
+            ledger.len(),
+            wish.user,
+            wish.session,
+            empty.read(wish.lower),
+            wish.lower.len(),
+            empty.read(wish.upper),
+            wish.upper.len(),
+            objectives.0,
+            objectives.1,
+            empty.write(out),
+            out.len(),
+        )
+    }
+}
+
 /// Makes a call; the answer buffer is the call's room long.
 pub fn play(empty: Empty, image: &[u8], ledger: &mut [u8], call: &Call, answer: &mut [u8]) -> u64 {
     match call {
@@ -274,6 +313,11 @@ pub fn play(empty: Empty, image: &[u8], ledger: &mut [u8], call: &Call, answer: 
         Call::ShortAsk { user, session, lower, upper, .. } => {
             let wish = Wish { user: *user, session: *session, lower, upper };
             short_ask(empty, image, ledger, &wish, answer)
+        }
+        #[cfg(feature = "asks")]
+        Call::Clauses { user, session, lower, upper, objectives, .. } => {
+            let wish = Wish { user: *user, session: *session, lower, upper };
+            clauses(empty, image, ledger, &wish, *objectives, answer)
         }
         #[cfg(not(feature = "asks"))]
         _ => panic!(

@@ -72,7 +72,7 @@ pub struct Case {
 /// What a reply shows, for permissions below 64.
 pub fn seen(reply: &Reply) -> Seen {
     let number = |bytes: &[u8]| bytes.iter().rev().fold(0, |sum, byte| sum * 256 + u64::from(*byte));
-    let (roles, permissions) = reply.answer.map_or((0, 0), |answer| (number(&answer[..8]), number(&answer[8..16])));
+    let (roles, permissions) = reply.answer.as_ref().map_or((0, 0), |answer| (number(&answer[..8]), number(&answer[8..16])));
     (reply.number, reply.extra, roles, permissions)
 }
 

@@ -188,7 +188,7 @@ fn see_search(tally: &mut Tally, policy: &Policy, call: &Call, played: &Played) 
     if policy.exclusions.iter().any(|exclusion| exclusion.limit == 2 && exclusion.members.intersection(own).count() > 1) {
         tally.see("limits of 2");
     }
-    if let Some(answer) = played.reply.answer {
+    if let Some(answer) = &played.reply.answer {
         tally.see(if answer[..8].iter().map(|byte| byte.count_ones()).sum::<u32>() > 1 { "several roles" } else { "few roles" });
     }
 }

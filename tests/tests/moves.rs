@@ -443,7 +443,8 @@ fn session_of(call: &Call) -> Option<u64> {
         | Call::Show { session, .. }
         | Call::Ask { session, .. }
         | Call::ShortAsk { session, .. }
-        | Call::Explain { session, .. } => Some(*session),
+        | Call::Explain { session, .. }
+        | Call::Clauses { session, .. } => Some(*session),
     }
 }
 

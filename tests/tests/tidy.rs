@@ -404,5 +404,5 @@ fn every_call_answers_alike_on_an_image_and_on_its_tidy_one() {
         before.iter().for_each(|played| tally.see_number(played.reply.number));
         tally.see(if image == tidy { "tidy already" } else { "not tidy" });
     });
-    tally.expect(100, &["0", "9", "10", "11", "12", "13", "14", "15", "16", "17", "18", "19", "20", "not tidy"]);
+    tally.expect(60, &["0", "9", "10", "11", "12", "13", "14", "15", "16", "17", "18", "19", "20", "not tidy"]);
 }

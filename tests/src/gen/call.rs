@@ -170,7 +170,17 @@ pub fn ask(rng: &mut Rng, policy: &Policy, ledger: &[u8]) -> Call {
     Call::Ask { user, session, lower, upper, objectives: (objective(rng), objective(rng)), room }
 }
 
-/// A call of any sort, an ask mostly.
+/// A clause text of an ask, mostly on a session that is open in this ledger; its buffer is long enough for small policies, mostly.
+pub fn clauses(rng: &mut Rng, policy: &Policy, ledger: &[u8]) -> Call {
+    let user = user(rng, policy);
+    let known = if user < policy.users as u64 { user as usize } else { 0 };
+    let session = open_session(rng, ledger, known);
+    let (lower, upper) = bounds(rng, policy, known);
+    let room = if rng.one_in(8) { rng.place(2_000) } else { 12_000 };
+    Call::Clauses { user, session, lower, upper, objectives: (objective(rng), objective(rng)), room }
+}
+
+/// A call of any sort but the clause text, which follows the order of the image; an ask mostly.
 pub fn any(rng: &mut Rng, policy: &Policy, ledger: &[u8]) -> Call {
     match rng.below(24) {
         0..=6 => plain(rng, policy),

@@ -29,7 +29,8 @@ fn decimal(rng: &mut Rng, number: u64) -> String {
     number.to_string()
 }
 
-/// A call as a line, readable unless a number has more digits than a line may give it; the program has no line for an explain.
+/// A call as a line, readable unless a number has more digits than a line may give it; the program has no line for an explain or a
+/// clause text.
 fn text(rng: &mut Rng, call: &Call) -> String {
     match call {
         Call::Open { user } => format!("open {}", decimal(rng, *user)),
@@ -44,6 +45,9 @@ fn text(rng: &mut Rng, call: &Call) -> String {
         }
         Call::Explain { user, session, permission } => {
             format!("explain {} {} {}", decimal(rng, *user), decimal(rng, *session), decimal(rng, *permission))
+        }
+        Call::Clauses { user, session, lower, upper, .. } => {
+            format!("clauses {} {} {} {}", decimal(rng, *user), decimal(rng, *session), hex(rng, lower), hex(rng, upper))
         }
     }
 }

@@ -1,6 +1,7 @@
 //! The calls on a ledger: the tests in the order of the register, then what the call does.
 
 use super::choice::{choose, PermissionFlags, Request};
+use super::clauses::clauses;
 use super::image::Judged;
 use super::line::{line_bytes, role_bytes, sound, Line, RoleFlags, SESSIONS};
 use super::policy::Policy;
@@ -20,14 +21,15 @@ pub enum Call {
     Ask { user: u64, session: u64, lower: Vec<u8>, upper: Vec<u8>, objectives: (u64, u64), room: usize },
     ShortAsk { user: u64, session: u64, lower: Vec<u8>, upper: Vec<u8>, room: usize },
     Explain { user: u64, session: u64, permission: u64 },
+    Clauses { user: u64, session: u64, lower: Vec<u8>, upper: Vec<u8>, objectives: (u64, u64), room: usize },
 }
 
-/// What a call answers: the number, the extra and the bytes that fill the answer buffer, if any do.
+/// What a call answers: the number, the extra and the bytes that fill the answer buffer from its start on, if any do.
 #[derive(Clone, Debug, PartialEq, Eq)]
 pub struct Reply {
     pub number: u64,
     pub extra: u64,
-    pub answer: Option<[u8; ANSWER]>,
+    pub answer: Option<Vec<u8>>,
     /// Of a done ask: how many admissible sets tie with the best but for the set number.
     pub tied: usize,
 }
@@ -37,7 +39,7 @@ impl Reply {
         Reply { number, extra, answer: None, tied: 0 }
     }
 
-    fn done(extra: u64, answer: Option<[u8; ANSWER]>, tied: usize) -> Reply {
+    fn done(extra: u64, answer: Option<Vec<u8>>, tied: usize) -> Reply {
         Reply { number: 0, extra, answer, tied }
     }
 
@@ -56,14 +58,15 @@ impl Call {
             | Call::Show { user, .. }
             | Call::Ask { user, .. }
             | Call::ShortAsk { user, .. }
-            | Call::Explain { user, .. } => *user,
+            | Call::Explain { user, .. }
+            | Call::Clauses { user, .. } => *user,
         }
     }
 
     /// The length of the answer buffer, 0 for a call without one.
     pub fn room(&self) -> usize {
         match self {
-            Call::Show { room, .. } | Call::Ask { room, .. } | Call::ShortAsk { room, .. } => *room,
+            Call::Show { room, .. } | Call::Ask { room, .. } | Call::ShortAsk { room, .. } | Call::Clauses { room, .. } => *room,
             _ => 0,
         }
     }
@@ -112,10 +115,17 @@ fn rule(policy: &Policy, user: usize, line: &mut Line, call: &Call) -> Reply {
             Ok(session) => show(policy, line, session),
         },
         Call::Ask { session, lower, upper, objectives, room, .. } => {
-            ask(policy, user, line, *session, lower, upper, *objectives, *room)
+            let asked = request(policy, user, line, *session, lower, upper, *objectives);
+            put_in(line, asked.and_then(|asked| ask(&asked, *room)))
         }
         Call::ShortAsk { session, lower, upper, room, .. } => {
-            ask(policy, user, line, *session, lower, upper, SHORT_OBJECTIVES, *room)
+            let asked = request(policy, user, line, *session, lower, upper, SHORT_OBJECTIVES);
+            put_in(line, asked.and_then(|asked| ask(&asked, *room)))
+        }
+        Call::Clauses { session, lower, upper, objectives, room, .. } => {
+            let asked = request(policy, user, line, *session, lower, upper, *objectives);
+            let text = asked.and_then(|asked| write_clauses(&asked, *room));
+            text.unwrap_or_else(|number| Reply::refused(number, 0))
         }
         Call::Explain { session, permission, .. } => match open_session(line, *session) {
             Err(number) => Reply::refused(number, 0),
@@ -180,47 +190,61 @@ fn explain(policy: &Policy, line: &Line, session: usize, permission: usize) -> R
     Reply::refused(20, 0)
 }
 
-/// The session's active roles are replaced by the best admissible set.
-#[allow(clippy::too_many_arguments)]
-fn ask(
-    policy: &Policy,
+/// What is asked, if the tests 12, 13 and 15 to 18 are passed; else the number.
+fn request<'a>(
+    policy: &'a Policy,
     user: usize,
-    line: &mut Line,
+    line: &'a Line,
     session: u64,
     lower: &[u8],
     upper: &[u8],
     objectives: (u64, u64),
-    room: usize,
-) -> Reply {
-    let session = match open_session(line, session) {
-        Err(number) => return Reply::refused(number, 0),
-        Ok(session) => session,
-    };
+) -> Result<Request<'a>, u64> {
+    let session = open_session(line, session)?;
     if lower.len() != 32 || upper.len() != 32 {
-        return Reply::refused(15, 0);
+        return Err(15);
     }
     let (lower, upper) = (read_permissions(lower), read_permissions(upper));
     if (policy.permissions..256).any(|permission| lower[permission] || upper[permission]) {
-        return Reply::refused(16, 0);
+        return Err(16);
     }
     if (0..256).any(|permission| lower[permission] && !upper[permission]) {
-        return Reply::refused(17, 0);
+        return Err(17);
     }
     if objectives.0 > 2 || objectives.1 > 2 {
-        return Reply::refused(18, 0);
+        return Err(18);
     }
+    Ok(Request { policy, user, line, session, lower, upper, objectives })
+}
+
+/// The session's active roles are replaced by the best admissible set: what is answered and the line after it, or 19 or 20.
+fn ask(request: &Request, room: usize) -> Result<(Reply, Line), u64> {
     if room != ANSWER {
-        return Reply::refused(19, 0);
+        return Err(19);
     }
-    let request = Request { policy, user, line, session, lower, upper, objectives };
-    match choose(&request) {
-        None => Reply::refused(20, 0),
-        Some(choice) => {
-            let filled = answer(&choice.best.roles, &choice.best.carried);
-            *line = line.put_in(session, &choice.best.roles);
-            Reply::done(0, Some(filled), choice.tied)
+    let choice = choose(request).ok_or(20u64)?;
+    let filled = answer(&choice.best.roles, &choice.best.carried);
+    Ok((Reply::done(0, Some(filled), choice.tied), request.line.put_in(request.session, &choice.best.roles)))
+}
+
+/// Puts in what an ask gives; a refusal leaves the line.
+fn put_in(line: &mut Line, asked: Result<(Reply, Line), u64>) -> Reply {
+    match asked {
+        Err(number) => Reply::refused(number, 0),
+        Ok((reply, after)) => {
+            *line = after;
+            reply
         }
     }
+}
+
+/// The clause text, or 19 where it is longer than the buffer.
+fn write_clauses(request: &Request, room: usize) -> Result<Reply, u64> {
+    let text = clauses(request).text();
+    if text.len() > room {
+        return Err(19);
+    }
+    Ok(Reply::done(text.len() as u64, Some(text), 0))
 }
 
 /// A bound's 32 bytes as a set: permission p is bit p mod 8 of byte p div 8.
@@ -233,8 +257,8 @@ pub fn read_permissions(bytes: &[u8]) -> PermissionFlags {
 }
 
 /// The bytes of an answer.
-fn answer(roles: &RoleFlags, carried: &PermissionFlags) -> [u8; ANSWER] {
-    let mut bytes = [0u8; ANSWER];
+fn answer(roles: &RoleFlags, carried: &PermissionFlags) -> Vec<u8> {
+    let mut bytes = vec![0u8; ANSWER];
     bytes[..8].copy_from_slice(&role_bytes(roles));
     for permission in 0..256 {
         if carried[permission] {

@@ -7,6 +7,7 @@ use super::policy::Policy;
 pub type PermissionFlags = [bool; 256];
 
 /// What is asked for one session of a user.
+#[derive(Debug)]
 pub struct Request<'a> {
     pub policy: &'a Policy,
     pub user: usize,
@@ -57,7 +58,7 @@ fn compare(objective: u64, left: usize, right: usize) -> std::cmp::Ordering {
 }
 
 /// How one set stands to another under both objectives, the set number aside.
-fn rank(objectives: (u64, u64), left: &Candidate, right: &Candidate) -> std::cmp::Ordering {
+pub fn rank(objectives: (u64, u64), left: &Candidate, right: &Candidate) -> std::cmp::Ordering {
     let permissions = compare(objectives.0, left.permission_count, right.permission_count);
     permissions.then(compare(objectives.1, left.role_count, right.role_count))
 }
@@ -69,11 +70,24 @@ struct Trial<'a> {
     own: Vec<(usize, Vec<usize>)>,
     roles: RoleFlags,
     carriers: [usize; 256],
-    choice: Option<Choice>,
+    /// Takes each admissible set.
+    found: &'a mut dyn FnMut(Candidate),
 }
 
 /// The best admissible set of an ask that has passed the earlier tests.
 pub fn choose(request: &Request) -> Option<Choice> {
+    let mut choice: Option<Choice> = None;
+    each_admissible(request, &mut |candidate| {
+        choice = Some(match choice.take() {
+            None => Choice { best: candidate, admissible: 1, tied: 1 },
+            Some(choice) => choice.joined_by(candidate, request.objectives),
+        });
+    });
+    choice
+}
+
+/// Goes through the admissible sets of such an ask.
+pub fn each_admissible(request: &Request, found: &mut dyn FnMut(Candidate)) {
     let policy = request.policy;
     let carried = |role: &usize| (*role, policy.carried_by(*role).into_iter().collect());
     let mut trial = Trial {
@@ -81,10 +95,9 @@ pub fn choose(request: &Request) -> Option<Choice> {
         own: policy.authorized(request.user).iter().map(carried).collect(),
         roles: [false; 64],
         carriers: [0; 256],
-        choice: None,
+        found,
     };
     trial.with_and_without(0);
-    trial.choice
 }
 
 impl Trial<'_> {
@@ -103,7 +116,7 @@ impl Trial<'_> {
         carried.iter().for_each(|permission| self.carriers[*permission] -= 1);
     }
 
-    /// Holds the present set against the definition and the best so far.
+    /// Holds the present set against the definition.
     fn judge(&mut self) {
         let request = self.request;
         for permission in 0..256 {
@@ -117,10 +130,7 @@ impl Trial<'_> {
             return;
         }
         let candidate = self.candidate();
-        self.choice = Some(match self.choice.take() {
-            None => Choice { best: candidate, admissible: 1, tied: 1 },
-            Some(choice) => choice.joined_by(candidate, request.objectives),
-        });
+        (self.found)(candidate);
     }
 
     /// The present set with its counts.

@@ -1,8 +1,11 @@
-//! A separate solver of the session kit, written from the papers (01 and 02) alone in plain sets and loops.
-//! The tests hold the kit against it: the answer, the extra, every byte of ledger, answer, chain, a move's target, tidy image and table.
+//! A separate solver of the session kit, written from the papers (01 and 02) alone in plain sets and loops, its clause text from
+//! docs/CLAUSES.md.
+//! The tests hold the kit against it: the answer, the extra, every byte of ledger, answer, chain, text, a move's target, tidy image and
+//! table.
 
 pub mod calls;
 pub mod choice;
+pub mod clauses;
 pub mod image;
 pub mod line;
 pub mod loops;
@@ -11,3 +14,4 @@ pub mod policy;
 pub mod script;
 pub mod tidy;
 pub mod turned;
+pub mod wcnf;

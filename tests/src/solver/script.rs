@@ -91,7 +91,7 @@ fn digit(byte: u8, base: u8) -> Option<u8> {
 
 /// Number, extra, roles and permissions, the last two 0 unless an ask or show is done.
 fn reply_text(reply: &Reply) -> String {
-    let answer = reply.answer.unwrap_or([0; ANSWER]);
+    let answer = reply.answer.as_deref().unwrap_or(&[0; ANSWER]);
     format!("{} {} {} {}", reply.number, reply.extra, hex(&answer[..8]), hex(&answer[8..]))
 }
 
