@@ -1,29 +1,29 @@
 -- What holds of a policy whose image passes the judgement by its words: every number is in its range, and every limit of the register is kept.
 -- Assumes nothing.
 use mathlib.Core.Path.{_≡_, refl, sym, ap, _∙_, subst}
-use mathlib.Core.Bool.{Bool, true, false, _&&_, not, true≢false}
+use mathlib.Core.Bool.{Bool, true, false, _&&_, _||_, not, true≢false}
 use mathlib.Core.List.{List, [], _∷_, _++_}
 use Prim.Native.Nat.{ℕ, zero, suc, _+_, _^_, _≤_, _<_, zero-le}
 use native.Mathlib.Nat.{zero-add, lt-of-lt-of-le, le-trans}
 use native.Mathlib.Omega.{arith}
 use lib.Pow.{pow-pos, pow-lt, pow-mono}
 use lib.Bits.{or-lt}
-use lib.Dec.{ltb, leb}
+use lib.Dec.{ltb, leb, eqb}
 use lib.ListN.{length, getD, set, take, replicate}
 use borrow.Author.Tests.{ltb-true, leb-true, leb-false}
 use Rattle.model.specs.declared.Head.{Head}
 use Rattle.model.specs.declared.Exclusion.{Exclusion}
 use Rattle.model.specs.declared.Entry.{Entry}
-use Rattle.model.specs.declared.Entry.the-variants.{Assignment, Grant, Senior, Exclude, Member, End, Unknown}
+use Rattle.model.specs.declared.Entry.the-variants.{Assignment, Grant, Senior, Exclude, Member, Limit, End, Unknown}
 use Rattle.model.specs.declared.Scan.{Scan}
 use Rattle.model.specs.declared.Checked.{Checked}
 use Rattle.model.specs.declared.Checked.the-variants.{Accepted, Refused}
 use Rattle.model.specs.Tests.{between}
 use Rattle.model.specs.Sets.{has, with, count}
 use Rattle.model.specs.Image.{wordAt, behindHead, inRange, repeats, crowds, assigning, next, scan, headOf, headRight, lengthRight, emptyRows, start, judgeWords, field, isKind}
-use Rattle.model.specs.Policy.{entriesOf, granting, ordering, fold, joining, withMembers, exclusionsOf, policyOf}
-use Rattle.model.specs.Ranges.{Each, OneTo, TwoTo, ExclusionInRange, TableInRange, RowsBelow, InRange}
-use Rattle.model.proofs.Bools.{and-l, and-r, not-both}
+use Rattle.model.specs.Policy.{entriesOf, granting, ordering, lesser, limiting, fold, joining, withMembers, exclusionsOf, policyOf, limited}
+use Rattle.model.specs.Ranges.{Each, OneTo, TwoTo, ExclusionInRange, TableInRange, RowsBelow, LimitsInRange, InRange}
+use Rattle.model.proofs.Bools.{and-l, and-r, not-both, pick-case}
 use Rattle.model.proofs.SetLaws.{count-with, with-member}
 use Rattle.model.proofs.TableLaws.{set-keeps, getD-filled, count-empty, put-in-range, put-below, fold-keeps}
 use Rattle.model.proofs.UnionLaws.{has-none}
@@ -42,6 +42,11 @@ empty-table m n = (
   (λ i j e. not-both (has (getD (replicate 64 0) i 0) j) e (ap (λ (s : ℕ). has s j) (getD-filled 0 64 i) ∙ has-none j)),
   (λ i. subst (λ (s : ℕ). s < 2 ^ n) (sym (getD-filled 0 64 i)) (pow-pos n)),
 )
+
+-- in an empty table no role has a limit
+no-limits : (n : ℕ) → LimitsInRange n emptyRows
+unfolding emptyRows limited
+no-limits n r e = absurd (true≢false (sym e ∙ ap (λ (t : ℕ). not (eqb t 0)) (getD-filled 0 64 r)))
 
 -- in an empty table nobody has a role
 few-none : (u : ℕ) → count 64 (getD emptyRows u 0) ≤ 16
@@ -66,6 +71,7 @@ module _ (h : Head) where
   assigning-keeps rows (Senior a b) e t = t
   assigning-keeps rows (Exclude x m) e t = t
   assigning-keeps rows (Member r) e t = t
+  assigning-keeps rows (Limit r n) e t = t
   assigning-keeps rows End e t = t
   assigning-keeps rows Unknown e t = t
 
@@ -78,6 +84,7 @@ module _ (h : Head) where
   granting-keeps rows (Senior a b) e t = t
   granting-keeps rows (Exclude x m) e t = t
   granting-keeps rows (Member r) e t = t
+  granting-keeps rows (Limit r n) e t = t
   granting-keeps rows End e t = t
   granting-keeps rows Unknown e t = t
 
@@ -90,8 +97,27 @@ module _ (h : Head) where
   ordering-keeps rows (Senior a b) e t = put-keeps (h .roles) (h .roles) rows (a .0) (b .0) e t
   ordering-keeps rows (Exclude x m) e t = t
   ordering-keeps rows (Member r) e t = t
+  ordering-keeps rows (Limit r n) e t = t
   ordering-keeps rows End e t = t
   ordering-keeps rows Unknown e t = t
+
+  -- a limit word in range keeps the table of limits in range
+  limiting-keeps : (rows : List ℕ) (e : Entry) → inRange h e ≡ true → LimitsInRange (h .roles) rows → LimitsInRange (h .roles) (limiting rows e)
+  unfolding limiting lesser inRange limited
+  limiting-keeps rows (Assignment u r) e t = t
+  limiting-keeps rows (Grant r p) e t = t
+  limiting-keeps rows (Senior a b) e t = t
+  limiting-keeps rows (Exclude x m) e t = t
+  limiting-keeps rows (Member r) e t = t
+  limiting-keeps rows (Limit r n) e t =
+      let a = ltb-true (r .0) (h .roles) (and-l _ _ e) in
+      let b = leb-true 2 n (and-l _ _ (and-r (ltb (r .0) (h .roles)) _ e)) in
+      let c = leb-true n 256 (and-r (leb 2 n) _ (and-r (ltb (r .0) (h .roles)) _ e)) in
+      set-keeps (λ (i v : ℕ). not (eqb v 0) ≡ true → (i < h .roles) × (2 ≤ v) × (v ≤ 256)) rows (r .0) (lesser (getD rows (r .0) 0) n) t
+      (pick-case (λ (v : ℕ). not (eqb v 0) ≡ true → (r .0 < h .roles) × (2 ≤ v) × (v ≤ 256)) (eqb (getD rows (r .0) 0) 0 || ltb n (getD rows (r .0) 0))
+      n (getD rows (r .0) 0) (λ q k. (a, b, c)) (λ q k. t (r .0) k))
+  limiting-keeps rows End e t = t
+  limiting-keeps rows Unknown e t = t
 
   -- valid entries are in range
   ranges : (rows : List ℕ) (t : Scan) (es : List Entry) → Valid h rows t es → Each (λ e. inRange h e ≡ true) es
@@ -132,6 +158,7 @@ module _ (h : Head) (small : h .roles ≤ 64) where
   few-step rows t (Senior a b) f c k = k
   few-step rows t (Exclude x m) f b k = k
   few-step rows t (Member r) f b k = k
+  few-step rows t (Limit r n) f b k = k
   few-step rows t End f b k = k
   few-step rows t Unknown f b k = k
 
@@ -155,6 +182,7 @@ module _ (h : Head) (small : h .roles ≤ 64) where
       let q = leb-false 32 (t .exclusions) (v .0 .room) in
       omega (arith, q, few-exclusions (assigning rows (Exclude x m)) (next t (Exclude x m)) es (v .1) (omega (arith, q)))
   few-exclusions rows t (Member r ∷ es) v k = few-exclusions (assigning rows (Member r)) (next t (Member r)) es (v .1) k
+  few-exclusions rows t (Limit r n ∷ es) v k = few-exclusions (assigning rows (Limit r n)) t es (v .1) k
   few-exclusions rows t (End ∷ es) v k = few-exclusions (assigning rows End) t es (v .1) k
   few-exclusions rows t (Unknown ∷ es) v k = few-exclusions (assigning rows Unknown) t es (v .1) k
 
@@ -173,6 +201,7 @@ module _ (h : Head) (small : h .roles ≤ 64) where
       let l : r .0 < h .roles = ltb-true (r .0) (h .roles) (v .0 .range) in
       let ih = members-due d (assigning rows (Member r)) (next t (Member r)) es (omega arith) (v .1) (or-lt (h .roles) (t .members) (2 ^ r .0) b (pow-lt l)) in
       (ih .0 ∙ ap (λ (n : ℕ). n + d) (count-with 64 (t .members) (r .0) (lt-of-lt-of-le l small) (v .0 .fresh)) ∙ omega arith, ih .1)
+  members-due (suc d) rows t (Limit r n ∷ es) q v b = absurd (omega (arith, v .0 .turn))
   members-due (suc d) rows t (End ∷ es) q v b = absurd (omega (arith, v .0 .turn))
   members-due (suc d) rows t (Unknown ∷ es) q v b = absurd (v .0 .turn)
 
@@ -214,6 +243,7 @@ module _ (h : Head) (small : h .roles ≤ 64) where
   exclusions-in-range rows t (Exclude x m ∷ es) v =
       (exclusion-in-range rows t x m es v, exclusions-in-range (assigning rows (Exclude x m)) (next t (Exclude x m)) es (v .1))
   exclusions-in-range rows t (Member r ∷ es) v = exclusions-in-range (assigning rows (Member r)) (next t (Member r)) es (v .1)
+  exclusions-in-range rows t (Limit r n ∷ es) v = exclusions-in-range (assigning rows (Limit r n)) (next t (Limit r n)) es (v .1)
   exclusions-in-range rows t (End ∷ es) v = exclusions-in-range (assigning rows End) (next t End) es (v .1)
   exclusions-in-range rows t (Unknown ∷ es) v = exclusions-in-range (assigning rows Unknown) (next t Unknown) es (v .1)
 
@@ -283,6 +313,10 @@ module _ (s : List ℕ) (h : Head) (accepted : judgeWords s ≡ Accepted h) wher
   unfolding policyOf
   words-head = facts .2
 
+  -- its entries are in range
+  pub words-entries : Each (λ e. inRange (headOf (wordAt s 0)) e ≡ true) (entriesOf s)
+  words-entries = ranges (headOf (wordAt s 0)) emptyRows start (entriesOf s) (facts .1)
+
   -- its policy is in range
   pub words-in-range : InRange (policyOf s)
   unfolding policyOf
@@ -308,6 +342,7 @@ module _ (s : List ℕ) (h : Head) (accepted : judgeWords s ≡ Accepted h) wher
         few-roles = few-kept k small emptyRows start (entriesOf s) v (empty-table (k .users) (k .roles)) few-none;
         few-exclusions = unfold start in (subst (λ (n : ℕ). n ≤ 32) (zero-add (length (exclusionsOf (entriesOf s)))) (few-exclusions k small emptyRows start (entriesOf s) v zero-le));
         exclusions = exclusions-in-range k small emptyRows start (entriesOf s) v;
+        limits = fold-keeps limiting Q (LimitsInRange (k .roles)) (limiting-keeps k) (entriesOf s) r emptyRows (no-limits (k .roles));
       }
 
   -- an exclusion word with m is followed by m member words that name m different roles

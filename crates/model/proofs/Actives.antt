@@ -12,8 +12,8 @@ use lib.Pow.{pow-pos}
 use Rattle.model.specs.declared.Session.{Session}
 use Rattle.model.specs.declared.Line.{Line}
 use Rattle.model.specs.Sets.{has, union}
-use Rattle.model.specs.Line.{emptySession, sessionAt, activeIn}
-use Rattle.model.specs.Conditions.{others, ActiveElsewhere}
+use Rattle.model.specs.Line.{emptySession, sessionAt, activeIn, others}
+use Rattle.model.specs.Conditions.{ActiveElsewhere}
 use Rattle.model.proofs.Bools.{or-l, or-r, or-cases, not-both}
 use Rattle.model.proofs.SetLaws.{has-union, has-beyond}
 use Rattle.model.proofs.AnyWidth.{union-swap}

@@ -1,4 +1,5 @@
--- Calls that only read a session answer alike on sound lines that agree, whatever the number of their sessions.
+-- Calls that only read a session answer alike on sound lines that agree, whatever the number of their sessions; they are told nothing of
+-- other users.
 -- Assumes nothing.
 use mathlib.Core.Path.{_≡_, refl, sym, ap, ap₂, _∙_}
 use mathlib.Core.Bool.{Bool, true, false, not}
@@ -12,6 +13,7 @@ use Rattle.model.specs.Sets.{has}
 use Rattle.model.specs.Policy.{Meaning}
 use Rattle.model.specs.Choice.{carriedBy}
 use Rattle.model.specs.Line.{readLine, sessionAt, isOpen, sound}
+use Rattle.model.specs.Limits.{nobody}
 use Rattle.model.specs.Session.{Operation, show, explain, Query, queryOf, sessionOf, Reply, given, Refusal, bad-line, bad-session, is-closed, bad-room, not-below, not-carried, canGive, applies, isNone, explanation, explained, Result, perform, unless, rule}
 use Rattle.model.proofs.Resizing.{Agreeing}
 
@@ -24,7 +26,7 @@ first-same f g x xs e h =
     ap₂ (λ (b : Bool) (r : Option Refusal). let v : Option Refusal = elim b [ true ↦ some x | false ↦ r ] in v) e h
 
 -- the answer is the refusal's, or that of the work done
-unless-same : (o : Option Refusal) (bs cs : List ℕ) (r s : Result) → r .reply ≡ s .reply → unless o bs r .reply ≡ unless o cs s .reply
+unless-same : (o : Option Refusal) (bs cs : List ℕ) (r s : Result) → r .reply ≡ s .reply → unless nobody o bs r .reply ≡ unless nobody o cs s .reply
 unfolding unless
 unless-same none bs cs r s e = e
 unless-same (some f) bs cs r s e = refl
@@ -48,10 +50,10 @@ module _ (F W : ℕ) (m : Meaning) (bs cs : List ℕ) (before : sound F m (readL
   open-same = ap (λ (x : ℕ). has x j) (sym (h .opened))
 
   abbrev late : Query → Refusal → Bool
-  late q = applies W m (readLine W cs) j q
+  late q = applies W m nobody (readLine W cs) j q
 
   abbrev early : Query → Refusal → Bool
-  early q = applies F m (readLine F bs) j q
+  early q = applies F m nobody (readLine F bs) j q
 
   -- neither is refused for its line or its session's number; each is for a closed session where the other is
   first-three : (q : Query) (xs : List Refusal) → first (late q) xs ≡ first (early q) xs
@@ -63,25 +65,25 @@ module _ (F W : ℕ) (m : Meaning) (bs cs : List ℕ) (before : sound F m (readL
 
   rule-same : (op : Operation) → sessionOf op ≡ j
       → first (late (queryOf op)) (canGive op) ≡ first (early (queryOf op)) (canGive op)
-      → perform W m (readLine W cs) cs op .reply ≡ perform F m (readLine F bs) bs op .reply → rule W m cs op .reply ≡ rule F m bs op .reply
+      → perform W m nobody (readLine W cs) cs op .reply ≡ perform F m nobody (readLine F bs) bs op .reply → rule W m nobody cs op .reply ≡ rule F m nobody bs op .reply
   unfolding rule
   rule-same op s e r =
       rw s
-      (ap (λ (o : Option Refusal). unless o cs (perform W m (readLine W cs) cs op) .reply) e
-      ∙ unless-same (first (early (queryOf op)) (canGive op)) cs bs (perform W m (readLine W cs) cs op) (perform F m (readLine F bs) bs op) r)
+      (ap (λ (o : Option Refusal). unless nobody o cs (perform W m nobody (readLine W cs) cs op) .reply) e
+      ∙ unless-same (first (early (queryOf op)) (canGive op)) cs bs (perform W m nobody (readLine W cs) cs op) (perform F m nobody (readLine F bs) bs op) r)
 
   none-same : (q : Query) → first (late q) [] ≡ first (early q) []
   unfolding first
   none-same q = refl
 
-  pub show-same : (room : ℕ) → rule W m cs (show j room) .reply ≡ rule F m bs (show j room) .reply
+  pub show-same : (room : ℕ) → rule W m nobody cs (show j room) .reply ≡ rule F m nobody bs (show j room) .reply
   unfolding sessionOf canGive applies perform
   show-same room =
       let q = queryOf (show j room) in
       rule-same (show j room) refl (first-three q (bad-room ∷ []) (first-same (late q) (early q) bad-room [] refl (none-same q)))
       (ap (λ (s : ℕ). given s (carriedBy m s)) active-same)
 
-  pub explain-same : (n : ℕ) → rule W m cs (explain j n) .reply ≡ rule F m bs (explain j n) .reply
+  pub explain-same : (n : ℕ) → rule W m nobody cs (explain j n) .reply ≡ rule F m nobody bs (explain j n) .reply
   unfolding sessionOf canGive applies perform
   explain-same n =
       let q = queryOf (explain j n) in

@@ -17,8 +17,9 @@ use Rattle.model.specs.Tests.{pick, first}
 use Rattle.model.specs.Judgement.{judge}
 use Rattle.model.specs.Policy.{Policy, Meaning, policyOf, meaning}
 use Rattle.model.specs.Line.{lineSize, readLine}
-use Rattle.model.specs.Session.{Query, Operation, open-session, close-session, ask, short-ask, show, explain, clauses, sessionOf, queryOf, isText, Reply, refuse, done, Refusal, bad-line, bad-session, is-closed, bad-set, bad-permission, bad-bounds, bad-aim, bad-room, no-set, too-long, canGive, textFor, wrote, applies, perform, unless, rule}
-use Rattle.model.specs.Run.{Call, lineAt, ruled, stepOn, stepBy, step, filledWith, answered, written}
+use Rattle.model.specs.Limits.{Others}
+use Rattle.model.specs.Session.{Query, Operation, open-session, close-session, ask, short-ask, show, explain, clauses, sessionOf, queryOf, isText, Reply, refuse, done, Refusal, bad-other, bad-line, bad-session, is-closed, bad-set, bad-permission, bad-bounds, bad-aim, bad-room, no-set, too-long, canGive, textFor, wrote, applies, perform, unless, rule}
+use Rattle.model.specs.Run.{Call, lineAt, told, ruled, stepOn, stepBy, step, filledWith, answered, written}
 use Rattle.model.specs.Frames.{AnswerKeepsLength, TextsKeep}
 use Rattle.model.proofs.CallLaws.{first-none}
 use Rattle.model.proofs.FramesProof.{explained-fills, step-frame}
@@ -33,10 +34,10 @@ abbrev Roomy : Operation → Reply → Type 0
 Roomy op r = (r .filled ≡ []) ⊎ ((isText op ≡ false → queryOf op .room ≡ 40) × (isText op ≡ true → length (r .filled) ≤ queryOf op .room))
 
 -- ---- the session rules
-module _ (W : ℕ) (m : Meaning) (bs : List ℕ) where
+module _ (W : ℕ) (m : Meaning) (x : Others) (bs : List ℕ) where
   -- the refusals whose case holds
   abbrev tests : Operation → Refusal → Bool
-  tests op = applies W m (readLine W bs) (sessionOf op) (queryOf op)
+  tests op = applies W m x (readLine W bs) (sessionOf op) (queryOf op)
 
   -- where the room is not refused, it is 40 bytes
   room-right : (op : Operation) → tests op bad-room ≡ false → queryOf op .room ≡ 40
@@ -44,28 +45,28 @@ module _ (W : ℕ) (m : Meaning) (bs : List ℕ) where
   room-right op e = eqb-true (queryOf op .room) 40 (not-false (eqb (queryOf op .room) 40) e)
 
   -- where a text is not too long, it fits
-  text-room : (k : ℕ) (q : Query) → tests (clauses k q) too-long ≡ false → length (textFor m (readLine W bs) k q) ≤ q .room
+  text-room : (k : ℕ) (q : Query) → tests (clauses k q) too-long ≡ false → length (textFor m x (readLine W bs) k q) ≤ q .room
   unfolding applies sessionOf queryOf
-  text-room k q e = ltb-false (q .room) (length (textFor m (readLine W bs) k q)) e
+  text-room k q e = ltb-false (q .room) (length (textFor m x (readLine W bs) k q)) e
 
   -- so has a call that is no clause text
   plain-room : (op : Operation) → isText op ≡ false → tests op bad-room ≡ false
-      → (isText op ≡ false → queryOf op .room ≡ 40) × (isText op ≡ true → length (perform W m (readLine W bs) bs op .reply .filled) ≤ queryOf op .room)
+      → (isText op ≡ false → queryOf op .room ≡ 40) × (isText op ≡ true → length (perform W m x (readLine W bs) bs op .reply .filled) ≤ queryOf op .room)
   plain-room op t e = (λ _. room-right op e, λ f. absurd (true≢false (sym f ∙ t)))
 
   -- a call that fills can refuse the room
-  perform-roomy : (op : Operation) → first (tests op) (canGive op) ≡ none → Roomy op (perform W m (readLine W bs) bs op .reply)
+  perform-roomy : (op : Operation) → first (tests op) (canGive op) ≡ none → Roomy op (perform W m x (readLine W bs) bs op .reply)
   unfolding perform done canGive isText wrote textFor queryOf
   perform-roomy open-session e = inl refl
   perform-roomy (close-session k) e = inl refl
   perform-roomy (ask k q) e =
       inr
       (plain-room (ask k q) refl
-      (later (tests (ask k q)) (bad-line ∷ bad-session ∷ is-closed ∷ bad-set ∷ bad-permission ∷ bad-bounds ∷ bad-aim ∷ []) bad-room (no-set ∷ []) e))
+      (later (tests (ask k q)) (bad-other ∷ bad-line ∷ bad-session ∷ is-closed ∷ bad-set ∷ bad-permission ∷ bad-bounds ∷ bad-aim ∷ []) bad-room (no-set ∷ []) e))
   perform-roomy (short-ask k lower upper room) e =
       inr
       (plain-room (short-ask k lower upper room) refl
-      (later (tests (short-ask k lower upper room)) (bad-line ∷ bad-session ∷ is-closed ∷ bad-set ∷ bad-permission ∷ bad-bounds ∷ [])
+      (later (tests (short-ask k lower upper room)) (bad-other ∷ bad-line ∷ bad-session ∷ is-closed ∷ bad-set ∷ bad-permission ∷ bad-bounds ∷ [])
       bad-room (no-set ∷ []) e))
   perform-roomy (show k room) e =
       inr
@@ -75,14 +76,14 @@ module _ (W : ℕ) (m : Meaning) (bs : List ℕ) where
       inr (
         λ f. absurd (true≢false f),
         λ f. text-room k q
-            (later (tests (clauses k q)) (bad-line ∷ bad-session ∷ is-closed ∷ bad-set ∷ bad-permission ∷ bad-bounds ∷ bad-aim ∷ []) too-long [] e),
+            (later (tests (clauses k q)) (bad-other ∷ bad-line ∷ bad-session ∷ is-closed ∷ bad-set ∷ bad-permission ∷ bad-bounds ∷ bad-aim ∷ []) too-long [] e),
       )
 
-  rule-roomy : (op : Operation) → Roomy op (rule W m bs op .reply)
+  rule-roomy : (op : Operation) → Roomy op (rule W m x bs op .reply)
   unfolding rule unless refuse
   rule-roomy op = go (first (tests op) (canGive op)) refl
     where
-      go : (o : Option Refusal) → first (tests op) (canGive op) ≡ o → Roomy op (unless o bs (perform W m (readLine W bs) bs op) .reply)
+      go : (o : Option Refusal) → first (tests op) (canGive op) ≡ o → Roomy op (unless x o bs (perform W m x (readLine W bs) bs op) .reply)
       go none e = perform-roomy op e
       go (some f) e = inl refl
 
@@ -97,7 +98,7 @@ module _ (W : ℕ) (p : Policy) (l : List ℕ) (c : Call) where
           (pick a (record { reply = refuse 9 0; ledger = l }) (pick b (record { reply = refuse 10 0; ledger = l }) (ruled W p l c)) .reply)
       go true b = inl refl
       go false true = inl refl
-      go false false = rule-roomy W (meaning p (c .user)) (lineAt (lineSize W) (c .user) l) (c .operation)
+      go false false = rule-roomy W (meaning p (c .user)) (told W p l c) (lineAt (lineSize W) (c .user) l) (c .operation)
 
   stepBy-roomy : (v : Checked) → Roomy (c .operation) (stepBy W v p l c .reply)
   unfolding stepBy refuse

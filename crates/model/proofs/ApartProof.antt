@@ -8,7 +8,7 @@ use Rattle.model.specs.declared.Head.{Head}
 use Rattle.model.specs.declared.Kind.the-variants.{MsDmer}
 use Rattle.model.specs.Policy.{policyOf, onlyFor, excludes, sameExclusion, Agree}
 use Rattle.model.specs.Line.{SESSIONS}
-use Rattle.model.specs.Independence.{Run, SameFor, callsOf, firstLine, hasText}
+use Rattle.model.specs.Independence.{Run, SameFor, callsOf, firstLine, hasText, toldOf}
 use Rattle.model.specs.Apart.{oneImage, otherImage, oneLedger, otherLedger, oneList, otherList, Apart, movedImage, clauseText, ApartText}
 use Rattle.model.specs.OwnWords.{wordsFrom, entryOf, isOwn, wordsWith, ownWords}
 use Rattle.model.specs.Run.{openBy, closeBy}
@@ -40,11 +40,12 @@ agree =
       grants = refl;
       seniors = refl;
       exclusions = λ x. twice (sameExclusion (record { kind = MsDmer; limit = 2; members = 3 }) x);
+      limits = refl;
     }
 
 same-for-user : SameFor SESSIONS 0 one other
-unfolding computing one other two-users callsOf firstLine hasText oneImage otherImage oneLedger otherLedger oneList otherList
-same-for-user = record { agree = agree; below = lit< tt; line = refl; calls = refl; words = λ e. absurd (true≢false (sym e)) }
+unfolding computing one other two-users callsOf firstLine hasText toldOf oneImage otherImage oneLedger otherLedger oneList otherList
+same-for-user = record { agree = agree; below = lit< tt; line = refl; calls = refl; words = λ e. absurd (true≢false (sym e)); told = refl }
 
 fed : onlyFor 0 (policyOf oneImage) .assigned ≡ onlyFor 0 (policyOf otherImage) .assigned
 unfolding computing onlyFor oneImage otherImage
@@ -75,11 +76,11 @@ other-text =
 
 agree-text : Agree 0 (policyOf oneImage) (policyOf movedImage)
 unfolding computing excludes oneImage movedImage
-agree-text = record { heads = refl; own = refl; grants = refl; seniors = refl; exclusions = λ x. refl }
+agree-text = record { heads = refl; own = refl; grants = refl; seniors = refl; limits = refl; exclusions = λ x. refl }
 
 same-text : SameFor SESSIONS 0 one-text other-text
-unfolding computing one-text other-text two-users callsOf firstLine wordsFrom entryOf isOwn wordsWith ownWords oneImage movedImage oneLedger otherLedger clauseText
-same-text = record { agree = agree-text; below = lit< tt; line = refl; calls = refl; words = λ _. refl }
+unfolding computing one-text other-text two-users callsOf firstLine toldOf wordsFrom entryOf isOwn wordsWith ownWords oneImage movedImage oneLedger otherLedger clauseText
+same-text = record { agree = agree-text; below = lit< tt; line = refl; calls = refl; words = λ _. refl; told = refl }
 
 pub apart-text : ApartText
 unfolding one-text other-text

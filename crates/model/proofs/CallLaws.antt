@@ -4,7 +4,7 @@ use mathlib.Core.Path.{_≡_, refl, sym, ap, _∙_, subst}
 use mathlib.Core.Logic.{_⊎_, inl, inr}
 use mathlib.Core.Bool.{Bool, true, false}
 use mathlib.Core.Option.{Option, none, some, Option·some-injective, Option·some-ne-none, Option·none-ne-some}
-use mathlib.Core.List.{List, [], _∷_}
+use mathlib.Core.List.{List, [], _∷_, _++_}
 use Prim.Native.Nat.{ℕ, zero, suc, _+_, _≤_, _<_}
 use native.Mathlib.Nat.{le-refl}
 use native.Mathlib.Omega.{arith}
@@ -13,7 +13,9 @@ use borrow.Author.Tests.{eqb-true, eqb-false}
 use Rattle.model.specs.declared.Line.{Line}
 use Rattle.model.specs.Tests.{first}
 use Rattle.model.specs.Sets.{has, one, countTo, count}
+use Rattle.model.specs.Policy.{tableOf}
 use Rattle.model.specs.Line.{isOpen, lowestClosed}
+use Rattle.model.proofs.UnionLaws.{below-or-last}
 
 -- ---- the first refusal that applies
 module _ {A : Type 0} (f : A → Bool) where
@@ -36,6 +38,52 @@ module _ {A : Type 0} (f : A → Bool) where
           → f y ≡ true
       go true p ih e = ap f (sym (Option·some-injective x y e)) ∙ p
       go false p ih e = ih e
+
+  -- none of a list with one more behind it
+  first-more : (xs : List A) (y : A) → first f xs ≡ none → f y ≡ false → first f (xs ++ (y ∷ [])) ≡ none
+  unfolding first
+  first-more [] y e h = rw (h, first)
+  first-more (x ∷ xs) y e h =
+      let a = first-none x xs e in
+      rw (a .0, first) (first-more xs y (a .1) h)
+
+  -- the first of a list, with one more behind it
+  first-front : (xs : List A) (x y : A) → first f xs ≡ some x → first f (xs ++ (y ∷ [])) ≡ some x
+  unfolding first
+  first-front [] x y e = absurd (Option·none-ne-some x e)
+  first-front (z ∷ xs) x y e = go (f z) refl e (first-front xs x y)
+    where
+      go : (b : Bool) → f z ≡ b → _≡_ {A = Option A} (elim b [ true ↦ some z | false ↦ first f xs ]) (some x)
+          → (first f xs ≡ some x → first f (xs ++ (y ∷ [])) ≡ some x)
+          → _≡_ {A = Option A} (elim b [ true ↦ some z | false ↦ first f (xs ++ (y ∷ [])) ]) (some x)
+      go true p e ih = e
+      go false p e ih = ih e
+
+  -- none of a list, and one behind it that passes
+  first-last : (xs : List A) (y : A) → first f xs ≡ none → f y ≡ true → first f (xs ++ (y ∷ [])) ≡ some y
+  unfolding first
+  first-last [] y e h = rw (h, first)
+  first-last (x ∷ xs) y e h =
+      let a = first-none x xs e in
+      rw (a .0, first) (first-last xs y (a .1) h)
+
+-- none of the numbers below n
+pub first-below : (f : ℕ → Bool) (n : ℕ) → ((v : ℕ) → v < n → f v ≡ false) → first f (tableOf n (λ v. v)) ≡ none
+unfolding tableOf first
+first-below f zero h = refl
+first-below f (suc n) h = first-more f (tableOf n (λ v. v)) n (first-below f n (λ v i. h v (omega arith))) (h n (le-refl (suc n)))
+
+-- the lowest of the numbers below n
+pub first-lowest : (f : ℕ → Bool) (n v : ℕ) → v < n → f v ≡ true → ((w : ℕ) → w < v → f w ≡ false) → first f (tableOf n (λ w. w)) ≡ some v
+unfolding tableOf
+first-lowest f zero v l h g = absurd (omega arith)
+first-lowest f (suc n) v l h g =
+    elim (below-or-last v n l) [
+      | inl k ↦ first-front f (tableOf n (λ w. w)) v n (first-lowest f n v k h g)
+      | inr k ↦
+          subst (λ (j : ℕ). first f (tableOf n (λ w. w) ++ (n ∷ [])) ≡ some j) (sym k)
+          (first-last f (tableOf n (λ w. w)) n (first-below f n (λ w i. g w (omega arith))) (ap f (sym k) ∙ h))
+    ]
 
 -- ---- the lowest closed session
 

@@ -1,29 +1,36 @@
--- One call on a sound line: it leaves a sound line, and its answer is not 11.
+-- One call on a sound line: it leaves a sound line, its answer is not 11, and it takes no role over its limit.
 -- Assumes nothing.
 use mathlib.Core.Path.{_≡_, refl, sym, ap, _∙_, subst}
-use mathlib.Core.Bool.{true, _&&_, not}
+use mathlib.Core.Logic.{_⊎_, inl, inr}
+use mathlib.Core.Bool.{Bool, true, false, _&&_, not, true≢false}
 use mathlib.Core.Option.{Option, none, some}
 use mathlib.Core.List.{List, [], _∷_}
-use Prim.Native.Nat.{ℕ, _^_, _≤_, _<_}
-use native.Mathlib.Nat.{lt-of-lt-of-le}
+use Prim.Native.Nat.{ℕ, _+_, _^_, _≤_, _<_}
+use native.Mathlib.Nat.{lt-of-lt-of-le, le-refl}
 use native.Mathlib.Omega.{arith}
 use lib.Dec.{ltb}
 use lib.Pow.{pow-mono}
 use lib.ListN.{length, getD, length-set}
+use lib.Seq.{getD-set-same}
 use borrow.Author.Tests.{lt-ltb, leb-false, not-false}
+use Rattle.model.specs.declared.Session.{Session}
 use Rattle.model.specs.declared.Line.{Line}
 use Rattle.model.specs.Tests.{all, first}
-use Rattle.model.specs.Sets.{within}
+use Rattle.model.specs.Sets.{has, within, one}
 use Rattle.model.specs.Bytes.{number}
-use Rattle.model.specs.Policy.{Meaning, authorized}
-use Rattle.model.specs.Line.{readLine, writeLine, emptySession, isOpen, exclusionsMet, sound, sessionAt, lowestClosed, opening, closing, putIn}
+use Rattle.model.specs.Policy.{limited, Meaning, authorized}
+use Rattle.model.specs.Line.{readLine, writeLine, emptySession, sessionAt, isOpen, holding, others, exclusionsMet, sound, lowestClosed, opening, closing, putIn}
+use Rattle.model.specs.Limits.{Others}
 use Rattle.model.specs.Choice.{carriedBy, admissible}
-use Rattle.model.specs.Session.{Query, Operation, open-session, close-session, ask, short-ask, show, explain, clauses, sessionOf, queryOf, refuse, done, given, wrote, Result, Refusal, bad-line, bad-session, is-closed, is-full, bad-set, bad-permission, bad-bounds, bad-aim, bad-room, no-set, not-below, not-carried, too-long, refusalNumber, canGive, chosen, applies, explanation, asked, explained, perform, unless, rule}
+use Rattle.model.specs.Session.{Query, Operation, open-session, close-session, ask, short-ask, show, explain, clauses, sessionOf, queryOf, isText, isAsk, refuse, done, given, wrote, Result, Refusal, bad-other, bad-line, bad-session, is-closed, is-full, bad-set, bad-permission, bad-bounds, bad-aim, bad-room, no-set, not-below, not-carried, too-long, refusalNumber, canGive, chosen, otherFirst, applies, explanation, asked, explained, perform, unless, rule}
 use Rattle.model.specs.Frames.{fitsSession, fitsLine}
+use Rattle.model.specs.Conditions.{Card}
 use Rattle.model.specs.Kept.{Antitone, SoundBytes}
 use Rattle.model.proofs.Bools.{and-l, and-r, both, not-both}
 use Rattle.model.proofs.Every.{at-all}
-use Rattle.model.proofs.Choices.{within-below, choice}
+use Rattle.model.proofs.Choices.{within-below}
+use Rattle.model.proofs.UnionLaws.{has-none}
+use Rattle.model.proofs.Barred.{chosen-is, holding-set, holding-put, holding-others, card-is}
 use Rattle.model.proofs.LineLaws.{length-readSessions, explained-line}
 use Rattle.model.proofs.RoundTrip.{read-write}
 use Rattle.model.proofs.SoundLaws.{SoundLine, sound-parts, parts-sound, opening-sound, closing-sound, putting-sound}
@@ -47,14 +54,28 @@ module _ (W : ℕ) (m : Meaning) (wide : W ≤ 64) (small : m .roles ≤ 64) whe
       (lt-ltb (s .active) (2 ^ 64) (within-below (s .active) (s .history) 64 q (p .each j .active))) (lt-ltb (s .history) (2 ^ 64) q)))
 
   -- it is read back as it was written
+  read-back : (l : Line) → length (l .sessions) ≡ W → SoundLine W m l → readLine W (writeLine l) ≡ l
+  read-back l n p = read-write W l n (sound-fits l p)
+
   written : (l : Line) → length (l .sessions) ≡ W → SoundLine W m l → SoundBytes W m (writeLine l)
-  written l n p = subst (λ (k : Line). sound W m k ≡ true) (sym (read-write W l n (sound-fits l p))) (parts-sound m l W p)
+  written l n p = subst (λ (k : Line). sound W m k ≡ true) (sym (read-back l n p)) (parts-sound m l W p)
+
+-- what a call does to the sessions that hold role r: they do not become more, or are, together with those of other users, within its limit
+abbrev pub NoMore : Line → ℕ → Line → Type 0
+NoMore before r after = holding r (after .sessions) ≤ holding r (before .sessions)
+
+abbrev pub Carded : Meaning → Others → ℕ → Line → Type 0
+Carded m x r after = limited (m .limits) r ≡ true → x .held r + holding r (after .sessions) < getD (m .limits) r 0
+
+-- the second for an ask alone
+abbrev pub RoleKept : Meaning → Others → Operation → Line → ℕ → Line → Type 0
+RoleKept m x op before r after = NoMore before r after ⊎ ((isAsk op ≡ true) × Carded m x r after)
 
 -- ---- one call on a sound line
 module _ (W : ℕ) (m : Meaning) (wide : W ≤ 64) (small : m .roles ≤ 64) (own : m .authorized < 2 ^ m .roles) (anti : Antitone m)
-    (bs : List ℕ) (safe : SoundBytes W m bs) where
+    (x : Others) (bs : List ℕ) (safe : SoundBytes W m bs) where
   -- the line that the bytes are
-  line : Line
+  unfoldable pub line : Line
   line = readLine W bs
 
   -- its soundness in parts
@@ -69,93 +90,104 @@ module _ (W : ℕ) (m : Meaning) (wide : W ≤ 64) (small : m .roles ≤ 64) (ow
 
   -- no refusal of the call applies
   abbrev Free : Operation → Type 0
-  Free op = first (applies W m line (sessionOf op) (queryOf op)) (canGive op) ≡ none
+  Free op = first (applies W m x line (sessionOf op) (queryOf op)) (canGive op) ≡ none
 
   -- the session that the call names is there, and open
   abbrev There : ℕ → Type 0
   There k = (k < W) × (isOpen line k ≡ true)
 
   -- where neither 12 nor 13 applies
-  there : (k : ℕ) (q : Query) (fs : List Refusal) → first (applies W m line k q) (bad-line ∷ bad-session ∷ is-closed ∷ fs) ≡ none → There k
+  there : (k : ℕ) (q : Query) (fs : List Refusal) → first (applies W m x line k q) (bad-line ∷ bad-session ∷ is-closed ∷ fs) ≡ none → There k
   unfolding applies
   there k q fs e =
-      let f = applies W m line k q in
+      let f = applies W m x line k q in
       let a = first-none f bad-session (is-closed ∷ fs) (first-none f bad-line (bad-session ∷ is-closed ∷ fs) e .1) in
       (leb-false W k (a .0), not-false (isOpen line k) (first-none f is-closed fs (a .1) .0))
 
   -- an open takes a closed session
-  opened-well : Free open-session → SoundBytes W m (perform W m line bs open-session .line)
-  unfolding perform canGive sessionOf queryOf applies
-  opened-well e =
-      let f = applies W m line 0 (queryOf open-session) in
-      let k = lowestClosed line 0 W in
+  opened-line : Free open-session → SoundLine W m (opening (lowestClosed line 0 W) line)
+  unfolding canGive sessionOf queryOf applies
+  opened-line e =
+      let f = applies W m x line 0 (queryOf open-session) in
       let c = lowest-closed W line (first-none f is-full [] (first-none f bad-line (is-full ∷ []) e .1) .0) in
-      written W m wide small (opening k line) (unfold opening in sessions-read) (opening-sound W m line anti k parts (c .0) (c .1))
+      opening-sound W m line anti (lowestClosed line 0 W) parts (c .0) (c .1)
+
+  opened-sessions : (k : ℕ) → length (opening k line .sessions) ≡ W
+  unfolding opening
+  opened-sessions k = sessions-read
 
   -- a close leaves an open session empty
-  closed-well : (k : ℕ) → Free (close-session k) → SoundBytes W m (perform W m line bs (close-session k) .line)
-  unfolding perform canGive sessionOf
-  closed-well k e =
-      let t = there k (queryOf (close-session k)) [] e in
-      written W m wide small (closing k line) (unfold closing in (length-set (line .sessions) k emptySession ∙ sessions-read))
-      (closing-sound W m line anti k parts (t .1))
+  closed-line : (k : ℕ) → There k → SoundLine W m (closing k line)
+  closed-line k t = closing-sound W m line anti k parts (t .1)
+
+  closed-sessions : (k : ℕ) → length (closing k line .sessions) ≡ W
+  unfolding closing
+  closed-sessions k = length-set (line .sessions) k emptySession ∙ sessions-read
 
   -- the set that answers a query is admissible
-  asked-well : (k : ℕ) (q : Query) → There k → (o : Option ℕ) → chosen m line k q ≡ o → SoundBytes W m (asked m line bs k o .line)
-  unfolding asked chosen admissible
-  asked-well k q t none e = safe
-  asked-well k q t (some s) e =
+  put-line : (k : ℕ) (q : Query) → There k → (s : ℕ) → chosen m x line k q ≡ some s → SoundLine W m (putIn k s line)
+  unfolding admissible
+  put-line k q t s e =
       let lower = number (q .lower) in
       let upper = number (q .upper) in
-      let below = lt-of-lt-of-le own (pow-mono small) in
-      let b = choice m line k lower upper (q .permissionAim) (q .roleAim) below .is-best s .0 e .is-admissible in
-      let x = within s (m .authorized) in
+      let b = chosen-is m x line k (lt-of-lt-of-le own (pow-mono small)) q .is-best s .0 e .is-admissible in
+      let w = within s (m .authorized) in
       let y = within lower (carriedBy m s) in
       let z = within (carriedBy m s) upper in
-      written W m wide small (putIn k s line) (unfold putIn in (length-set (line .sessions) k _ ∙ sessions-read))
-      (putting-sound W m line k s own parts (subst (λ (n : ℕ). k < n) (sym sessions-read) (t .0)) (t .1)
-      (and-l x y (and-l (x && y) z (and-l (x && y && z) (exclusionsMet m (putIn k s line)) b))) (and-r (x && y && z) (exclusionsMet m (putIn k s line)) b))
+      putting-sound W m line k s own parts (subst (λ (n : ℕ). k < n) (sym sessions-read) (t .0)) (t .1)
+      (and-l w y (and-l (w && y) z (and-l (w && y && z) (exclusionsMet m (putIn k s line)) b))) (and-r (w && y && z) (exclusionsMet m (putIn k s line)) b)
+
+  put-sessions : (k s : ℕ) → length (putIn k s line .sessions) ≡ W
+  unfolding putIn
+  put-sessions k s = length-set (line .sessions) k _ ∙ sessions-read
+
+  asked-well : (k : ℕ) (q : Query) → There k → (o : Option ℕ) → chosen m x line k q ≡ o → SoundBytes W m (asked m line bs k o .line)
+  unfolding asked
+  asked-well k q t none e = safe
+  asked-well k q t (some s) e = written W m wide small (putIn k s line) (put-sessions k s) (put-line k q t s e)
 
   -- what each call does leaves a sound line
-  performed-well : (op : Operation) → Free op → SoundBytes W m (perform W m line bs op .line)
+  performed-well : (op : Operation) → Free op → SoundBytes W m (perform W m x line bs op .line)
   unfolding perform canGive sessionOf queryOf
-  performed-well open-session e = opened-well e
-  performed-well (close-session k) e = closed-well k e
-  performed-well (ask k q) e = asked-well k q (there k q _ e) (chosen m line k q) refl
+  performed-well open-session e = written W m wide small (opening (lowestClosed line 0 W) line) (opened-sessions _) (opened-line e)
+  performed-well (close-session k) e =
+      written W m wide small (closing k line) (closed-sessions k) (closed-line k (there k (queryOf (close-session k)) [] e))
+  performed-well (ask k q) e = asked-well k q (there k q _ (first-none _ bad-other _ e .1)) (chosen m x line k q) refl
   performed-well (short-ask k lower upper room) e =
       let q = queryOf (short-ask k lower upper room) in
-      asked-well k q (there k q _ e) (chosen m line k q) refl
+      asked-well k q (there k q _ (first-none _ bad-other _ e .1)) (chosen m x line k q) refl
   performed-well (show k room) e = safe
   performed-well (explain k n) e = subst (SoundBytes W m) (sym (explained-line bs _)) safe
   performed-well (clauses k q) e = safe
 
   -- a refused call leaves the line that was
-  unless-well : (o : Option Refusal) (r : Result) → (o ≡ none → SoundBytes W m (r .line)) → SoundBytes W m (unless o bs r .line)
+  unless-well : (o : Option Refusal) (r : Result) → (o ≡ none → SoundBytes W m (r .line)) → SoundBytes W m (unless x o bs r .line)
   unfolding unless
   unless-well none r h = h refl
   unless-well (some f) r h = safe
 
   -- a call on a sound line leaves a sound line
-  pub call-well : (op : Operation) → SoundBytes W m (rule W m bs op .line)
+  pub call-well : (op : Operation) → SoundBytes W m (rule W m x bs op .line)
   unfolding rule line
-  call-well op = unless-well (first (applies W m line (sessionOf op) (queryOf op)) (canGive op)) (perform W m line bs op) (performed-well op)
+  call-well op = unless-well (first (applies W m x line (sessionOf op) (queryOf op)) (canGive op)) (perform W m x line bs op) (performed-well op)
 
-  -- ---- its answer is not 11
-  other-refusal : (f : Refusal) (k : ℕ) (q : Query) → applies W m line k q f ≡ true → ¬ (refusalNumber f ≡ 11)
-  unfolding applies refusalNumber line
-  other-refusal bad-line k q a e = not-both (not (sound W m (readLine W bs))) a (ap not safe)
-  other-refusal bad-session k q a e = omega arith
-  other-refusal is-closed k q a e = omega arith
-  other-refusal is-full k q a e = omega arith
-  other-refusal bad-set k q a e = omega arith
-  other-refusal bad-permission k q a e = omega arith
-  other-refusal bad-bounds k q a e = omega arith
-  other-refusal bad-aim k q a e = omega arith
-  other-refusal bad-room k q a e = omega arith
-  other-refusal no-set k q a e = omega arith
-  other-refusal (not-below n) k q a e = omega arith
-  other-refusal (not-carried n) k q a e = omega arith
-  other-refusal too-long k q a e = omega arith
+  -- ---- its answer is not 11, where it is told of no line that is not sound
+  other-refusal : x .unsound ≡ none → (f : Refusal) (k : ℕ) (q : Query) → applies W m x line k q f ≡ true → ¬ (refusalNumber f ≡ 11)
+  unfolding applies refusalNumber line otherFirst
+  other-refusal quiet bad-other k q a e = absurd (true≢false (sym a ∙ ap (otherFirst (sound W m (readLine W bs)) (m .user)) quiet))
+  other-refusal quiet bad-line k q a e = not-both (not (sound W m (readLine W bs))) a (ap not safe)
+  other-refusal quiet bad-session k q a e = omega arith
+  other-refusal quiet is-closed k q a e = omega arith
+  other-refusal quiet is-full k q a e = omega arith
+  other-refusal quiet bad-set k q a e = omega arith
+  other-refusal quiet bad-permission k q a e = omega arith
+  other-refusal quiet bad-bounds k q a e = omega arith
+  other-refusal quiet bad-aim k q a e = omega arith
+  other-refusal quiet bad-room k q a e = omega arith
+  other-refusal quiet no-set k q a e = omega arith
+  other-refusal quiet (not-below n) k q a e = omega arith
+  other-refusal quiet (not-carried n) k q a e = omega arith
+  other-refusal quiet too-long k q a e = omega arith
 
   -- an ask gives 0 or 20
   asked-answer : (k : ℕ) (o : Option ℕ) → ¬ (asked m line bs k o .reply .number ≡ 11)
@@ -167,30 +199,117 @@ module _ (W : ℕ) (m : Meaning) (wide : W ≤ 64) (small : m .roles ≤ 64) (ow
   explained-answer : (o : Option ℕ) → ¬ (explained bs o .reply .number ≡ 11)
   unfolding explained refuse done
   explained-answer none e = omega arith
-  explained-answer (some x) e = omega arith
+  explained-answer (some y) e = omega arith
 
   -- the work done gives 0 or 20
-  performed-answer : (op : Operation) → ¬ (perform W m line bs op .reply .number ≡ 11)
+  performed-answer : (op : Operation) → ¬ (perform W m x line bs op .reply .number ≡ 11)
   unfolding perform done given wrote
   performed-answer open-session e = omega arith
   performed-answer (close-session k) e = omega arith
-  performed-answer (ask k q) e = asked-answer k (chosen m line k q) e
-  performed-answer (short-ask k lower upper room) e = asked-answer k (chosen m line k (queryOf (short-ask k lower upper room))) e
+  performed-answer (ask k q) e = asked-answer k (chosen m x line k q) e
+  performed-answer (short-ask k lower upper room) e = asked-answer k (chosen m x line k (queryOf (short-ask k lower upper room))) e
   performed-answer (show k room) e = omega arith
   performed-answer (explain k n) e = explained-answer (explanation (m .granter n) (sessionAt line k .active)) e
   performed-answer (clauses k q) e = omega arith
 
   -- a refused call gives the number of a refusal that applies
   unless-answer : (o : Option Refusal) (r : Result) → ((f : Refusal) → o ≡ some f → ¬ (refusalNumber f ≡ 11)) → ¬ (r .reply .number ≡ 11)
-      → ¬ (unless o bs r .reply .number ≡ 11)
+      → ¬ (unless x o bs r .reply .number ≡ 11)
   unfolding unless refuse
   unless-answer none r g h = h
   unless-answer (some f) r g h = g f refl
 
   -- a call on a sound line does not answer 11
-  pub call-answer : (op : Operation) → ¬ (rule W m bs op .reply .number ≡ 11)
+  pub call-answer : x .unsound ≡ none → (op : Operation) → ¬ (rule W m x bs op .reply .number ≡ 11)
   unfolding rule line
-  call-answer op =
-      unless-answer (first (applies W m line (sessionOf op) (queryOf op)) (canGive op)) (perform W m line bs op)
-      (λ f e. other-refusal f (sessionOf op) (queryOf op) (first-some (applies W m line (sessionOf op) (queryOf op)) (canGive op) f e))
+  call-answer quiet op =
+      unless-answer (first (applies W m x line (sessionOf op) (queryOf op)) (canGive op)) (perform W m x line bs op)
+      (λ f e. other-refusal quiet f (sessionOf op) (queryOf op) (first-some (applies W m x line (sessionOf op) (queryOf op)) (canGive op) f e))
       (performed-answer op)
+
+  -- ---- what it does to the sessions that hold role r
+
+  -- a session k that exists
+  in-line : (k : ℕ) → There k → k < length (line .sessions)
+  in-line k t = subst (λ (n : ℕ). k < n) (sym sessions-read) (t .0)
+
+  -- a set without barred roles is put in
+  put-card : (k : ℕ) (q : Query) → There k → (s : ℕ) → chosen m x line k q ≡ some s → Card m x line k s
+  put-card k q t s e =
+      card-is m x line k s (in-line k t) .0 (chosen-is m x line k (lt-of-lt-of-le own (pow-mono small)) q .is-best s .0 e .is-unbarred)
+
+  put-kept : (k : ℕ) (q : Query) → There k → (s r : ℕ) → chosen m x line k q ≡ some s → NoMore line r (putIn k s line) ⊎ Carded m x r (putIn k s line)
+  put-kept k q t s r e = go (has s r) refl
+    where
+      go : (b : Bool) → has s r ≡ b → NoMore line r (putIn k s line) ⊎ Carded m x r (putIn k s line)
+      go true h = inr (λ i. put-card k q t s e r h i)
+      go false h =
+          let a = holding-put r line k s (in-line k t) ∙ ap (λ (b : Bool). one b + holding r (others k (line .sessions))) h in
+          let c = holding-others r (line .sessions) k (in-line k t) in
+          inl (omega arith)
+
+  asked-kept : (k : ℕ) (q : Query) (r : ℕ) → There k → (o : Option ℕ) → chosen m x line k q ≡ o
+      → NoMore line r (readLine W (asked m line bs k o .line)) ⊎ Carded m x r (readLine W (asked m line bs k o .line))
+  unfolding asked line
+  asked-kept k q r t none e = inl (le-refl (holding r (line .sessions)))
+  asked-kept k q r t (some s) e =
+      subst (λ (l : Line). NoMore line r l ⊎ Carded m x r l) (sym (read-back W m wide small (putIn k s line) (put-sessions k s) (put-line k q t s e)))
+      (put-kept k q t s r e)
+
+  -- a session is emptied
+  closing-kept : (k r : ℕ) → There k → NoMore line r (closing k line)
+  unfolding closing emptySession
+  closing-kept k r t =
+      let a = holding-set r (line .sessions) k emptySession (in-line k t) ∙ ap (λ (b : Bool). one b + holding r (others k (line .sessions))) (has-none r) in
+      let c = holding-others r (line .sessions) k (in-line k t) in
+      omega arith
+
+  -- an ask's case
+  as-ask : (op : Operation) (r : ℕ) (l : Line) → isAsk op ≡ true → NoMore line r l ⊎ Carded m x r l → RoleKept m x op line r l
+  as-ask op r l a (inl f) = inl f
+  as-ask op r l a (inr f) = inr (a, f)
+
+  pub performed-kept : (op : Operation) (r : ℕ) → Free op → RoleKept m x op line r (readLine W (perform W m x line bs op .line))
+  unfolding perform canGive sessionOf queryOf line isAsk
+  performed-kept open-session r e =
+      inl
+      (subst (NoMore line r) (sym (read-back W m wide small (opening (lowestClosed line 0 W) line) (opened-sessions _) (opened-line e)))
+      (unfold opening in (le-refl (holding r (line .sessions)))))
+  performed-kept (close-session k) r e =
+      let t = there k (queryOf (close-session k)) [] e in
+      inl (subst (NoMore line r) (sym (read-back W m wide small (closing k line) (closed-sessions k) (closed-line k t))) (closing-kept k r t))
+  performed-kept (ask k q) r e =
+      as-ask (ask k q) r (readLine W (asked m line bs k (chosen m x line k q) .line)) refl (asked-kept k q r (there k q _ (first-none _ bad-other _ e .1)) (chosen m x line k q) refl)
+  performed-kept (short-ask k lower upper room) r e =
+      let q = queryOf (short-ask k lower upper room) in
+      as-ask (short-ask k lower upper room) r (readLine W (asked m line bs k (chosen m x line k q) .line)) refl (asked-kept k q r (there k q _ (first-none _ bad-other _ e .1)) (chosen m x line k q) refl)
+  performed-kept (show k room) r e = inl (le-refl (holding r (line .sessions)))
+  performed-kept (explain k n) r e = inl (subst (λ (b : List ℕ). NoMore line r (readLine W b)) (sym (explained-line bs _)) (le-refl (holding r (line .sessions))))
+  performed-kept (clauses k q) r e = inl (le-refl (holding r (line .sessions)))
+
+  -- the roles that an ask puts in are within their limits
+  asked-card : (k : ℕ) (q : Query) (r : ℕ) → There k → (o : Option ℕ) → chosen m x line k q ≡ o → asked m line bs k o .reply .number ≡ 0
+      → has (sessionAt (readLine W (asked m line bs k o .line)) k .active) r ≡ true → Carded m x r (readLine W (asked m line bs k o .line))
+  unfolding asked refuse
+  asked-card k q r t none e z h = absurd (omega (arith, z))
+  asked-card k q r t (some s) e z h =
+      let b = read-back W m wide small (putIn k s line) (put-sessions k s) (put-line k q t s e) in
+      subst (Carded m x r) (sym b)
+      (put-card k q t s e r (sym (ap (λ (n : ℕ). has n r) (put-active k s t)) ∙ ap (λ (l : Line). has (sessionAt l k .active) r) (sym b) ∙ h))
+    where
+      put-active : (k s : ℕ) → There k → sessionAt (putIn k s line) k .active ≡ s
+      put-active k s t = unfold putIn sessionAt in (ap (λ (a : Session). a .active) (getD-set-same (line .sessions) k _ emptySession (in-line k t)))
+
+  pub performed-card : (op : Operation) (r : ℕ) → isAsk op ≡ true → isText op ≡ false → Free op → perform W m x line bs op .reply .number ≡ 0
+      → has (sessionAt (readLine W (perform W m x line bs op .line)) (sessionOf op) .active) r ≡ true
+      → Carded m x r (readLine W (perform W m x line bs op .line))
+  unfolding perform canGive sessionOf queryOf isAsk isText
+  performed-card open-session r a n e z h = absurd (true≢false (sym a))
+  performed-card (close-session k) r a n e z h = absurd (true≢false (sym a))
+  performed-card (ask k q) r a n e z h = asked-card k q r (there k q _ (first-none _ bad-other _ e .1)) (chosen m x line k q) refl z h
+  performed-card (short-ask k lower upper room) r a n e z h =
+      let q = queryOf (short-ask k lower upper room) in
+      asked-card k q r (there k q _ (first-none _ bad-other _ e .1)) (chosen m x line k q) refl z h
+  performed-card (show k room) r a n e z h = absurd (true≢false (sym a))
+  performed-card (explain k p) r a n e z h = absurd (true≢false (sym a))
+  performed-card (clauses k q) r a n e z h = absurd (true≢false n)

@@ -3,7 +3,7 @@
 use mathlib.Core.Path.{_≡_, refl}
 use mathlib.Core.Bool.{true}
 use Rattle.model.specs.Tests.{all}
-use Rattle.model.specs.Ward.{holds, starred, settled}
+use Rattle.model.specs.Ward.{holds, starred, settled, carded}
 use Rattle.model.specs.Refusals.{isJudged, judgedImages, isLooped, loopedImages}
 use Rattle.model.specs.Returned.{isSeen, returnedCases, isChecked, checkedCases}
 use Rattle.model.specs.MoveCases.{movesSo, moveCases}
@@ -16,6 +16,10 @@ starred-hold = refl
 pub settled-hold : all holds settled ≡ true
 unfolding computing
 settled-hold = refl
+
+pub carded-hold : all holds carded ≡ true
+unfolding computing
+carded-hold = refl
 
 pub judged-so : all isJudged judgedImages ≡ true
 unfolding computing

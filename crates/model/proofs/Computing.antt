@@ -1,27 +1,27 @@
 -- To unfold `computing` is to unfold every definition that judging an image and running calls compute with.
 -- Assumes nothing.
 use Rattle.model.specs.Tests.{pick, any, all, first, lowest, ifBelow, isSome}
-use Rattle.model.specs.Sets.{has, within, meets, setOf, countTo, count, unionTo, unionAt, lowestIn, subsets}
+use Rattle.model.specs.Sets.{has, within, meets, setOf, countTo, count, unionTo, unionAt, lowestIn, subsets, sumTo}
 use Rattle.model.specs.Image.{wordAt, behindHead, kindOf, decode, wrongKind, inRange, repeats, crowds, entryFault, fault, assigning, next, balanced, scan, headOf, headRight, lengthRight, emptyRows, start, judgeWords, checkNumber}
-use Rattle.model.specs.Policy.{entryAt, entriesFrom, entriesOf, granting, ordering, fold, joining, withMembers, exclusionsOf, policyOf, taking, through, closed, tableOf, belowTable, withSelves, reached, carriedTable, granterBy, granter, authorized, met, meaning}
+use Rattle.model.specs.Policy.{entryAt, entriesFrom, entriesOf, granting, ordering, fold, joining, withMembers, exclusionsOf, policyOf, taking, through, closed, tableOf, belowTable, withSelves, reached, carriedTable, granterBy, granter, authorized, met, meaning, lesser, limiting, limited, hasLimits}
 use Rattle.model.specs.Bytes.{number, bytesOf}
 use Rattle.model.specs.Words.{headWord, assignWord, grantWord, seniorWord, exclusionWord, memberWord, sumOf, endWord, ended, imageBytes}
-use Rattle.model.specs.Line.{lineSize, readSessions, readLine, writeSessions, writeLine, emptySession, sessionAt, isOpen, activeIn, counted, exclusionsMet, sessionSound, sessionsSound, sound, lowestClosed, opening, closing, putIn}
+use Rattle.model.specs.Line.{lineSize, readSessions, readLine, writeSessions, writeLine, emptySession, sessionAt, isOpen, activeIn, counted, exclusionsMet, sessionSound, sessionsSound, sound, lowestClosed, opening, closing, putIn, holding, others}
+use Rattle.model.specs.Limits.{nobody, elsewhere, barred, unbarred}
 use Rattle.model.specs.Choice.{carriedBy, admissible, cost, earlier, permissionCost, roleCost, better, bestOf, best, choose}
-use Rattle.model.specs.Conditions.{others}
 use Rattle.model.specs.Reduced.{stay, maskOf, roomOf}
 use Rattle.model.specs.Clauses.{listTo, when, barring, carries, carrying, carriers, carried, bounding, variablesIn, uncounted, room, keeping, adding, row, rows, counter, excluding, helpers, excludingAll, hard, wanting, soft, weightOf, top}
 use Rattle.model.specs.Dimacs.{ascii, figure, digitsTo, decimal, literalText, literalsText, clauseText, clausesText, headText, helpersOf, variablesOf, weighing, clausesOf, textOf}
-use Rattle.model.specs.Session.{shortAim, sessionOf, queryOf, isText, refuse, done, given, wrote, refusalNumber, canGive, chosen, textFor, isNone, carrier, twoRoles, withGranter, explanation, applies, asked, explained, perform, unless, rule}
-use Rattle.model.specs.Judgement.{lowestOnLoop, lowestOverReach, barred, judgeMeaning, judge}
+use Rattle.model.specs.Session.{shortAim, sessionOf, queryOf, isText, refuse, done, given, wrote, refusalNumber, canGive, chosen, textFor, isNone, carrier, twoRoles, withGranter, explanation, applies, asked, explained, perform, unless, rule, isAsk, numberAfter, otherFirst, refusalExtra}
+use Rattle.model.specs.Judgement.{lowestOnLoop, lowestOverReach, refusing, judgeMeaning, judge}
 use Rattle.model.specs.Loop.{seniorsOf, level, loopLength, chainDown, shownChain, loopFrom, loopOn, loopBy, loopCall}
-use Rattle.model.specs.Run.{lineAt, withLine, ruled, stepOn, stepBy, step, run, returned, filledWith, answered, openBy, closeBy, askBy, shortAskBy, showBy, explainBy, written, clausesBy}
-use Rattle.model.specs.Ward.{imageA, imageWith, imageOfKind, imageOfOne, imageOfTwo, threeRoles, hierarchy, wardHead, loop, twoGrants, widest, opens, closes, asks, asksShort, shows, explains, printed, sameList, sameLists, holds, case, lines, opened, chose, refused, twoAsks, starred, damaged, activeRole, settled, twoAndBoth, threeOrTwo}
+use Rattle.model.specs.Run.{lineAt, withLine, ruled, stepOn, stepBy, step, run, returned, filledWith, answered, openBy, closeBy, askBy, shortAskBy, showBy, explainBy, written, clausesBy, lineOf, holdingOf, heldByOthers, unsoundOther, othersOf, told}
+use Rattle.model.specs.Ward.{imageA, imageWith, imageOfKind, imageOfOne, imageOfTwo, threeRoles, hierarchy, wardHead, loop, twoGrants, widest, opens, closes, asks, asksShort, shows, explains, printed, sameList, sameLists, holds, case, lines, opened, chose, refused, twoAsks, starred, damaged, activeRole, settled, twoAndBoth, threeOrTwo, imageLimited, doctors, managers, asksDoctor, asksManager, textsLow, refusedFor, doctorLine, caseOfTwo, carded}
 use Rattle.model.specs.Refusals.{verdict, bodyA, edited, unbalanced, assignments, exclusionWords, wide, overOthers, hierarchyOf, isJudged, judged, judgedImages, answerOf, isLooped, chained, unchained, loopedImages}
 use Rattle.model.specs.Returned.{memberWords, imageOf, setBytes, bound, full, old, session, idle, line, changes, fills, leaves, seen, isSeen, under, asksFor, asksBriefly, allOfA, two, doctor, manager, sixLines, shortAsks, eight, eightSessions, refusedImage, refusesAll, opened0, askRefused, shortRefused, refusedAsks, soundLine, unsoundLine, plain, headed, ofKind, linesJudged, ranked, ranks, allRanked, rankedBy, objectives, fiveRoles, shortObjectives, far, lastLine, lineOf63, lastUser, overHigher, reaching, looping, bothActive, explanations, returnedCases, isChecked, checks, checkedCases}
 use Rattle.model.specs.Moves.{resized, lineFault, moveAnswer, resizedLines, writtenIf, moveOn, moveBy, move}
 use Rattle.model.specs.MoveCases.{sevens, movesSo, lineWith, busyLine, goodLines, moving, stopping, moveCases}
 
 unfoldable pub computing : Unit {0}
-unfolding pick any all first lowest ifBelow isSome has within meets setOf countTo count unionTo unionAt lowestIn subsets wordAt behindHead kindOf decode wrongKind inRange repeats crowds entryFault fault assigning next balanced scan headOf headRight lengthRight emptyRows start judgeWords entryAt entriesFrom entriesOf granting ordering fold joining withMembers exclusionsOf policyOf taking through closed tableOf belowTable withSelves reached carriedTable granterBy granter authorized met meaning number bytesOf lineSize readSessions readLine writeSessions writeLine emptySession sessionAt isOpen activeIn counted exclusionsMet sessionSound sessionsSound sound lowestClosed opening closing putIn carriedBy admissible cost earlier permissionCost roleCost better bestOf best choose shortAim sessionOf queryOf refuse done given refusalNumber canGive chosen isNone carrier twoRoles withGranter explanation applies asked explained perform unless rule lowestOnLoop lowestOverReach barred judgeMeaning judge seniorsOf level loopLength chainDown shownChain loopFrom loopOn loopBy loopCall lineAt withLine ruled stepOn stepBy step run openBy closeBy askBy shortAskBy showBy explainBy imageBytes sumOf endWord ended imageA imageWith imageOfKind imageOfOne imageOfTwo threeRoles hierarchy wardHead loop twoGrants widest opens closes asks asksShort shows explains printed sameList sameLists holds case lines opened chose refused twoAsks starred damaged activeRole settled verdict bodyA edited unbalanced assignments exclusionWords wide seniorWord overOthers hierarchyOf isJudged judged judgedImages answerOf isLooped chained unchained loopedImages checkNumber returned filledWith answered headWord assignWord grantWord exclusionWord memberWord memberWords imageOf setBytes bound full old session idle line changes fills leaves seen isSeen under asksFor asksBriefly allOfA two doctor manager sixLines shortAsks eight eightSessions refusedImage refusesAll opened0 askRefused shortRefused refusedAsks soundLine unsoundLine plain headed ofKind linesJudged ranked ranks allRanked rankedBy objectives fiveRoles shortObjectives far lastLine lineOf63 lastUser overHigher reaching looping bothActive explanations returnedCases isChecked checks checkedCases twoAndBoth threeOrTwo resized lineFault moveAnswer resizedLines writtenIf moveOn moveBy move sevens movesSo lineWith busyLine goodLines moving stopping moveCases others stay maskOf roomOf listTo when barring carries carrying carriers carried bounding variablesIn uncounted room keeping adding row rows counter excluding helpers excludingAll hard wanting soft weightOf top ascii figure digitsTo decimal literalText literalsText clauseText clausesText headText helpersOf variablesOf weighing clausesOf textOf isText wrote textFor clausesBy written
+unfolding pick any all first lowest ifBelow isSome has within meets setOf countTo count unionTo unionAt lowestIn subsets wordAt behindHead kindOf decode wrongKind inRange repeats crowds entryFault fault assigning next balanced scan headOf headRight lengthRight emptyRows start judgeWords entryAt entriesFrom entriesOf granting ordering fold joining withMembers exclusionsOf policyOf taking through closed tableOf belowTable withSelves reached carriedTable granterBy granter authorized met meaning number bytesOf lineSize readSessions readLine writeSessions writeLine emptySession sessionAt isOpen activeIn counted exclusionsMet sessionSound sessionsSound sound lowestClosed opening closing putIn carriedBy admissible cost earlier permissionCost roleCost better bestOf best choose shortAim sessionOf queryOf refuse done given refusalNumber canGive chosen isNone carrier twoRoles withGranter explanation applies asked explained perform unless rule lowestOnLoop lowestOverReach refusing judgeMeaning judge seniorsOf level loopLength chainDown shownChain loopFrom loopOn loopBy loopCall lineAt withLine ruled stepOn stepBy step run openBy closeBy askBy shortAskBy showBy explainBy imageBytes sumOf endWord ended imageA imageWith imageOfKind imageOfOne imageOfTwo threeRoles hierarchy wardHead loop twoGrants widest opens closes asks asksShort shows explains printed sameList sameLists holds case lines opened chose refused twoAsks starred damaged activeRole settled verdict bodyA edited unbalanced assignments exclusionWords wide seniorWord overOthers hierarchyOf isJudged judged judgedImages answerOf isLooped chained unchained loopedImages checkNumber returned filledWith answered headWord assignWord grantWord exclusionWord memberWord memberWords imageOf setBytes bound full old session idle line changes fills leaves seen isSeen under asksFor asksBriefly allOfA two doctor manager sixLines shortAsks eight eightSessions refusedImage refusesAll opened0 askRefused shortRefused refusedAsks soundLine unsoundLine plain headed ofKind linesJudged ranked ranks allRanked rankedBy objectives fiveRoles shortObjectives far lastLine lineOf63 lastUser overHigher reaching looping bothActive explanations returnedCases isChecked checks checkedCases twoAndBoth threeOrTwo resized lineFault moveAnswer resizedLines writtenIf moveOn moveBy move sevens movesSo lineWith busyLine goodLines moving stopping moveCases others stay maskOf roomOf listTo when barring carries carrying carriers carried bounding variablesIn uncounted room keeping adding row rows counter excluding helpers excludingAll hard wanting soft weightOf top ascii figure digitsTo decimal literalText literalsText clauseText clausesText headText helpersOf variablesOf weighing clausesOf textOf isText wrote textFor clausesBy written sumTo lesser limiting limited hasLimits holding isAsk numberAfter otherFirst refusalExtra lineOf holdingOf heldByOthers unsoundOther othersOf told nobody elsewhere barred unbarred imageLimited doctors managers asksDoctor asksManager textsLow refusedFor doctorLine caseOfTwo carded
 computing = tt

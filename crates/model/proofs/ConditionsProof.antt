@@ -17,9 +17,9 @@ use Rattle.model.specs.declared.Line.{Line}
 use Rattle.model.specs.Tests.{pick, all}
 use Rattle.model.specs.Sets.{union, inter, within, count}
 use Rattle.model.specs.Policy.{Policy, authorized, met, meaning}
-use Rattle.model.specs.Line.{emptySession, sessionAt, activeIn, counted, exclusionsMet, putIn}
+use Rattle.model.specs.Line.{emptySession, sessionAt, activeIn, counted, exclusionsMet, putIn, others}
 use Rattle.model.specs.Choice.{carriedBy, admissible}
-use Rattle.model.specs.Conditions.{others, countedAfter, MetAfter, Conditions, Solution}
+use Rattle.model.specs.Conditions.{countedAfter, MetAfter, Conditions, Solution}
 use Rattle.model.proofs.Bools.{and-l, and-r, both}
 use Rattle.model.proofs.AnyWidth.{within-iff}
 use Rattle.model.proofs.Actives.{active-middle}

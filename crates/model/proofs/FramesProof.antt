@@ -17,8 +17,9 @@ use Rattle.model.specs.Bytes.{bytesOf}
 use Rattle.model.specs.Judgement.{judge}
 use Rattle.model.specs.Policy.{Policy, Meaning, policyOf, meaning}
 use Rattle.model.specs.Line.{lineSize, readLine}
+use Rattle.model.specs.Limits.{Others}
 use Rattle.model.specs.Session.{Query, Operation, open-session, close-session, ask, short-ask, show, explain, clauses, sessionOf, queryOf, isText, refuse, done, given, wrote, Refusal, Result, canGive, applies, asked, explained, perform, unless, rule}
-use Rattle.model.specs.Run.{Call, lineAt, withLine, ruled, stepOn, stepBy, step, showBy, explainBy, clausesBy}
+use Rattle.model.specs.Run.{Call, lineAt, withLine, told, ruled, stepOn, stepBy, step, showBy, explainBy, clausesBy}
 use Rattle.model.specs.Frames.{Frame, StepFrame, ShowKeeps, ExplainKeeps, ClausesKeep}
 use Rattle.model.proofs.LineLaws.{unless-part, explained-line, length-bytesOf}
 use Rattle.model.proofs.LedgerLaws.{patch-outside, apart, withLine-length, own-line, new-length}
@@ -75,13 +76,13 @@ explained-fills bs none = refl
 explained-fills bs (some x) = refl
 
 -- an ask, any call that nothing refuses, and any call
-module _ (W : ℕ) (m : Meaning) (bs : List ℕ) where
+module _ (W : ℕ) (m : Meaning) (x : Others) (bs : List ℕ) where
   asked-quiet : (op : Operation) → Plain op → (l : Line) (k : ℕ) (o : Option ℕ) → Quiet op bs (asked m l bs k o)
   unfolding asked
   asked-quiet op t l k none = refuse-quiet op bs 20 0
   asked-quiet op t l k (some s) = given-quiet op t bs _ _ _
 
-  perform-quiet : (l : Line) (op : Operation) → Quiet op bs (perform W m l bs op)
+  perform-quiet : (l : Line) (op : Operation) → Quiet op bs (perform W m x l bs op)
   unfolding perform isText
   perform-quiet l open-session = done-quiet open-session bs _ _
   perform-quiet l (close-session k) = done-quiet (close-session k) bs _ _
@@ -91,12 +92,12 @@ module _ (W : ℕ) (m : Meaning) (bs : List ℕ) where
   perform-quiet l (explain k n) = explained-quiet (explain k n) bs _
   perform-quiet l (clauses k q) = wrote-quiet k q bs _
 
-  unless-quiet : (op : Operation) (o : Option Refusal) (r : Result) → Quiet op bs r → Quiet op bs (unless o bs r)
+  unless-quiet : (op : Operation) (o : Option Refusal) (r : Result) → Quiet op bs r → Quiet op bs (unless x o bs r)
   unfolding unless
   unless-quiet op none r h = h
-  unless-quiet op (some f) r h = refuse-quiet op bs _ 0
+  unless-quiet op (some f) r h = refuse-quiet op bs _ _
 
-  rule-quiet : (op : Operation) → Quiet op bs (rule W m bs op)
+  rule-quiet : (op : Operation) → Quiet op bs (rule W m x bs op)
   unfolding rule
   rule-quiet op = unless-quiet op _ _ (perform-quiet (readLine W bs) op)
 
@@ -122,8 +123,8 @@ module _ (W : ℕ) (p : Policy) (l : List ℕ) (c : Call) where
   ruled-frame hl hu =
       let z = lineSize W in
       let u = c .user in
-      let r = rule W (meaning p u) (lineAt z u l) (c .operation) in
-      let q = rule-quiet W (meaning p u) (lineAt z u l) (c .operation) in
+      let r = rule W (meaning p u) (told W p l c) (lineAt z u l) (c .operation) in
+      let q = rule-quiet W (meaning p u) (told W p l c) (lineAt z u l) (c .operation) in
       let n = new-length W p l hl c hu in
       record {
         keeps-length = withLine-length z u (p .head .users) (r .line) l n hl hu;
@@ -156,7 +157,8 @@ unfolding step
 step-frame W image ledger c = stepBy-frame W (policyOf image) ledger c (judge image)
 
 -- ---- a call that keeps the line keeps the ledger
-module _ (W : ℕ) (p : Policy) (l : List ℕ) (c : Call) (keeps : (m : Meaning) (bs : List ℕ) → rule W m bs (c .operation) .line ≡ bs) where
+module _ (W : ℕ) (p : Policy) (l : List ℕ) (c : Call)
+    (keeps : (m : Meaning) (x : Others) (bs : List ℕ) → rule W m x bs (c .operation) .line ≡ bs) where
   stepOn-keeps : stepOn W p l c .ledger ≡ l
   unfolding stepOn ruled pick
   stepOn-keeps = go (not (eqb (length l) (lineSize W * p .head .users))) (not (ltb (c .user) (p .head .users)))
@@ -165,7 +167,7 @@ module _ (W : ℕ) (p : Policy) (l : List ℕ) (c : Call) (keeps : (m : Meaning)
           → pick a (record { reply = refuse 9 0; ledger = l }) (pick b (record { reply = refuse 10 0; ledger = l }) (ruled W p l c)) .ledger ≡ l
       go true b = refl
       go false true = refl
-      go false false = ap (λ (x : List ℕ). withLine (lineSize W) (c .user) x l) (keeps _ _) ∙ own-line (lineSize W) (c .user) l
+      go false false = ap (λ (x : List ℕ). withLine (lineSize W) (c .user) x l) (keeps _ _ _) ∙ own-line (lineSize W) (c .user) l
 
   stepBy-keeps : (v : Checked) → stepBy W v p l c .ledger ≡ l
   unfolding stepBy
@@ -176,21 +178,21 @@ module _ (W : ℕ) (p : Policy) (l : List ℕ) (c : Call) (keeps : (m : Meaning)
 pub show-keeps : (W : ℕ) → ShowKeeps W
 unfolding step rule perform showBy
 show-keeps W image ledger u k room =
-    stepBy-keeps W (policyOf image) ledger (showBy u k room) (λ m bs. unless-part bs (λ (x : List ℕ). x) _ _ refl) (judge image)
+    stepBy-keeps W (policyOf image) ledger (showBy u k room) (λ m x bs. unless-part x bs (λ (y : List ℕ). y) _ _ refl) (judge image)
 
 -- Nor does a clause text.
 pub clauses-keep : (W : ℕ) → ClausesKeep W
 unfolding step rule perform clausesBy
 clauses-keep W image ledger u k lower upper a b room =
-    stepBy-keeps W (policyOf image) ledger (clausesBy u k lower upper a b room) (λ m bs. unless-part bs (λ (x : List ℕ). x) _ _ refl) (judge image)
+    stepBy-keeps W (policyOf image) ledger (clausesBy u k lower upper a b room) (λ m x bs. unless-part x bs (λ (y : List ℕ). y) _ _ refl) (judge image)
 
 -- An explain changes no byte of the ledger, and fills nothing.
 module _ (W : ℕ) (p : Policy) (l : List ℕ) (u k n : ℕ) where
-  explain-quiet : (m : Meaning) (bs : List ℕ) → rule W m bs (explain k n) .reply .filled ≡ []
+  explain-quiet : (m : Meaning) (x : Others) (bs : List ℕ) → rule W m x bs (explain k n) .reply .filled ≡ []
   unfolding rule perform unless refuse
-  explain-quiet m bs = go (first (applies W m (readLine W bs) (sessionOf (explain k n)) (queryOf (explain k n))) (canGive (explain k n)))
+  explain-quiet m x bs = go (first (applies W m x (readLine W bs) (sessionOf (explain k n)) (queryOf (explain k n))) (canGive (explain k n)))
     where
-      go : (o : Option Refusal) → unless o bs (perform W m (readLine W bs) bs (explain k n)) .reply .filled ≡ []
+      go : (o : Option Refusal) → unless x o bs (perform W m x (readLine W bs) bs (explain k n)) .reply .filled ≡ []
       go none = explained-fills bs _
       go (some f) = refl
 
@@ -203,7 +205,7 @@ module _ (W : ℕ) (p : Policy) (l : List ℕ) (u k n : ℕ) where
           .filled ≡ []
       go true b = refl
       go false true = refl
-      go false false = explain-quiet _ _
+      go false false = explain-quiet _ _ _
 
   stepBy-quiet : (v : Checked) → stepBy W v p l (explainBy u k n) .reply .filled ≡ []
   unfolding stepBy refuse
@@ -215,6 +217,6 @@ unfolding step rule perform explainBy
 explain-keeps W image ledger u k n =
     record {
       ledger-kept =
-          stepBy-keeps W (policyOf image) ledger (explainBy u k n) (λ m bs. unless-part bs (λ (x : List ℕ). x) _ _ (explained-line bs _)) (judge image);
+          stepBy-keeps W (policyOf image) ledger (explainBy u k n) (λ m x bs. unless-part x bs (λ (y : List ℕ). y) _ _ (explained-line bs _)) (judge image);
       nothing-filled = stepBy-quiet W (policyOf image) ledger u k n (judge image);
     }

@@ -2,7 +2,7 @@
 -- and by the policy's meaning for that user.
 -- Assumes nothing.
 use mathlib.Core.Path.{_≡_, refl, sym, ap, ap₂, _∙_, subst}
-use mathlib.Core.Bool.{Bool, true, false}
+use mathlib.Core.Bool.{Bool, true, false, not, and-false}
 use mathlib.Core.List.{List, [], _∷_}
 use Prim.Native.Nat.{ℕ, _*_, _<_}
 use native.Mathlib.Nat.{lt-of-lt-of-le}
@@ -12,18 +12,41 @@ use borrow.Author.Tests.{eqb-true, eqb-false}
 use Rattle.model.specs.declared.Head.{Head}
 use Rattle.model.specs.declared.Checked.{Checked}
 use Rattle.model.specs.declared.Checked.the-variants.{Accepted}
+use Rattle.model.specs.Tests.{any}
 use Rattle.model.specs.Judgement.{judge}
-use Rattle.model.specs.Policy.{Policy, Meaning, policyOf, meaning, onlyFor, excludes, Agree}
+use Rattle.model.specs.Policy.{Policy, Meaning, policyOf, hasLimits, meaning, onlyFor, excludes, Agree}
 use Rattle.model.specs.Line.{lineSize}
-use Rattle.model.specs.Session.{Operation, Result}
-use Rattle.model.specs.Run.{Call, lineAt, stepOn, stepBy, step, run}
+use Rattle.model.specs.Limits.{Others, nobody}
+use Rattle.model.specs.Session.{Result, rule, isAsk}
+use Rattle.model.specs.Run.{Call, Event, lineAt, told, stepOn, stepBy, step, run}
 use Rattle.model.specs.OwnWords.{policyIn, ownWords}
-use Rattle.model.specs.Independence.{rules, callsOf, seenBy, Steady, no-call, own-call, other-call, SteadyFor, Run, eventsOf, viewOf, firstLine, hasText, SameFor, Independent}
+use Rattle.model.specs.Independence.{rules, callsOf, seenBy, toldBy, toldOf, Steady, no-call, own-call, other-call, SteadyFor, Run, eventsOf, viewOf, firstLine, hasText, SameFor, Independent}
 use Rattle.model.proofs.Judgements.{accepted-head, accepted-in-range}
 use Rattle.model.proofs.LedgerLaws.{step-length, step-own, step-other}
 use Rattle.model.proofs.Listed.{listed, rules-listed}
 use Rattle.model.proofs.Meanings.{agree-listed, only-meaning}
 use Rattle.model.proofs.OwnWords.{words-agree, words-meaning}
+
+-- ---- a policy without limits
+module _ (W : ℕ) (p : Policy) (free : hasLimits p ≡ false) where
+  -- a call is told nothing
+  pub told-nothing : (l : List ℕ) (c : Call) → told W p l c ≡ nobody
+  unfolding told
+  told-nothing l c = rw (free, told) (rw (and-false (isAsk (c .operation))))
+
+  -- so the session rules go by nothing told
+  rules-untold : (m : Meaning) (u : ℕ) (bs l : List ℕ) (cs : List Call) (es : List Event)
+      → rules W m bs (toldBy W p u l cs es) (callsOf u cs) ≡ rules W m bs [] (callsOf u cs)
+  unfolding toldBy callsOf rules
+  rules-untold m u bs l [] es = refl
+  rules-untold m u bs l (c ∷ cs) [] = refl
+  rules-untold m u bs l (c ∷ cs) (e ∷ es) = go (eqb (c .user) u) refl (λ ys. rules-untold m u ys (e .ledger) cs es)
+    where
+      go : (b : Bool) → eqb (c .user) u ≡ b
+          → ((ys : List ℕ) → rules W m ys (toldBy W p u (e .ledger) cs es) (callsOf u cs) ≡ rules W m ys [] (callsOf u cs))
+          → rules W m bs (toldBy W p u l (c ∷ cs) (e ∷ es)) (callsOf u (c ∷ cs)) ≡ rules W m bs [] (callsOf u (c ∷ cs))
+      go true t ih = rw (t, toldBy, callsOf, told-nothing l c) (ap {B = List Result} (λ (rs : List Result). rule W m nobody bs (c .operation) ∷ rs) (ih (rule W m nobody bs (c .operation) .line)))
+      go false t ih = rw (t, toldBy, callsOf) (ih bs)
 
 -- ---- a run under an accepted image, by induction on the calls
 module _ (W u : ℕ) (s : List ℕ) (g : Head) (e : judge s ≡ Accepted g) (hu : u < policyOf s .head .users) where
@@ -32,27 +55,33 @@ module _ (W u : ℕ) (s : List ℕ) (g : Head) (e : judge s ≡ Accepted g) (hu 
   unfolding step stepBy
   step-on l c = ap (λ (v : Checked). stepBy W v (policyOf s) l c) e
 
+  -- what u is told after a first call
+  after : List ℕ → Call → List Call → List Others
+  after l c cs = toldBy W (policyOf s) u (stepOn W (policyOf s) l c .ledger) cs (run W s (stepOn W (policyOf s) l c .ledger) cs)
+
   -- what u sees is what the session rules give
   run-view : (l : List ℕ) → length l ≡ lineSize W * policyOf s .head .users → (cs : List Call)
-      → seenBy (lineSize W) u cs (run W s l cs) ≡ rules W (meaning (policyOf s) u) (lineAt (lineSize W) u l) (callsOf u cs)
-  unfolding seenBy run rules callsOf
+      → seenBy (lineSize W) u cs (run W s l cs)
+      ≡ rules W (meaning (policyOf s) u) (lineAt (lineSize W) u l) (toldBy W (policyOf s) u l cs (run W s l cs)) (callsOf u cs)
+  unfolding seenBy run rules callsOf toldBy after
   run-view l hl [] = refl
   run-view l hl (c ∷ cs) =
       rw (step-on l c) (go (eqb (c .user) u) refl (run-view (stepOn W (policyOf s) l c .ledger) (step-length W (policyOf s) l hl c ∙ hl) cs))
     where
       go : (b : Bool) → eqb (c .user) u ≡ b
           → seenBy (lineSize W) u cs (run W s (stepOn W (policyOf s) l c .ledger) cs)
-          ≡ rules W (meaning (policyOf s) u) (lineAt (lineSize W) u (stepOn W (policyOf s) l c .ledger)) (callsOf u cs)
+          ≡ rules W (meaning (policyOf s) u) (lineAt (lineSize W) u (stepOn W (policyOf s) l c .ledger)) (after l c cs) (callsOf u cs)
           → seenBy (lineSize W) u (c ∷ cs) (stepOn W (policyOf s) l c ∷ run W s (stepOn W (policyOf s) l c .ledger) cs)
-          ≡ rules W (meaning (policyOf s) u) (lineAt (lineSize W) u l) (callsOf u (c ∷ cs))
+          ≡ rules W (meaning (policyOf s) u) (lineAt (lineSize W) u l)
+          (toldBy W (policyOf s) u l (c ∷ cs) (stepOn W (policyOf s) l c ∷ run W s (stepOn W (policyOf s) l c .ledger) cs)) (callsOf u (c ∷ cs))
       go true t ih =
           let q = step-own W (policyOf s) l hl c u t hu in
-          rw (t, seenBy, callsOf)
+          rw (t, seenBy, callsOf, toldBy)
           (ap₂ {C = List Result} (λ (r : Result) (rs : List Result). r ∷ rs) q
-          (ih ∙ ap (λ (r : Result). rules W (meaning (policyOf s) u) (r .line) (callsOf u cs)) q))
+          (ih ∙ ap (λ (r : Result). rules W (meaning (policyOf s) u) (r .line) (after l c cs) (callsOf u cs)) q))
       go false t ih =
-          rw (t, seenBy, callsOf)
-          (ih ∙ ap (λ (x : List ℕ). rules W (meaning (policyOf s) u) x (callsOf u cs)) (step-other W (policyOf s) l hl c u t))
+          rw (t, seenBy, callsOf, toldBy)
+          (ih ∙ ap (λ (x : List ℕ). rules W (meaning (policyOf s) u) x (after l c cs) (callsOf u cs)) (step-other W (policyOf s) l hl c u t))
 
   -- nobody else's call changes u's line
   run-steady : (l : List ℕ) → length l ≡ lineSize W * policyOf s .head .users → (cs : List Call)
@@ -85,9 +114,26 @@ module _ (W u : ℕ) (r : Run W) (hu : u < r .head .users) where
   fits-policy = r .fits ∙ ap (λ (h : Head). lineSize W * h .users) (sym head-is)
 
   -- what the user sees goes by the session rules
-  view-by-rules : viewOf W u r ≡ rules W (meaning (policyOf (r .image)) u) (firstLine W u r) (callsOf u (r .calls))
-  unfolding viewOf eventsOf firstLine
-  view-by-rules = run-view W u (r .image) (r .head) (r .accepted) in-policy (r .ledger) fits-policy (r .calls)
+  view-by-rules : viewOf W u r ≡ rules W (meaning (policyOf (r .image)) u) (firstLine W u r) (toldOf W u r) (callsOf u (r .calls))
+  unfolding viewOf eventsOf firstLine toldOf
+  view-by-rules = go (hasLimits (policyOf (r .image))) refl
+    where
+      es : List Event
+      es = run W (r .image) (r .ledger) (r .calls)
+
+      all-told : List Others
+      all-told = toldBy W (policyOf (r .image)) u (r .ledger) (r .calls) es
+
+      by-told : seenBy (lineSize W) u (r .calls) es
+          ≡ rules W (meaning (policyOf (r .image)) u) (lineAt (lineSize W) u (r .ledger)) all-told (callsOf u (r .calls))
+      by-told = run-view W u (r .image) (r .head) (r .accepted) in-policy (r .ledger) fits-policy (r .calls)
+
+      go : (b : Bool) → hasLimits (policyOf (r .image)) ≡ b
+          → seenBy (lineSize W) u (r .calls) es
+          ≡ rules W (meaning (policyOf (r .image)) u) (lineAt (lineSize W) u (r .ledger)) (elim b [ true ↦ all-told | false ↦ [] ]) (callsOf u (r .calls))
+      go true t = by-told
+      go false t =
+          by-told ∙ rules-untold W (policyOf (r .image)) t (meaning (policyOf (r .image)) u) u (lineAt (lineSize W) u (r .ledger)) (r .ledger) (r .calls) es
 
   -- nobody else's call changes the user's line
   steady-run : SteadyFor W u r
@@ -120,12 +166,13 @@ same-words-agree u s t g h a b small e =
       grants = x .grants ∙ ap (λ (q : Policy). q .granted) p ∙ sym (y .grants);
       seniors = x .seniors ∙ ap (λ (q : Policy). q .juniors) p ∙ sym (y .seniors);
       exclusions = λ z. x .exclusions z ∙ ap (λ (q : Policy). excludes q z) p ∙ sym (y .exclusions z);
+      limits = x .limits ∙ ap (λ (q : Policy). q .limits) p ∙ sym (y .limits);
     }
 
 -- the session rules give the same: where no clause text is asked for, whatever the order of the exclusions, else by the same words
 module _ (W u : ℕ) (r s : Run W) (h : SameFor W u r s) (below : u < s .head .users) where
   abbrev given : Meaning → List Result
-  given m = rules W m (firstLine W u r) (callsOf u (r .calls))
+  given m = rules W m (firstLine W u r) (toldOf W u r) (callsOf u (r .calls))
 
   same-rules : given (meaning (policyOf (r .image)) u) ≡ given (meaning (policyOf (s .image)) u)
   same-rules = go (hasText (callsOf u (r .calls))) refl
@@ -134,9 +181,9 @@ module _ (W u : ℕ) (r s : Run W) (h : SameFor W u r s) (below : u < s .head .u
       go true e =
           ap given (words-mean W u r (h .below) ∙ ap (λ (ws : List ℕ). meaning (policyIn ws) u) (h .words e) ∙ sym (words-mean W u s below))
       go false e =
-          rules-listed (meaning (policyOf (r .image)) u) [] W (firstLine W u r) (callsOf u (r .calls)) e
+          rules-listed (meaning (policyOf (r .image)) u) [] W (firstLine W u r) (toldOf W u r) (callsOf u (r .calls)) e
           ∙ ap given (agree-listed u (policyOf (r .image)) (policyOf (s .image)) (h .agree) [])
-          ∙ sym (rules-listed (meaning (policyOf (s .image)) u) [] W (firstLine W u r) (callsOf u (r .calls)) e)
+          ∙ sym (rules-listed (meaning (policyOf (s .image)) u) [] W (firstLine W u r) (toldOf W u r) (callsOf u (r .calls)) e)
 
 -- The independence rule (demand 3).
 pub independence : (W u : ℕ) (r s : Run W) → SameFor W u r s → Independent W u r s
@@ -147,9 +194,22 @@ independence W u r s h =
     record {
       same =
           view-by-rules W u r (h .below) ∙ same-rules W u r s h below
-          ∙ ap₂ (λ (x : List ℕ) (os : List Operation). rules W (meaning (policyOf (s .image)) u) x os) (h .line) (h .calls)
+          ∙ (λ i. rules W (meaning (policyOf (s .image)) u) (h .line i) (h .told i) (h .calls i))
           ∙ sym (view-by-rules W u s below);
       by-rules = view-by-rules W u r (h .below) ∙ ap (given W u r s h below) (only-means W u r (h .below));
       by-words = view-by-rules W u r (h .below) ∙ ap (given W u r s h below) (words-mean W u r (h .below));
       steady = (steady-run W u r (h .below), steady-run W u s below);
     }
+
+-- ---- what is told
+
+-- nothing, under a policy without limits
+pub untold : (W u : ℕ) (r : Run W) → hasLimits (policyOf (r .image)) ≡ false → toldOf W u r ≡ []
+unfolding toldOf
+untold W u r e = rw (e, toldOf)
+
+pub untold-same : (W u : ℕ) (r s : Run W) → Agree u (policyOf (r .image)) (policyOf (s .image)) → hasLimits (policyOf (r .image)) ≡ false
+    → toldOf W u r ≡ toldOf W u s
+untold-same W u r s h e =
+    untold W u r e
+    ∙ sym (untold W u s (unfold hasLimits in (ap (λ (limits : List ℕ). any (λ t. not (eqb t 0)) limits) (sym (h .limits)) ∙ e)))

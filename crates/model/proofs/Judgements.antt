@@ -3,10 +3,10 @@
 use mathlib.Core.Path.{_≡_, refl, sym, ap, _∙_, subst}
 use mathlib.Core.Bool.{Bool, true, false}
 use mathlib.Core.List.{List}
-use Prim.Native.Nat.{ℕ, zero, suc, _+_, _%_, _^_, _≤_, _<_, zero-le}
+use Prim.Native.Nat.{ℕ, _<_, zero-le}
 use native.Mathlib.Decide.{decLt}
 use native.Mathlib.Omega.{arith}
-use lib.Dec.{eqb, ltb}
+use lib.Dec.{ltb}
 use lib.ListN.{getD}
 use borrow.Author.Tests.{ltb-true, ltb-false, lt-ltb}
 use Rattle.model.specs.declared.Head.{Head}
@@ -16,7 +16,7 @@ use Rattle.model.specs.Tests.{lowest}
 use Rattle.model.specs.Sets.{has, count}
 use Rattle.model.specs.Image.{judgeWords}
 use Rattle.model.specs.Policy.{Policy, policyOf, belowTable, authorized}
-use Rattle.model.specs.Judgement.{lowestOnLoop, lowestOverReach, barred, judgeMeaning, judge}
+use Rattle.model.specs.Judgement.{lowestOnLoop, lowestOverReach, refusing, judgeMeaning, judge}
 use Rattle.model.specs.Chains.{Below, LowestOnLoop}
 use Rattle.model.specs.Ranges.{OneTo, InRange}
 use Rattle.model.specs.Ordered.{WordsPass, Loopless, FewRoles, LowestOverReach, JudgeIs}
@@ -44,13 +44,13 @@ one-reach a b v w =
 
 -- a number that bars
 module _ (n x bound : ℕ) (v : Checked) where
-  barred-in : x < bound → barred n x bound v ≡ Refused n x
-  unfolding barred
-  barred-in l = rw (lt-ltb x bound l, barred)
+  refused-in : x < bound → refusing n x bound v ≡ Refused n x
+  unfolding refusing
+  refused-in l = rw (lt-ltb x bound l, refusing)
 
-  barred-out : ¬ (x < bound) → barred n x bound v ≡ v
-  unfolding barred
-  barred-out l = go (ltb x bound) refl
+  refused-out : ¬ (x < bound) → refusing n x bound v ≡ v
+  unfolding refusing
+  refused-out l = go (ltb x bound) refl
     where
       go : (b : Bool) → ltb x bound ≡ b → (elim b [ true ↦ Refused n x | false ↦ v ]) ≡ v
       go true e = absurd (l (ltb-true x bound e))
@@ -112,17 +112,17 @@ module _ (s : List ℕ) where
       let p = policyOf s in
       let range = words-in-range s h e in
       let on = ap (judgeMeaning p) e in
-      let further = barred 23 (lowestOverReach p) (p .head .users) (Accepted h) in
+      let further = refusing 23 (lowestOverReach p) (p .head .users) (Accepted h) in
       elim (decLt (lowestOnLoop p) (p .head .roles)) [
-        | yes l ↦ loops h (lowestOnLoop p) e (lowest-loop p range l) (on ∙ barred-in 22 (lowestOnLoop p) (p .head .roles) further l)
+        | yes l ↦ loops h (lowestOnLoop p) e (lowest-loop p range l) (on ∙ refused-in 22 (lowestOnLoop p) (p .head .roles) further l)
         | no l ↦
             let n : Loopless p = λ a b. l (some-loop p range a b) in
-            let out = on ∙ barred-out 22 (lowestOnLoop p) (p .head .roles) further l in
+            let out = on ∙ refused-out 22 (lowestOnLoop p) (p .head .roles) further l in
             elim (decLt (lowestOverReach p) (p .head .users)) [
               | yes m ↦
                   reaches h (lowestOverReach p) e n (lowest-reach p range m)
-                  (out ∙ barred-in 23 (lowestOverReach p) (p .head .users) (Accepted h) m)
-              | no m ↦ passes h e n (no-reach p range m) (out ∙ barred-out 23 (lowestOverReach p) (p .head .users) (Accepted h) m)
+                  (out ∙ refused-in 23 (lowestOverReach p) (p .head .users) (Accepted h) m)
+              | no m ↦ passes h e n (no-reach p range m) (out ∙ refused-out 23 (lowestOverReach p) (p .head .users) (Accepted h) m)
             ]
       ]
 

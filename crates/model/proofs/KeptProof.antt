@@ -1,7 +1,8 @@
 -- Soundness is kept: every call on a sound line leaves a sound line, and a run from the zero ledger never gives 11.
 -- Assumes nothing.
 use mathlib.Core.Path.{_≡_, refl, sym, ap, _∙_, subst}
-use mathlib.Core.Bool.{Bool, true, false}
+use mathlib.Core.Bool.{Bool, true, false, _&&_, not, and-false}
+use mathlib.Core.Option.{none}
 use mathlib.Core.List.{List, [], _∷_}
 use Prim.Native.Nat.{ℕ, _*_, _^_, _≤_, _<_}
 use native.Mathlib.Omega.{arith}
@@ -14,10 +15,11 @@ use Rattle.model.specs.declared.Checked.the-variants.{Accepted}
 use Rattle.model.specs.Tests.{pick}
 use Rattle.model.specs.Bytes.{number}
 use Rattle.model.specs.Judgement.{judge}
-use Rattle.model.specs.Policy.{Policy, policyOf, meaning}
+use Rattle.model.specs.Policy.{Policy, policyOf, hasLimits, meaning}
 use Rattle.model.specs.Line.{lineSize}
-use Rattle.model.specs.Session.{refuse, Result}
-use Rattle.model.specs.Run.{Call, Event, lineAt, stepOn, stepBy, step, run}
+use Rattle.model.specs.Limits.{Others, nobody}
+use Rattle.model.specs.Session.{refuse, Result, isAsk}
+use Rattle.model.specs.Run.{Call, Event, lineAt, lineOf, unsoundOther, othersOf, told, stepOn, stepBy, step, run}
 use Rattle.model.specs.Ranges.{Each, InRange}
 use Rattle.model.specs.Kept.{SoundBytes, LineKept, SoundLedger, Well, RunKept}
 use Rattle.model.proofs.Reaches.{authorized-below}
@@ -25,6 +27,7 @@ use Rattle.model.proofs.LedgerLaws.{step-length, step-own, step-other}
 use Rattle.model.proofs.Judgements.{accepted-in-range}
 use Rattle.model.proofs.MetLaws.{meaning-antitone, meaning-none}
 use Rattle.model.proofs.ZeroLaws.{zero-sound, zero-lines}
+use Rattle.model.proofs.CallLaws.{first-below}
 use Rattle.model.proofs.CallsKept.{call-well, call-answer}
 
 -- ---- the meaning of a policy in range
@@ -45,7 +48,7 @@ module _ (W : ℕ) (wide : W ≤ 64) (p : Policy) (r : InRange p) where
       record {
         antitone = meaning-antitone p u;
         zero-line = zero-sound W (meaning p u) (meaning-antitone p u) (meaning-none p u r);
-        call = λ bs s op. call-well W (meaning p u) wide (few-roles u) (own-below u) (meaning-antitone p u) bs s op;
+        call = λ x bs s op. call-well W (meaning p u) wide (few-roles u) (own-below u) (meaning-antitone p u) x bs s op;
       }
 
   -- ---- one call on a ledger
@@ -65,16 +68,34 @@ module _ (W : ℕ) (wide : W ≤ 64) (p : Policy) (r : InRange p) where
         → SoundBytes W (meaning p u) (lineAt (lineSize W) u (stepOn W p l c .ledger))
     lines-well u i true e =
         subst (SoundBytes W (meaning p u)) (sym (ap (λ (x : Result). x .line) (step-own W p l (k .fits) c u e i)))
-        (line-kept u .call (lineAt (lineSize W) u l) (k .lines u i) (c .operation))
+        (line-kept u .call (told W p l c) (lineAt (lineSize W) u l) (k .lines u i) (c .operation))
     lines-well u i false e = subst (SoundBytes W (meaning p u)) (sym (step-other W p l (k .fits) c u e)) (k .lines u i)
+
+    -- a call is told of no line that is not sound
+    others-quiet : (u : ℕ) → othersOf W p u l .unsound ≡ none
+    unfolding othersOf unsoundOther lineOf
+    others-quiet u =
+        first-below (unsoundOther W p u l) (p .head .users)
+        (λ v i. rw (k .lines v i) (and-false (not (eqb v u))))
+
+    told-quiet : told W p l c .unsound ≡ none
+    unfolding told nobody
+    told-quiet = go (isAsk (c .operation) && hasLimits p)
+      where
+        among : Bool → Others
+        among b = elim b [ true ↦ othersOf W p (c .user) l | false ↦ nobody ]
+
+        go : (b : Bool) → among b .unsound ≡ none
+        go true = others-quiet (c .user)
+        go false = refl
 
     -- the answer to a user with a line is that of the session rules
     answered-well : c .user < p .head .users → ¬ (stepOn W p l c .reply .number ≡ 11)
     answered-well i =
         let m = meaning p (c .user) in
         subst (λ (x : Result). ¬ (x .reply .number ≡ 11)) (sym (step-own W p l (k .fits) c (c .user) (eq-eqb (c .user) (c .user) refl) i))
-        (call-answer W m wide (few-roles (c .user)) (own-below (c .user)) (meaning-antitone p (c .user)) (lineAt (lineSize W) (c .user) l)
-        (k .lines (c .user) i) (c .operation))
+        (call-answer W m wide (few-roles (c .user)) (own-below (c .user)) (meaning-antitone p (c .user)) (told W p l c)
+        (lineAt (lineSize W) (c .user) l) (k .lines (c .user) i) told-quiet (c .operation))
 
     -- a call on a sound ledger goes well
     pub step-well : Well W p (stepOn W p l c)

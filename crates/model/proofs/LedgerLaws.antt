@@ -16,7 +16,7 @@ use Rattle.model.specs.Tests.{pick}
 use Rattle.model.specs.Policy.{Policy, meaning}
 use Rattle.model.specs.Line.{lineSize}
 use Rattle.model.specs.Session.{Result, rule}
-use Rattle.model.specs.Run.{Call, lineAt, withLine, ruled, stepOn}
+use Rattle.model.specs.Run.{Call, lineAt, withLine, told, ruled, stepOn}
 use Rattle.model.proofs.LineLaws.{rule-length}
 
 -- ---- z elements of a list from a on, replaced by bs
@@ -132,9 +132,9 @@ module _ (W : ℕ) (p : Policy) (l : List ℕ) (hl : length l ≡ lineSize W * p
 
   -- the line that the session rules leave
   pub new-length : c .user < p .head .users
-      → length (rule W (meaning p (c .user)) (lineAt (lineSize W) (c .user) l) (c .operation) .line) ≡ lineSize W
+      → length (rule W (meaning p (c .user)) (told W p l c) (lineAt (lineSize W) (c .user) l) (c .operation) .line) ≡ lineSize W
   new-length h =
-      rule-length W (meaning p (c .user)) (lineAt (lineSize W) (c .user) l) (lineAt-length (lineSize W) (c .user) (p .head .users) l hl h)
+      rule-length W (meaning p (c .user)) (told W p l c) (lineAt (lineSize W) (c .user) l) (lineAt-length (lineSize W) (c .user) (p .head .users) l hl h)
       (c .operation)
 
   -- the ledger's length stays
@@ -151,25 +151,25 @@ module _ (W : ℕ) (p : Policy) (l : List ℕ) (hl : length l ≡ lineSize W * p
   -- the named user's answer and line
   pub step-own : (u : ℕ) → eqb (c .user) u ≡ true → u < p .head .users
       → _≡_ {A = Result} (record { reply = stepOn W p l c .reply; line = lineAt (lineSize W) u (stepOn W p l c .ledger) })
-      (rule W (meaning p u) (lineAt (lineSize W) u l) (c .operation))
+      (rule W (meaning p u) (told W p l c) (lineAt (lineSize W) u l) (c .operation))
   unfolding ruled
   step-own u e h =
       let q : c .user ≡ u = eqb-true (c .user) u e in
       subst
       (λ (v : ℕ). v < p .head .users
       → _≡_ {A = Result} (record { reply = stepOn W p l c .reply; line = lineAt (lineSize W) v (stepOn W p l c .ledger) })
-      (rule W (meaning p v) (lineAt (lineSize W) v l) (c .operation))) q at-user h
+      (rule W (meaning p v) (told W p l c) (lineAt (lineSize W) v l) (c .operation))) q at-user h
     where
       at-user : c .user < p .head .users
           → _≡_ {A = Result} (record { reply = stepOn W p l c .reply; line = lineAt (lineSize W) (c .user) (stepOn W p l c .ledger) })
-          (rule W (meaning p (c .user)) (lineAt (lineSize W) (c .user) l) (c .operation))
+          (rule W (meaning p (c .user)) (told W p l c) (lineAt (lineSize W) (c .user) l) (c .operation))
       at-user k =
           rw (step-below k)
           (λ i. record {
-            reply = rule W (meaning p (c .user)) (lineAt (lineSize W) (c .user) l) (c .operation) .reply;
+            reply = rule W (meaning p (c .user)) (told W p l c) (lineAt (lineSize W) (c .user) l) (c .operation) .reply;
             line =
                 withLine-same (lineSize W) (c .user) (p .head .users)
-                (rule W (meaning p (c .user)) (lineAt (lineSize W) (c .user) l) (c .operation) .line) l (new-length k) hl k i;
+                (rule W (meaning p (c .user)) (told W p l c) (lineAt (lineSize W) (c .user) l) (c .operation) .line) l (new-length k) hl k i;
           })
 
   -- anybody else's line stays

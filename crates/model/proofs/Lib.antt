@@ -20,6 +20,7 @@ pub mod Tables
 pub mod Ranks
 pub mod Subsets
 pub mod Choices
+pub mod Barred
 pub mod AnyWidth
 pub mod Every
 pub mod Actives

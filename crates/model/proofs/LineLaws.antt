@@ -14,6 +14,7 @@ use Rattle.model.specs.Bytes.{bytesOf}
 use Rattle.model.specs.Policy.{Meaning}
 use Rattle.model.specs.Line.{readSessions, readLine, writeSessions, writeLine, lineSize, putIn, opening, closing}
 use Rattle.model.specs.Frames.{sessionBytes}
+use Rattle.model.specs.Limits.{Others}
 use Rattle.model.specs.Session.{Operation, open-session, close-session, ask, short-ask, show, explain, clauses, Refusal, Result, asked, explained, perform, unless, rule}
 
 -- ---- lengths
@@ -104,10 +105,11 @@ history-part l = ap (λ (x : List ℕ). take 8 x) (behind-opened l) ∙ take-at 
 -- ---- a line under the session rules
 
 -- what the work done keeps of a line, the call keeps
-pub unless-part : (bs : List ℕ) (part : List ℕ → List ℕ) (o : Option Refusal) (r : Result) → part (r .line) ≡ part bs → part (unless o bs r .line) ≡ part bs
+pub unless-part : (x : Others) (bs : List ℕ) (part : List ℕ → List ℕ) (o : Option Refusal) (r : Result) → part (r .line) ≡ part bs
+    → part (unless x o bs r .line) ≡ part bs
 unfolding unless
-unless-part bs part none r h = h
-unless-part bs part (some f) r h = refl
+unless-part x bs part none r h = h
+unless-part x bs part (some f) r h = refl
 
 -- an explain keeps the line
 pub explained-line : (bs : List ℕ) (o : Option ℕ) → explained bs o .line ≡ bs
@@ -115,7 +117,7 @@ unfolding explained
 explained-line bs none = refl
 explained-line bs (some x) = refl
 
-module _ (W : ℕ) (m : Meaning) (bs : List ℕ) (h : length bs ≡ lineSize W) where
+module _ (W : ℕ) (m : Meaning) (x : Others) (bs : List ℕ) (h : length bs ≡ lineSize W) where
   -- an ask, any call that nothing refuses, and any call
   asked-length : (k : ℕ) (o : Option ℕ) → length (asked m (readLine W bs) bs k o .line) ≡ lineSize W
   unfolding asked
@@ -123,7 +125,7 @@ module _ (W : ℕ) (m : Meaning) (bs : List ℕ) (h : length bs ≡ lineSize W) 
   asked-length k (some s) =
       unfold readLine putIn in (length-writeLine (putIn k s (readLine W bs)) ∙ simp (length-set, length-readSessions))
 
-  perform-length : (op : Operation) → length (perform W m (readLine W bs) bs op .line) ≡ lineSize W
+  perform-length : (op : Operation) → length (perform W m x (readLine W bs) bs op .line) ≡ lineSize W
   unfolding perform opening closing readLine
   perform-length open-session = length-writeLine _ ∙ simp length-readSessions
   perform-length (close-session k) = length-writeLine _ ∙ simp (length-set, length-readSessions)
@@ -133,12 +135,12 @@ module _ (W : ℕ) (m : Meaning) (bs : List ℕ) (h : length bs ≡ lineSize W) 
   perform-length (explain k n) = ap length (explained-line bs _) ∙ h
   perform-length (clauses k q) = h
 
-  unless-length : (o : Option Refusal) (r : Result) → length (r .line) ≡ lineSize W → length (unless o bs r .line) ≡ lineSize W
+  unless-length : (o : Option Refusal) (r : Result) → length (r .line) ≡ lineSize W → length (unless x o bs r .line) ≡ lineSize W
   unfolding unless
   unless-length none r e = e
   unless-length (some f) r e = h
 
   -- every call leaves a line of the same length
-  pub rule-length : (op : Operation) → length (rule W m bs op .line) ≡ lineSize W
+  pub rule-length : (op : Operation) → length (rule W m x bs op .line) ≡ lineSize W
   unfolding rule
   rule-length op = unless-length _ _ (perform-length op)

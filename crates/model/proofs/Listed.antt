@@ -6,6 +6,7 @@ use mathlib.Core.Option.{Option, none, some}
 use mathlib.Core.List.{List, [], _∷_}
 use Prim.Native.Nat.{ℕ, suc, _^_}
 use lib.Dec.{ltb}
+use lib.ListN.{getD, drop}
 use Rattle.model.specs.declared.Exclusion.{Exclusion}
 use Rattle.model.specs.declared.Session.{Session}
 use Rattle.model.specs.declared.Line.{Line}
@@ -14,8 +15,9 @@ use Rattle.model.specs.Sets.{subsets}
 use Rattle.model.specs.Bytes.{number}
 use Rattle.model.specs.Policy.{Meaning}
 use Rattle.model.specs.Line.{readLine, exclusionsMet, sessionSound, sessionsSound, sound}
+use Rattle.model.specs.Limits.{Others, nobody, barred, unbarred}
 use Rattle.model.specs.Choice.{carriedBy, admissible, permissionCost, better, best, choose}
-use Rattle.model.specs.Session.{Query, Operation, open-session, close-session, ask, short-ask, show, explain, clauses, sessionOf, queryOf, isText, Result, Refusal, bad-line, bad-session, is-closed, is-full, bad-set, bad-permission, bad-bounds, bad-aim, bad-room, no-set, not-below, not-carried, canGive, chosen, isNone, applies, asked, perform, unless, rule}
+use Rattle.model.specs.Session.{Query, Operation, open-session, close-session, ask, short-ask, show, explain, clauses, sessionOf, queryOf, isText, Result, Refusal, bad-other, bad-line, bad-session, is-closed, is-full, bad-set, bad-permission, bad-bounds, bad-aim, bad-room, no-set, not-below, not-carried, canGive, chosen, isNone, otherFirst, applies, asked, perform, unless, rule}
 use Rattle.model.specs.Independence.{rules, hasText}
 use Rattle.model.specs.Ranges.{Each}
 
@@ -23,6 +25,7 @@ use Rattle.model.specs.Ranges.{Each}
 abbrev pub listed : Meaning → List Exclusion → Meaning
 listed m xs =
     record {
+      user = m .user;
       roles = m .roles;
       permissions = m .permissions;
       authorized = m .authorized;
@@ -30,6 +33,7 @@ listed m xs =
       granter = m .granter;
       allMet = m .allMet;
       exclusions = xs;
+      limits = m .limits;
     }
 
 -- tests that are the same on a list find the same
@@ -50,7 +54,7 @@ module _ (m : Meaning) (xs : List Exclusion) where
   sessions-listed l k [] = refl
   sessions-listed l k (s ∷ ss) = ap (λ (b : Bool). sessionSound m l k s && b) (sessions-listed l (suc k) ss)
 
-  sound-listed : (W : ℕ) (l : Line) → sound W m l ≡ sound W (listed m xs) l
+  pub sound-listed : (W : ℕ) (l : Line) → sound W m l ≡ sound W (listed m xs) l
   unfolding sound exclusionsMet
   sound-listed W l =
       ap (λ (b : Bool). ltb (l .opened) (2 ^ W) && ltb (l .history) (2 ^ m .roles) && b && exclusionsMet m l) (sessions-listed l 0 (l .sessions))
@@ -64,20 +68,28 @@ module _ (m : Meaning) (xs : List Exclusion) where
   unfolding better permissionCost carriedBy
   better-listed a b s t = refl
 
-  chosen-listed : (l : Line) (k : ℕ) (q : Query) → chosen m l k q ≡ chosen (listed m xs) l k q
-  unfolding chosen choose
-  chosen-listed l k q =
-      λ i. best (λ s. admissible-listed l k (number (q .lower)) (number (q .upper)) s i) (λ s t. better-listed (q .permissionAim) (q .roleAim) s t i)
-      (subsets 64 (m .authorized))
+  choice-listed : (l : Line) (k lower upper a b : ℕ) → choose m l k lower upper a b ≡ choose (listed m xs) l k lower upper a b
+  unfolding choose
+  choice-listed l k lower upper a b =
+      λ i. best (λ s. admissible-listed l k lower upper s i) (λ s t. better-listed a b s t i) (subsets 64 (m .authorized))
+
+module _ (m : Meaning) (xs : List Exclusion) (x : Others) where
+  chosen-listed : (l : Line) (k : ℕ) (q : Query) → chosen m x l k q ≡ chosen (listed m xs) x l k q
+  unfolding chosen unbarred barred
+  chosen-listed l k q = choice-listed (unbarred m x l k) xs l k (number (q .lower)) (number (q .upper)) (q .permissionAim) (q .roleAim)
 
   -- ---- the refusals
   module _ (W : ℕ) (l : Line) (k : ℕ) (q : Query) where
     abbrev Same : Refusal → Type 0
-    Same f = applies W m l k q f ≡ applies W (listed m xs) l k q f
+    Same f = applies W m x l k q f ≡ applies W (listed m xs) x l k q f
 
     same-line : Same bad-line
     unfolding applies
-    same-line = ap not (sound-listed W l)
+    same-line = ap not (sound-listed m xs W l)
+
+    same-other : Same bad-other
+    unfolding applies
+    same-other = ap (λ (b : Bool). otherFirst b (m .user) (x .unsound)) (sound-listed m xs W l)
 
     same-set : Same no-set
     unfolding applies
@@ -87,8 +99,8 @@ module _ (m : Meaning) (xs : List Exclusion) where
     unfolding canGive applies isText
     refusals-listed open-session e = (same-line, (refl, tt))
     refusals-listed (close-session k) e = (same-line, (refl, (refl, tt)))
-    refusals-listed (ask k r) e = (same-line, (refl, (refl, (refl, (refl, (refl, (refl, (refl, (same-set, tt)))))))))
-    refusals-listed (short-ask k lower upper room) e = (same-line, (refl, (refl, (refl, (refl, (refl, (refl, (same-set, tt))))))))
+    refusals-listed (ask k r) e = (same-other, (same-line, (refl, (refl, (refl, (refl, (refl, (refl, (refl, (same-set, tt))))))))))
+    refusals-listed (short-ask k lower upper room) e = (same-other, (same-line, (refl, (refl, (refl, (refl, (refl, (refl, (same-set, tt)))))))))
     refusals-listed (show k room) e = (same-line, (refl, (refl, (refl, tt))))
     refusals-listed (explain k n) e = (same-line, (refl, (refl, (refl, (refl, tt)))))
     refusals-listed (clauses k r) e = absurd (true≢false e)
@@ -99,10 +111,10 @@ module _ (m : Meaning) (xs : List Exclusion) where
   asked-listed l bs k none = refl
   asked-listed l bs k (some s) = refl
 
-  answer-listed : (l : Line) (bs : List ℕ) (k : ℕ) (q : Query) → asked m l bs k (chosen m l k q) ≡ asked (listed m xs) l bs k (chosen (listed m xs) l k q)
-  answer-listed l bs k q = asked-listed l bs k (chosen m l k q) ∙ ap (asked (listed m xs) l bs k) (chosen-listed l k q)
+  answer-listed : (l : Line) (bs : List ℕ) (k : ℕ) (q : Query) → asked m l bs k (chosen m x l k q) ≡ asked (listed m xs) l bs k (chosen (listed m xs) x l k q)
+  answer-listed l bs k q = asked-listed l bs k (chosen m x l k q) ∙ ap (asked (listed m xs) l bs k) (chosen-listed l k q)
 
-  perform-listed : (W : ℕ) (l : Line) (bs : List ℕ) (op : Operation) → isText op ≡ false → perform W m l bs op ≡ perform W (listed m xs) l bs op
+  perform-listed : (W : ℕ) (l : Line) (bs : List ℕ) (op : Operation) → isText op ≡ false → perform W m x l bs op ≡ perform W (listed m xs) x l bs op
   unfolding perform isText carriedBy
   perform-listed W l bs open-session e = refl
   perform-listed W l bs (close-session k) e = refl
@@ -113,19 +125,21 @@ module _ (m : Meaning) (xs : List Exclusion) where
   perform-listed W l bs (clauses k q) e = absurd (true≢false e)
 
   -- ---- the rules
-  pub rule-listed : (W : ℕ) (bs : List ℕ) (op : Operation) → isText op ≡ false → rule W m bs op ≡ rule W (listed m xs) bs op
+  pub rule-listed : (W : ℕ) (bs : List ℕ) (op : Operation) → isText op ≡ false → rule W m x bs op ≡ rule W (listed m xs) x bs op
   unfolding rule
   rule-listed W bs op e =
       let l = readLine W bs in
-      ap₂ (λ (o : Option Refusal) (r : Result). unless o bs r)
-      (first-same (applies W m l (sessionOf op) (queryOf op)) (applies W (listed m xs) l (sessionOf op) (queryOf op)) (canGive op)
+      ap₂ (λ (o : Option Refusal) (r : Result). unless x o bs r)
+      (first-same (applies W m x l (sessionOf op) (queryOf op)) (applies W (listed m xs) x l (sessionOf op) (queryOf op)) (canGive op)
       (refusals-listed W l (sessionOf op) (queryOf op) op e)) (perform-listed W l bs op e)
 
-  pub rules-listed : (W : ℕ) (bs : List ℕ) (os : List Operation) → hasText os ≡ false → rules W m bs os ≡ rules W (listed m xs) bs os
-  unfolding rules hasText any
-  rules-listed W bs [] e = refl
-  rules-listed W bs (o ∷ os) e =
-      let f = or-false (isText o) (any isText os) e in
-      let q = rule-listed W bs o (f .0) in
-      ap₂ {C = List Result} (λ (r : Result) (rs : List Result). r ∷ rs) q
-      (rules-listed W (rule W m bs o .line) os (f .1) ∙ ap (λ (r : Result). rules W (listed m xs) (r .line) os) q)
+pub rules-listed : (m : Meaning) (xs : List Exclusion) (W : ℕ) (bs : List ℕ) (ys : List Others) (os : List Operation) → hasText os ≡ false
+    → rules W m bs ys os ≡ rules W (listed m xs) bs ys os
+unfolding rules hasText any
+rules-listed m xs W bs ys [] e = refl
+rules-listed m xs W bs ys (o ∷ os) e =
+    let f = or-false (isText o) (any isText os) e in
+    let q = rule-listed m xs (getD ys 0 nobody) W bs o (f .0) in
+    ap₂ {C = List Result} (λ (r : Result) (rs : List Result). r ∷ rs) q
+    (rules-listed m xs W (rule W m (getD ys 0 nobody) bs o .line) (drop 1 ys) os (f .1)
+    ∙ ap (λ (r : Result). rules W (listed m xs) (r .line) (drop 1 ys) os) q)

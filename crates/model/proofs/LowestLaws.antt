@@ -18,7 +18,7 @@ use Rattle.model.specs.Sets.{has, inter, meets, setOf, unionAt, lowestIn
 use Rattle.model.proofs.Bools.{and-l, and-r, both, or-l, or-r, or-cases, not-both, bool-ext}
 use Rattle.model.proofs.SetLaws.{has-union, has-inter, has-power, same-members}
 use Rattle.model.proofs.UnionLaws.{has-none, below-or-last, has-unionAt}
-use Rattle.model.proofs.AnyWidth.{lt-two-pow}
+use Rattle.model.proofs.AnyWidth.{lt-two-pow, members-below}
 
 -- ---- the lowest number
 
@@ -194,6 +194,10 @@ module _ (f : ℕ → Bool) where
       go : (k < d) ⊎ (k ≡ d) → (k < d → f k ≡ true → has (setOf f d) k ≡ true) → (has (setOf f d) k || (f d && eqb k d)) ≡ true
       go (inl q) ih = or-l (has (setOf f d) k) (f d && eqb k d) (ih q e)
       go (inr q) ih = or-r (has (setOf f d) k) (f d && eqb k d) (both (f d) (eqb k d) (ap f (sym q) ∙ e) (eq-eqb k d q))
+
+  -- and it is below the next power
+  pub setOf-below : (d : ℕ) → setOf f d < 2 ^ d
+  setOf-below d = members-below d (setOf f d) (λ k e. setOf-has d k e .1)
 
 -- ---- sets that meet
 

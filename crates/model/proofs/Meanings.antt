@@ -13,6 +13,7 @@ use Rattle.model.specs.declared.Exclusion.{Exclusion}
 use Rattle.model.specs.Tests.{pick, any, all}
 use Rattle.model.specs.Sets.{has, unionAt}
 use Rattle.model.specs.Policy.{Policy, Meaning, meaning, authorized, closed, belowTable, withSelves, reached, carriedTable, granterBy, granter, met, onlyFor, kindNumber, sameExclusion, excludes, Agree}
+use Rattle.model.specs.Limits.{Others}
 use Rattle.model.specs.Session.{Operation, isText, rule}
 use Rattle.model.proofs.Bools.{and-l, and-r, or-r, bool-ext}
 use Rattle.model.proofs.Closure.{getD-tableOf}
@@ -93,6 +94,7 @@ module _ (u : ℕ) (p q : Policy) (h : Agree u p q) where
   unfolding meaning authorized carriedTable granter reached belowTable
   agree-by xs ys e = λ i.
       record {
+        user = u;
         roles = h .heads i .roles;
         permissions = h .heads i .permissions;
         authorized = unionAt (withSelves (closed (h .heads i .roles) (h .seniors i))) (h .own i);
@@ -100,16 +102,17 @@ module _ (u : ℕ) (p q : Policy) (h : Agree u p q) where
         granter = λ m r. granterBy (withSelves (closed (h .heads i .roles) (h .seniors i))) (λ g. has (getD (h .grants i) g 0) m) r;
         allMet = λ counted. agree-met counted i;
         exclusions = e i;
+        limits = h .limits i;
       }
 
   pub agree-listed : (xs : List Exclusion) → listed (meaning p u) xs ≡ listed (meaning q u) xs
   agree-listed xs = agree-by xs xs refl
 
   -- so they give the same to a call that is no clause text
-  pub agree-rule : (W : ℕ) (bs : List ℕ) (op : Operation) → isText op ≡ false → rule W (meaning p u) bs op ≡ rule W (meaning q u) bs op
-  agree-rule W bs op e =
-      rule-listed (meaning p u) [] W bs op e ∙ ap (λ (m : Meaning). rule W m bs op) (agree-listed [])
-      ∙ sym (rule-listed (meaning q u) [] W bs op e)
+  pub agree-rule : (W : ℕ) (x : Others) (bs : List ℕ) (op : Operation) → isText op ≡ false → rule W (meaning p u) x bs op ≡ rule W (meaning q u) x bs op
+  agree-rule W x bs op e =
+      rule-listed (meaning p u) [] x W bs op e ∙ ap (λ (m : Meaning). rule W m x bs op) (agree-listed [])
+      ∙ sym (rule-listed (meaning q u) [] x W bs op e)
 
   pub agree-meaning : p .exclusions ≡ q .exclusions → meaning p u ≡ meaning q u
   unfolding meaning
@@ -130,6 +133,7 @@ module _ (u : ℕ) (small : u < 64) (p : Policy) where
         grants = refl;
         seniors = refl;
         exclusions = λ x. refl;
+        limits = refl;
       }
 
   -- and means the same for the user

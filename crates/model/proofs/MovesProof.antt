@@ -18,8 +18,9 @@ use Rattle.model.specs.Tests.{pick}
 use Rattle.model.specs.Judgement.{judge}
 use Rattle.model.specs.Policy.{Policy, Meaning, policyOf, meaning}
 use Rattle.model.specs.Line.{lineSize, readLine, sound}
-use Rattle.model.specs.Session.{Operation, show, explain, Reply, refuse, done, rule}
-use Rattle.model.specs.Run.{Call, Event, lineAt, ruled, stepOn, stepBy, step, showBy, explainBy}
+use Rattle.model.specs.Limits.{nobody}
+use Rattle.model.specs.Session.{Operation, show, explain, isAsk, Reply, refuse, done, rule}
+use Rattle.model.specs.Run.{Call, Event, lineAt, told, ruled, stepOn, stepBy, step, showBy, explainBy}
 use Rattle.model.specs.Kept.{SoundLedger}
 use Rattle.model.specs.Frames.{sessionBytes}
 use Rattle.model.specs.Moves.{resized, lineFault, moveAnswer, resizedLines, writtenIf, moveOn, moveBy, move, MoveIs}
@@ -200,12 +201,12 @@ module _ (F W : ℕ) (p : Policy) (old new : List ℕ) where
 
     -- a call that only reads session j, before and after
     abbrev SameReply : ℕ → Operation → Type 0
-    SameReply u op = rule W (meaning p u) (lineAt (lineSize W) u (e .ledger)) op .reply ≡ rule F (meaning p u) (lineAt (lineSize F) u old) op .reply
+    SameReply u op = rule W (meaning p u) nobody (lineAt (lineSize W) u (e .ledger)) op .reply ≡ rule F (meaning p u) nobody (lineAt (lineSize F) u old) op .reply
 
-    on-reads : (u : ℕ) (op : Operation) → (u < n → SameReply u op)
+    on-reads : (u : ℕ) (op : Operation) → isAsk op ≡ false → (u < n → SameReply u op)
         → stepOn W p (e .ledger) (record { user = u; operation = op }) .reply ≡ stepOn F p old (record { user = u; operation = op }) .reply
-    unfolding stepOn ruled pick
-    on-reads u op h =
+    unfolding stepOn ruled told pick
+    on-reads u op r h =
         rw (eq-eqb (length (e .ledger)) (lineSize W * n) fits-after, eq-eqb (length old) (lineSize F * n) (d .fits-old))
         (go (ltb u n) refl)
       where
@@ -215,7 +216,7 @@ module _ (F W : ℕ) (p : Policy) (old new : List ℕ) where
         go : (b : Bool) → ltb u n ≡ b
             → pick (not b) (record { reply = refuse 10 0; ledger = e .ledger }) (ruled W p (e .ledger) c) .reply
             ≡ pick (not b) (record { reply = refuse 10 0; ledger = old }) (ruled F p old c) .reply
-        go true q = h (ltb-true u n q)
+        go true q = rw (r, told) (h (ltb-true u n q))
         go false q = refl
 
     module _ (u j : ℕ) (f : j < F) (w : j < W) where
@@ -223,21 +224,21 @@ module _ (F W : ℕ) (p : Policy) (old new : List ℕ) where
       bs = lineAt (lineSize F) u old
 
       -- what holds of the line that agrees with the old one holds of the line after
-      on-line : (op : Operation) → (u < n → rule W (meaning p u) (resized W bs) op .reply ≡ rule F (meaning p u) bs op .reply)
+      on-line : (op : Operation) → (u < n → rule W (meaning p u) nobody (resized W bs) op .reply ≡ rule F (meaning p u) nobody bs op .reply)
           → u < n → SameReply u op
-      on-line op k h = ap (λ (x : List ℕ). rule W (meaning p u) x op .reply) (after u h) ∙ k h
+      on-line op k h = ap (λ (x : List ℕ). rule W (meaning p u) nobody x op .reply) (after u h) ∙ k h
 
       on-shows : (room : ℕ) → stepOn W p (e .ledger) (showBy u j room) .reply ≡ stepOn F p old (showBy u j room) .reply
       unfolding showBy
       on-shows room =
-          on-reads u (show j room)
+          on-reads u (show j room) (unfold isAsk in refl)
           (on-line (show j room) (λ h. show-same F W (meaning p u) bs (resized W bs) (d .movable u h .is-sound)
           (line-sound F W pos p u bs (before u h) (d .movable u h)) (line-agreeing F W pos p u bs (before u h) (d .movable u h)) j f w room))
 
       on-explains : (x : ℕ) → stepOn W p (e .ledger) (explainBy u j x) .reply ≡ stepOn F p old (explainBy u j x) .reply
       unfolding explainBy
       on-explains x =
-          on-reads u (explain j x)
+          on-reads u (explain j x) (unfold isAsk in refl)
           (on-line (explain j x) (λ h. explain-same F W (meaning p u) bs (resized W bs) (d .movable u h .is-sound)
           (line-sound F W pos p u bs (before u h) (d .movable u h)) (line-agreeing F W pos p u bs (before u h) (d .movable u h)) j f w x))
 

@@ -16,12 +16,12 @@ use Rattle.model.specs.declared.Role.{Role}
 use Rattle.model.specs.declared.Head.{Head}
 use Rattle.model.specs.declared.Exclusion.{Exclusion}
 use Rattle.model.specs.declared.Entry.{Entry}
-use Rattle.model.specs.declared.Entry.the-variants.{Assignment, Grant, Senior, Exclude, Member, End, Unknown}
+use Rattle.model.specs.declared.Entry.the-variants.{Assignment, Grant, Senior, Exclude, Member, Limit, End, Unknown}
 use Rattle.model.specs.declared.Scan.{Scan}
 use Rattle.model.specs.declared.Checked.the-variants.{Accepted}
 use Rattle.model.specs.Sets.{with}
 use Rattle.model.specs.Image.{wordAt, behindHead, assigning, next, headOf, emptyRows, start}
-use Rattle.model.specs.Policy.{Policy, policyOf, entryAt, entriesFrom, entriesOf, granting, ordering, fold, withMembers, exclusionsOf, excludes, meaning, Agree}
+use Rattle.model.specs.Policy.{Policy, policyOf, entryAt, entriesFrom, entriesOf, granting, ordering, limiting, fold, withMembers, exclusionsOf, excludes, meaning, Agree}
 use Rattle.model.specs.Judgement.{judge}
 use Rattle.model.specs.OwnWords.{wordsFrom, entryOf, policyIn, isOwn, wordsWith, ownWords}
 use Rattle.model.proofs.Scanned.{Valid}
@@ -78,6 +78,7 @@ module _ (u : ℕ) where
   grants-pass rows (Senior a b) e = absurd (true≢false e)
   grants-pass rows (Exclude x m) e = absurd (true≢false e)
   grants-pass rows (Member r) e = absurd (true≢false e)
+  grants-pass rows (Limit r t) e = absurd (true≢false e)
   grants-pass rows End e = refl
   grants-pass rows Unknown e = absurd (true≢false e)
 
@@ -88,8 +89,20 @@ module _ (u : ℕ) where
   seniors-pass rows (Senior a b) e = absurd (true≢false e)
   seniors-pass rows (Exclude x m) e = absurd (true≢false e)
   seniors-pass rows (Member r) e = absurd (true≢false e)
+  seniors-pass rows (Limit r t) e = absurd (true≢false e)
   seniors-pass rows End e = refl
   seniors-pass rows Unknown e = absurd (true≢false e)
+
+  limits-pass : (rows : List ℕ) (e : Entry) → isOwn u e ≡ false → limiting rows e ≡ rows
+  unfolding isOwn limiting
+  limits-pass rows (Assignment v r) e = refl
+  limits-pass rows (Grant r p) e = absurd (true≢false e)
+  limits-pass rows (Senior a b) e = absurd (true≢false e)
+  limits-pass rows (Exclude x m) e = absurd (true≢false e)
+  limits-pass rows (Member r) e = absurd (true≢false e)
+  limits-pass rows (Limit r t) e = absurd (true≢false e)
+  limits-pass rows End e = refl
+  limits-pass rows Unknown e = absurd (true≢false e)
 
   -- ---- the user's row
   row-kept : (es : List Entry) (a b : List ℕ) → u < length a → u < length b → getD a u 0 ≡ getD b u 0
@@ -113,6 +126,7 @@ module _ (u : ℕ) where
   row-kept (Senior c d ∷ es) a b la lb e = row-kept es a b la lb e
   row-kept (Exclude x m ∷ es) a b la lb e = row-kept es a b la lb e
   row-kept (Member r ∷ es) a b la lb e = row-kept es a b la lb e
+  row-kept (Limit r t ∷ es) a b la lb e = row-kept es a b la lb e
   row-kept (End ∷ es) a b la lb e = row-kept es a b la lb e
   row-kept (Unknown ∷ es) a b la lb e = row-kept es a b la lb e
 
@@ -128,6 +142,7 @@ module _ (u : ℕ) where
   take-due h (suc d) rows t (Exclude x m ∷ es) q v = absurd (omega (arith, v .0 .turn))
   take-due h (suc d) rows t (Member r ∷ es) q v =
       ap (λ (xs : List Entry). Member r ∷ xs) (take-due h d (assigning rows (Member r)) (next t (Member r)) es (omega arith) (v .1))
+  take-due h (suc d) rows t (Limit r n ∷ es) q v = absurd (omega (arith, v .0 .turn))
   take-due h (suc d) rows t (End ∷ es) q v = absurd (omega (arith, v .0 .turn))
   take-due h (suc d) rows t (Unknown ∷ es) q v = absurd (v .0 .turn)
 
@@ -148,6 +163,7 @@ module _ (u : ℕ) where
       (take-due h m (assigning rows (Exclude x m)) (next t (Exclude x m)) es (unfold next in refl) (v .1))
       (exclusions-kept h (assigning rows (Exclude x m)) (next t (Exclude x m)) es (v .1))
   exclusions-kept h rows t (Member r ∷ es) v = exclusions-kept h (assigning rows (Member r)) (next t (Member r)) es (v .1)
+  exclusions-kept h rows t (Limit r n ∷ es) v = exclusions-kept h (assigning rows (Limit r n)) (next t (Limit r n)) es (v .1)
   exclusions-kept h rows t (End ∷ es) v = exclusions-kept h (assigning rows End) (next t End) es (v .1)
   exclusions-kept h rows t (Unknown ∷ es) v = exclusions-kept h (assigning rows Unknown) (next t Unknown) es (v .1)
 
@@ -171,7 +187,8 @@ module _ (u : ℕ) (small : u < 64) (s : List ℕ) (h : Head) (accepted : judge 
         own = row-kept u (entriesOf s) emptyRows emptyRows small small refl ∙ ap (λ (es : List Entry). getD (fold assigning emptyRows es) u 0) (sym left-entries);
         grants = sym (ap (fold granting emptyRows) left-entries ∙ fold-kept granting (isOwn u) (grants-pass u) emptyRows (entriesOf s));
         seniors = sym (ap (fold ordering emptyRows) left-entries ∙ fold-kept ordering (isOwn u) (seniors-pass u) emptyRows (entriesOf s));
-        exclusions = λ x. ap (λ (p : Policy). excludes p x) (λ i. record { head = policyOf s .head; assigned = policyOf s .assigned; granted = policyOf s .granted; juniors = policyOf s .juniors; exclusions = same-exclusions i });
+        exclusions = λ x. ap (λ (p : Policy). excludes p x) (λ i. record { head = policyOf s .head; assigned = policyOf s .assigned; granted = policyOf s .granted; juniors = policyOf s .juniors; exclusions = same-exclusions i; limits = policyOf s .limits });
+        limits = sym (ap (fold limiting emptyRows) left-entries ∙ fold-kept limiting (isOwn u) (limits-pass u) emptyRows (entriesOf s));
       }
 
   -- and mean the same for the user

@@ -8,7 +8,7 @@ use lib.Dec.{eqb, eqb·suc-zero}
 use borrow.Author.Tests.{eqb-true, eq-eqb, not-false}
 use Rattle.model.specs.declared.Head.{Head}
 use Rattle.model.specs.declared.Entry.{Entry}
-use Rattle.model.specs.declared.Entry.the-variants.{Assignment, Grant, Senior, Exclude, Member, End, Unknown}
+use Rattle.model.specs.declared.Entry.the-variants.{Assignment, Grant, Senior, Exclude, Member, Limit, End, Unknown}
 use Rattle.model.specs.declared.Word.{Word}
 use Rattle.model.specs.declared.Scan.{Scan}
 use Rattle.model.specs.declared.Checked.{Checked}
@@ -27,6 +27,7 @@ Turn due (Grant r p) = due ≡ 0
 Turn due (Senior a b) = due ≡ 0
 Turn due (Exclude x m) = due ≡ 0
 Turn due (Member r) = due ≡ 0 → ⊥
+Turn due (Limit r t) = due ≡ 0
 Turn due End = due ≡ 0
 Turn due Unknown = ⊥
 
@@ -37,6 +38,7 @@ Plain (Grant r p) = Unit {0}
 Plain (Senior a b) = Unit {0}
 Plain (Exclude x m) = x .members ≡ 0
 Plain (Member r) = Unit {0}
+Plain (Limit r t) = Unit {0}
 Plain End = Unit {0}
 Plain Unknown = Unit {0}
 
@@ -77,6 +79,7 @@ turn-of final due (Grant r p) k = none-due final due k
 turn-of final due (Senior a b) k = none-due final due k
 turn-of final due (Exclude x m) k = none-due final due k
 turn-of final due (Member r) k = λ z. not-both (eqb due 0) (eq-eqb due 0 z) (or-false-r final (eqb due 0) k)
+turn-of final due (Limit r t) k = none-due final due k
 turn-of final due End k = none-due (not final) due k
 turn-of final due Unknown k = true≢false k
 
@@ -88,6 +91,7 @@ last-due t (Grant r p) k = absurd (true≢false k)
 last-due t (Senior a b) k = absurd (true≢false k)
 last-due t (Exclude x m) k = absurd (true≢false k)
 last-due t (Member r) k = absurd (true≢false k)
+last-due t (Limit r n) k = absurd (true≢false k)
 last-due t End k = none-due false (t .due) k
 last-due t Unknown k = absurd (true≢false k)
 
@@ -101,7 +105,8 @@ plain-at s place =
     (λ _. pick-case P (isKind w 3) _ _ (λ _. tt)
     (λ _. pick-case P (isKind w 4) _ _ (λ _. tt)
     (λ _. pick-case P (isKind w 5) _ _ (λ _. refl)
-    (λ _. pick-case P (isKind w 6) _ _ (λ _. tt) (λ _. pick-case P (isKind w 15) _ _ (λ _. tt) (λ _. tt))))))
+    (λ _. pick-case P (isKind w 6) _ _ (λ _. tt)
+    (λ _. pick-case P (isKind w 7) _ _ (λ _. tt) (λ _. pick-case P (isKind w 15) _ _ (λ _. tt) (λ _. tt)))))))
 
 module _ (s : List ℕ) (place : ℕ) (h : Head) (rows : List ℕ) (t : Scan) (final : Bool)
     (e : eqb (fault h rows t final (decode (wordAt s place))) 0 ≡ true) where

@@ -17,7 +17,7 @@ use borrow.Author.Tests.{eqb-true, eq-eqb, ne-eqb}
 use Rattle.model.specs.declared.Word.{Word}
 use Rattle.model.specs.declared.Exclusion.{Exclusion}
 use Rattle.model.specs.declared.Entry.{Entry}
-use Rattle.model.specs.declared.Entry.the-variants.{Assignment, Grant, Senior, Exclude, Member, End, Unknown}
+use Rattle.model.specs.declared.Entry.the-variants.{Assignment, Grant, Senior, Exclude, Member, Limit, End, Unknown}
 use Rattle.model.specs.Sets.{has, with}
 use Rattle.model.specs.Image.{user, role, permission, field, isKind, kindOf, behindHead, wordAt, decode, assigning, emptyRows}
 use Rattle.model.specs.Policy.{entryAt, entriesFrom, entriesOf, granting, ordering, fold, joining, withMembers, exclusionsOf, policyOf}
@@ -28,32 +28,35 @@ use Rattle.model.proofs.UnionLaws.{has-none}
 
 -- ---- entries told apart
 -- a number for each sort of entry
-abbrev sort : Entry → ℕ
+abbrev pub sort : Entry → ℕ
 sort (Assignment u r) = 0
 sort (Grant r p) = 1
 sort (Senior a b) = 2
 sort (Exclude x m) = 3
 sort (Member r) = 4
-sort End = 5
-sort Unknown = 6
+sort (Limit r t) = 5
+sort End = 6
+sort Unknown = 7
 
 -- the row of its table that an entry names
-abbrev rowOf : Entry → ℕ
+abbrev pub rowOf : Entry → ℕ
 rowOf (Assignment u r) = u .0
 rowOf (Grant r p) = r .0
 rowOf (Senior a b) = a .0
 rowOf (Exclude x m) = 0
 rowOf (Member r) = 0
+rowOf (Limit r t) = r .0
 rowOf End = 0
 rowOf Unknown = 0
 
 -- what an entry puts into that row, or into an exclusion
-abbrev itemOf : Entry → ℕ
+abbrev pub itemOf : Entry → ℕ
 itemOf (Assignment u r) = r .0
 itemOf (Grant r p) = p .0
 itemOf (Senior a b) = b .0
 itemOf (Exclude x m) = 0
 itemOf (Member r) = r .0
+itemOf (Limit r t) = t
 itemOf End = 0
 itemOf Unknown = 0
 
@@ -64,6 +67,7 @@ ownMembers (Grant r p) = 0
 ownMembers (Senior a b) = 0
 ownMembers (Exclude x m) = x .members
 ownMembers (Member r) = 0
+ownMembers (Limit r t) = 0
 ownMembers End = 0
 ownMembers Unknown = 0
 
@@ -148,6 +152,7 @@ assigning-length rows (Grant r p) = refl
 assigning-length rows (Senior a b) = refl
 assigning-length rows (Exclude x m) = refl
 assigning-length rows (Member r) = refl
+assigning-length rows (Limit r t) = refl
 assigning-length rows End = refl
 assigning-length rows Unknown = refl
 
@@ -158,6 +163,7 @@ granting-length rows (Grant r p) = length-set rows (r .0) (with (getD rows (r .0
 granting-length rows (Senior a b) = refl
 granting-length rows (Exclude x m) = refl
 granting-length rows (Member r) = refl
+granting-length rows (Limit r t) = refl
 granting-length rows End = refl
 granting-length rows Unknown = refl
 
@@ -168,6 +174,7 @@ ordering-length rows (Grant r p) = refl
 ordering-length rows (Senior a b) = length-set rows (a .0) (with (getD rows (a .0) 0) (b .0))
 ordering-length rows (Exclude x m) = refl
 ordering-length rows (Member r) = refl
+ordering-length rows (Limit r t) = refl
 ordering-length rows End = refl
 ordering-length rows Unknown = refl
 
@@ -183,6 +190,7 @@ module _ (u r : ℕ) where
   assigning-one rows (Senior a b) h = kept refl
   assigning-one rows (Exclude x m) h = kept refl
   assigning-one rows (Member q) h = kept refl
+  assigning-one rows (Limit q t) h = kept refl
   assigning-one rows End h = kept refl
   assigning-one rows Unknown h = kept refl
 
@@ -196,6 +204,7 @@ module _ (u r : ℕ) where
   granting-one rows (Senior a b) h = kept refl
   granting-one rows (Exclude x m) h = kept refl
   granting-one rows (Member q) h = kept refl
+  granting-one rows (Limit q t) h = kept refl
   granting-one rows End h = kept refl
   granting-one rows Unknown h = kept refl
 
@@ -209,6 +218,7 @@ module _ (u r : ℕ) where
       (λ e. (ap rowOf e, ap itemOf e), λ e i. Senior (record { 0 = e .0 i }) (record { 0 = e .1 i }))
   ordering-one rows (Exclude x m) h = kept refl
   ordering-one rows (Member q) h = kept refl
+  ordering-one rows (Limit q t) h = kept refl
   ordering-one rows End h = kept refl
   ordering-one rows Unknown h = kept refl
 
@@ -305,7 +315,7 @@ module _ (P : Entry → Type 0)
     → P (Assignment (user (field w 22 6)) (role (field w 16 6))) × P (Grant (role (field w 22 6)) (permission (field w 14 8)))
     × P (Senior (role (field w 22 6)) (role (field w 16 6)))
     × P (Exclude (record { kind = kindOf (field w 26 2); limit = field w 19 7; members = 0 }) (field w 12 7))
-    × P (Member (role (field w 22 6))) × P End × P Unknown) where
+    × P (Member (role (field w 22 6))) × P (Limit (role (field w 22 6)) (field w 13 9)) × P End × P Unknown) where
   -- the fact of a word's entry
   of-word : Word → Type 0
   of-word d = P (d .entry)
@@ -319,7 +329,8 @@ module _ (P : Entry → Type 0)
       (λ e. pick-case of-word (isKind w 4) _ _ (λ e. by-kind w .2)
       (λ e. pick-case of-word (isKind w 5) _ _ (λ e. by-kind w .3)
       (λ e. pick-case of-word (isKind w 6) _ _ (λ e. by-kind w .4)
-      (λ e. pick-case of-word (isKind w 15) _ _ (λ e. by-kind w .5) (λ e. by-kind w .6))))))
+      (λ e. pick-case of-word (isKind w 7) _ _ (λ e. by-kind w .5)
+      (λ e. pick-case of-word (isKind w 15) _ _ (λ e. by-kind w .6) (λ e. by-kind w .7)))))))
 
   -- and of every entry of an image
   pub of-entry : (s : List ℕ) (e : Entry) → List·Memᴰ e (entriesOf s) → P e
@@ -327,14 +338,14 @@ module _ (P : Entry → Type 0)
   of-entry s e m = let w = entries-said s e .0 m in subst P (w .says) (decoded (wordAt s (w .place)))
 
 -- an entry of an image names a row below 64
-entry-row : (s : List ℕ) (e : Entry) → List·Memᴰ e (entriesOf s) → rowOf e < 64
+pub entry-row : (s : List ℕ) (e : Entry) → List·Memᴰ e (entriesOf s) → rowOf e < 64
 entry-row =
     of-entry (λ e. rowOf e < 64)
-    (λ w. let top = mod-lt (w / 2 ^ 22) (pow-pos 6) in (top, top, top, lit< tt, lit< tt, lit< tt, lit< tt))
+    (λ w. let top = mod-lt (w / 2 ^ 22) (pow-pos 6) in (top, top, top, lit< tt, lit< tt, top, lit< tt, lit< tt))
 
 -- an exclusion word brings no member itself
 entry-bare : (s : List ℕ) (e : Entry) → List·Memᴰ e (entriesOf s) → ownMembers e ≡ 0
-entry-bare = of-entry (λ e. ownMembers e ≡ 0) (λ w. (refl, refl, refl, refl, refl, refl, refl))
+entry-bare = of-entry (λ e. ownMembers e ≡ 0) (λ w. (refl, refl, refl, refl, refl, refl, refl, refl))
 
 -- ---- members
 -- one entry taken in: a role is put into an exclusion exactly if a member word names it
@@ -354,6 +365,7 @@ joining-one r s (Member q) h =
     write : (has s r ≡ true) ⊎ (Member (role r) ≡ Member q) → (has s r || eqb r (q .0)) ≡ true
     write (inl e) = or-l (has s r) (eqb r (q .0)) e
     write (inr e) = or-r (has s r) (eqb r (q .0)) (eq-eqb r (q .0) (ap itemOf e))
+joining-one r s (Limit q t) h = kept refl
 joining-one r s End h = kept refl
 joining-one r s Unknown h = kept refl
 
@@ -385,6 +397,7 @@ exclusions-behind (Grant r p) es m = m
 exclusions-behind (Senior a b) es m = m
 exclusions-behind (Exclude y k) es m = List·Memᴰ·tail m
 exclusions-behind (Member r) es m = m
+exclusions-behind (Limit r t) es m = m
 exclusions-behind End es m = m
 exclusions-behind Unknown es m = m
 
@@ -402,6 +415,7 @@ module _ (x : Exclusion) where
         | inr q ↦ excluded-behind (Exclude y k) es (exclusions-excluded es q)
       ]
   exclusions-excluded (Member r ∷ es) m = excluded-behind (Member r) es (exclusions-excluded es m)
+  exclusions-excluded (Limit r t ∷ es) m = excluded-behind (Limit r t) es (exclusions-excluded es m)
   exclusions-excluded (End ∷ es) m = excluded-behind End es (exclusions-excluded es m)
   exclusions-excluded (Unknown ∷ es) m = excluded-behind Unknown es (exclusions-excluded es m)
 

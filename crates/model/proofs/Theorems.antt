@@ -2,8 +2,8 @@
 -- Assumes nothing.
 use mathlib.Core.Path.{_≡_, sym}
 use mathlib.Core.Logic.{_↔_}
-use mathlib.Core.Bool.{true}
-use mathlib.Core.List.{List, _∷_, _++_}
+use mathlib.Core.Bool.{true, false}
+use mathlib.Core.List.{List, [], _∷_, _++_}
 use Prim.Native.Nat.{ℕ, _^_, _≤_, _<_}
 use native.Mathlib.Nat.{lt-of-lt-of-le}
 use lib.Pow.{pow-mono}
@@ -17,12 +17,13 @@ use Rattle.model.specs.declared.Checked.the-variants.{Accepted}
 use Rattle.model.specs.Tests.{isSome, all}
 use Rattle.model.specs.Sets.{has, count}
 use Rattle.model.specs.Judgement.{judge}
-use Rattle.model.specs.Policy.{Meaning, policyOf, entriesOf, withMembers, reached, carriedTable, granter, authorized, meaning, Agree}
+use Rattle.model.specs.Policy.{Meaning, policyOf, entriesOf, withMembers, reached, carriedTable, granter, authorized, hasLimits, meaning, Agree}
+use Rattle.model.specs.Limits.{Others, unbarred}
 use Rattle.model.specs.OwnWords.{ownWords}
 use Rattle.model.specs.Choice.{carriedBy, admissible}
 use Rattle.model.specs.Line.{lineSize}
-use Rattle.model.specs.Session.{explanation}
-use Rattle.model.specs.Ward.{holds, starred, settled}
+use Rattle.model.specs.Session.{Query, explanation}
+use Rattle.model.specs.Ward.{holds, starred, settled, carded}
 use Rattle.model.specs.Refusals.{isJudged, judgedImages, isLooped, loopedImages}
 use Rattle.model.specs.Returned.{isSeen, returnedCases, isChecked, checkedCases}
 use Rattle.model.specs.Texted.{isTexted, textCases}
@@ -31,9 +32,9 @@ use Rattle.model.specs.Chains.{Chain, Authorized, Carries, Provides, Gra
 use Rattle.model.specs.Explained.{ExplanationIs}
 use Rattle.model.specs.Ordered.{FewRoles, JudgeIs, Antisymmetric, LoopCallIs}
 use Rattle.model.specs.Ranges.{InRange}
-use Rattle.model.specs.Chosen.{ChoiceIs, RankIs}
-use Rattle.model.specs.Conditions.{Conditions, Admitted}
-use Rattle.model.specs.Independence.{Run, SameFor, Independent}
+use Rattle.model.specs.Chosen.{ChoiceIs, Unbarred, ChosenIs, RankIs}
+use Rattle.model.specs.Conditions.{Conditions, Admitted, Permitted}
+use Rattle.model.specs.Independence.{Run, toldOf, SameFor, Independent}
 use Rattle.model.specs.Apart.{Apart, ApartText}
 use Rattle.model.specs.Kept.{LineKept, RunKept}
 use Rattle.model.specs.Frames.{LineBytes, StepFrame, ShowKeeps, ExplainKeeps, ClausesKeep, AnswerKeepsLength, TextsKeep, SessionFrames}
@@ -51,6 +52,7 @@ use Rattle.model.proofs.ExplainedProof
 use Rattle.model.proofs.AnyWidth
 use Rattle.model.proofs.Ranks
 use Rattle.model.proofs.Choices
+use Rattle.model.proofs.Barred
 use Rattle.model.proofs.ConditionsProof
 use Rattle.model.proofs.IndependenceProof
 use Rattle.model.proofs.ApartProof
@@ -72,6 +74,10 @@ starred-cases = Cases.starred-hold
 -- further cases on what 01 says in words
 pub settled-cases : all holds settled ≡ true
 settled-cases = Cases.settled-hold
+
+-- cases on limits
+pub carded-cases : all holds carded ≡ true
+carded-cases = Cases.carded-hold
 
 -- images with their refusals 1 to 8, 22 and 23, each clause and each tie
 pub judged-cases : all isJudged judgedImages ≡ true
@@ -175,6 +181,17 @@ module _ (s : List ℕ) (h : Head) (accepted : judge s ≡ Accepted h) where
   pub choice-is : (u : ℕ) (l : Line) (k lower upper a b : ℕ) → ChoiceIs (meaning (policyOf s) u) l k lower upper a b
   choice-is u l k lower upper a b = Choices.choice (meaning (policyOf s) u) l k lower upper a b (unfold meaning in (own-below u))
 
+  -- an ask is answered with the one best admissible set without barred roles, and with none exactly if there is no such set
+  pub chosen-is : (u : ℕ) (x : Others) (l : Line) (k : ℕ) (q : Query) → ChosenIs (meaning (policyOf s) u) x l k q
+  chosen-is u x l k q = Barred.chosen-is (meaning (policyOf s) u) x l k (unfold meaning in (own-below u)) q
+
+  -- under a policy without limits nothing is barred: it is answered with `choose`
+  pub unlimited-choice : hasLimits (policyOf s) ≡ false → (u : ℕ) (x : Others) (l : Line) (k : ℕ)
+      → unbarred (meaning (policyOf s) u) x l k ≡ meaning (policyOf s) u
+  unlimited-choice e u x l k =
+      unfold meaning hasLimits in
+      (Barred.unlimited-choice (meaning (policyOf s) u) x l k (own-below u) (Barred.none-limited (policyOf s .limits) e))
+
   module _ (u : ℕ) (l : Line) (k lb ub t : ℕ) (open-k : k < length (l .sessions)) where
     -- below 2 ^ 64, what the set's roles carry is what the set provides
     provided : t < 2 ^ 64 → (q : ℕ) → (has (carriedBy (meaning (policyOf s) u) t) q ≡ true) ↔ Provides (policyOf s) t q
@@ -211,6 +228,13 @@ module _ (s : List ℕ) (h : Head) (accepted : judge s ≡ Accepted h) where
         let c = ConditionsProof.conditions (policyOf s) u l k lb ub t open-k in
         (λ e. admitted (c .0 e), λ a. c .1 (conditions a))
 
+    -- admissible without barred roles is those conditions and 001's CARD
+    pub permitted-is : (x : Others)
+        → ((admissible (meaning (policyOf s) u) l k lb ub t ≡ true) × Unbarred (meaning (policyOf s) u) x l k t) ↔ Permitted (policyOf s) u x l k lb ub t
+    permitted-is x =
+        let c = Barred.card-is (meaning (policyOf s) u) x l k t open-k in
+        (λ e. record { admitted = admissible-is .0 (e .0); card = c .0 (e .1) }, λ w. (admissible-is .1 (w .admitted), c .1 (w .card)))
+
   -- ---- soundness is kept
 
   -- exclusions pass to smaller counts, the zero line is sound, and every call on a sound line leaves a sound line
@@ -226,6 +250,14 @@ module _ (s : List ℕ) (h : Head) (accepted : judge s ≡ Accepted h) where
 -- two runs that are the same for a user tell that user the same, which is what the session rules give
 pub independence : (W u : ℕ) (r s : Run W) → SameFor W u r s → Independent W u r s
 independence = IndependenceProof.independence
+
+-- under a policy without limits a user is told nothing, and nothing is asked of two runs in that
+pub untold : (W u : ℕ) (r : Run W) → hasLimits (policyOf (r .image)) ≡ false → toldOf W u r ≡ []
+untold = IndependenceProof.untold
+
+pub untold-same : (W u : ℕ) (r s : Run W) → Agree u (policyOf (r .image)) (policyOf (s .image)) → hasLimits (policyOf (r .image)) ≡ false
+    → toldOf W u r ≡ toldOf W u s
+untold-same = IndependenceProof.untold-same
 
 -- images that are the same words, other users' assignments and the end word left out, have policies that agree: for a clause text the
 -- independence rule asks for no more than the words

@@ -1,7 +1,7 @@
 -- The zero line is sound, and a ledger of zeros is made of zero lines.
 -- Assumes nothing.
 use mathlib.Core.Path.{_≡_, refl, sym, ap, ap₂, _∙_, subst}
-use mathlib.Core.Bool.{true}
+use mathlib.Core.Bool.{Bool, true}
 use mathlib.Core.List.{List, [], _∷_}
 use Prim.Native.Nat.{ℕ, zero, suc, _+_, _-_, _*_, _<_}
 use native.Mathlib.Nat.{zero-add, suc-add}
@@ -13,14 +13,15 @@ use Rattle.model.specs.declared.Kind.the-variants.{SsDmer, MsDmer, SsHme
 use Rattle.model.specs.declared.Session.{Session}
 use Rattle.model.specs.declared.Line.{Line}
 use Rattle.model.specs.Bytes.{number}
-use Rattle.model.specs.Sets.{within}
+use Rattle.model.specs.Sets.{within, one}
 use Rattle.model.specs.Policy.{Meaning}
-use Rattle.model.specs.Line.{lineSize, readSessions, readLine, emptySession, activeIn, counted, exclusionsMet, sound}
+use Rattle.model.specs.Line.{lineSize, readSessions, readLine, emptySession, activeIn, holding, counted, exclusionsMet, sound}
 use Rattle.model.specs.Run.{lineAt}
 use Rattle.model.specs.Ranges.{Each}
 use Rattle.model.specs.Kept.{Fewer, Antitone, SoundBytes}
 use Rattle.model.proofs.Every.{at-all}
 use Rattle.model.proofs.TableLaws.{getD-filled}
+use Rattle.model.proofs.UnionLaws.{has-none}
 use Rattle.model.proofs.Inclusion.{none-within}
 use Rattle.model.proofs.SoundLaws.{SoundSession, SoundLine, empty-sound, parts-sound}
 use Rattle.model.proofs.LedgerLaws.{apart}
@@ -81,6 +82,17 @@ none-active : (W : ℕ) → activeIn (replicate W emptySession) ≡ 0
 unfolding activeIn emptySession
 none-active zero = refl
 none-active (suc W) = or-zero-l (activeIn (replicate W emptySession)) ∙ none-active W
+
+none-holding : (W r : ℕ) → holding r (replicate W emptySession) ≡ 0
+unfolding holding emptySession
+none-holding zero r = refl
+none-holding (suc W) r =
+    ap (λ (b : Bool). one b + holding r (replicate W emptySession)) (has-none r) ∙ omega (arith, none-holding W r)
+
+-- nor in the zero line
+pub zero-holding : (W r : ℕ) → holding r (readLine W (replicate (lineSize W) 0) .sessions) ≡ 0
+unfolding emptyLine
+zero-holding W r = ap (λ (l : Line). holding r (l .sessions)) (line-zero W (replicate (lineSize W) 0) (zeros (lineSize W))) ∙ none-holding W r
 
 module _ (W : ℕ) (m : Meaning) (anti : Antitone m) (none : m .allMet (λ k. 0) ≡ true) where
   -- no kind of exclusion counts a role in it

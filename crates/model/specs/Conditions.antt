@@ -4,25 +4,21 @@
 use mathlib.Core.Path.{_≡_}
 use mathlib.Core.Logic.{_≢_}
 use mathlib.Core.Bool.{true}
-use mathlib.Core.List.{List, _++_, List·Memᴰ}
-use Prim.Native.Nat.{ℕ, suc, _<_}
+use mathlib.Core.List.{List·Memᴰ}
+use Prim.Native.Nat.{ℕ, _+_, _<_}
 use lib.Dec.{eqb}
-use lib.ListN.{length, take, drop}
+use lib.ListN.{length, getD}
 use Rattle.model.specs.declared.Kind.{Kind}
 use Rattle.model.specs.declared.Kind.the-variants.{SsDmer, MsDmer, SsHmer, MsHmer}
 use Rattle.model.specs.declared.Exclusion.{Exclusion}
-use Rattle.model.specs.declared.Session.{Session}
 use Rattle.model.specs.declared.Line.{Line}
 use Rattle.model.specs.Tests.{pick}
 use Rattle.model.specs.Sets.{has, union, inter, count}
-use Rattle.model.specs.Policy.{Policy, authorized, meaning}
-use Rattle.model.specs.Line.{sessionAt, activeIn}
+use Rattle.model.specs.Policy.{Policy, limited, Meaning, authorized, meaning}
+use Rattle.model.specs.Line.{sessionAt, activeIn, holding, others, putIn}
+use Rattle.model.specs.Limits.{Others}
 use Rattle.model.specs.Choice.{carriedBy}
 use Rattle.model.specs.Chains.{Authorized, Provides}
-
--- the sessions other than session k
-unfoldable pub others : ℕ → List Session → List Session
-others k ss = take k ss ++ drop (suc k) ss
 
 -- role r is active in a session other than session k
 abbrev pub ActiveElsewhere : Line → ℕ → ℕ → Type 0
@@ -62,3 +58,12 @@ pub record Admitted (p : Policy) (u : ℕ) (l : Line) (k lb ub s : ℕ) : Type 0
   pub lower : (q : ℕ) → has lb q ≡ true → Provides p s q
   pub upper : (q : ℕ) → Provides p s q → has ub q ≡ true
   pub exclusions : (x : Exclusion) → List·Memᴰ x (p .exclusions) → (j : ℕ) → j < length (l .sessions) → MetAfter l k s j x
+
+-- 001's CARD: each limited role of s is active in fewer than t sessions, over all users, once s is put in
+abbrev pub Card : Meaning → Others → Line → ℕ → ℕ → Type 0
+Card m x l k s = (r : ℕ) → has s r ≡ true → limited (m .limits) r ≡ true → x .held r + holding r (putIn k s l .sessions) < getD (m .limits) r 0
+
+-- the conditions on the set that answers an ask, given what it is told of the other users
+pub record Permitted (p : Policy) (u : ℕ) (x : Others) (l : Line) (k lb ub s : ℕ) : Type 0 where
+  pub admitted : Admitted p u l k lb ub s
+  pub card : Card (meaning p u) x l k s

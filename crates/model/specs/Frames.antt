@@ -14,6 +14,7 @@ use Rattle.model.specs.declared.Line.{Line}
 use Rattle.model.specs.Tests.{all}
 use Rattle.model.specs.Policy.{Meaning}
 use Rattle.model.specs.Line.{lineSize, readLine, writeLine}
+use Rattle.model.specs.Limits.{Others}
 use Rattle.model.specs.Session.{Operation, open-session, close-session, sessionOf, queryOf, isText, rule}
 use Rattle.model.specs.Run.{Call, Event, step, answered, written, showBy, explainBy, clausesBy}
 
@@ -89,12 +90,12 @@ sessionBytes j bs = take 16 (drop (16 + 16 * j) bs)
 
 -- On a line bs, a call changes no byte of a session other than the one that it names. An open, which names none, changes nothing behind
 -- the eight bytes of open sessions, so no byte of any session; a close keeps the user's history.
-pub record SessionFrame (W : ℕ) (m : Meaning) (bs : List ℕ) : Type 0 where
-  pub others : (op : Operation) (j : ℕ) → ¬ (j ≡ sessionOf op) → sessionBytes j (rule W m bs op .line) ≡ sessionBytes j bs
-  pub by-open : (j : ℕ) → sessionBytes j (rule W m bs open-session .line) ≡ sessionBytes j bs
-  pub open-rest : drop 8 (rule W m bs open-session .line) ≡ drop 8 bs
-  pub close-history : (k : ℕ) → take 8 (drop 8 (rule W m bs (close-session k) .line)) ≡ take 8 (drop 8 bs)
+pub record SessionFrame (W : ℕ) (m : Meaning) (x : Others) (bs : List ℕ) : Type 0 where
+  pub others : (op : Operation) (j : ℕ) → ¬ (j ≡ sessionOf op) → sessionBytes j (rule W m x bs op .line) ≡ sessionBytes j bs
+  pub by-open : (j : ℕ) → sessionBytes j (rule W m x bs open-session .line) ≡ sessionBytes j bs
+  pub open-rest : drop 8 (rule W m x bs open-session .line) ≡ drop 8 bs
+  pub close-history : (k : ℕ) → take 8 (drop 8 (rule W m x bs (close-session k) .line)) ≡ take 8 (drop 8 bs)
 
 -- every line of bytes is framed so
 abbrev pub SessionFrames : ℕ → Type 0
-SessionFrames W = (m : Meaning) (bs : List ℕ) → areBytes bs ≡ true → length bs ≡ lineSize W → SessionFrame W m bs
+SessionFrames W = (m : Meaning) (x : Others) (bs : List ℕ) → areBytes bs ≡ true → length bs ≡ lineSize W → SessionFrame W m x bs

@@ -13,7 +13,7 @@ use Rattle.model.specs.declared.Head.{Head}
 use Rattle.model.specs.declared.Kind.{Kind}
 use Rattle.model.specs.declared.Kind.the-variants.{SsDmer, MsDmer, SsHmer, MsHmer}
 use Rattle.model.specs.declared.Entry.{Entry}
-use Rattle.model.specs.declared.Entry.the-variants.{Assignment, Grant, Senior, Exclude, Member, End, Unknown}
+use Rattle.model.specs.declared.Entry.the-variants.{Assignment, Grant, Senior, Exclude, Member, Limit, End, Unknown}
 use Rattle.model.specs.declared.Word.{Word}
 use Rattle.model.specs.declared.Scan.{Scan}
 use Rattle.model.specs.declared.Checked.{Checked}
@@ -63,7 +63,8 @@ decode w =
     (pick (isKind w 5)
     (says (Exclude (record { kind = kindOf (field w 26 2); limit = field w 19 7; members = 0 }) (field w 12 7)) (w % 2 ^ 12))
     (pick (isKind w 6) (says (Member (role (field w 22 6))) (w % 2 ^ 22))
-    (pick (isKind w 15) (says End 0) (says Unknown 0))))))
+    (pick (isKind w 7) (says (Limit (role (field w 22 6)) (field w 13 9)) (w % 2 ^ 13))
+    (pick (isKind w 15) (says End 0) (says Unknown 0)))))))
 
 -- ---- the faults of a word behind the head; `final` says that it is the last word, `rows` has the roles assigned so far, a row a user
 
@@ -74,16 +75,18 @@ wrongKind final due (Grant r p) = final || not (eqb due 0)
 wrongKind final due (Senior a b) = final || not (eqb due 0)
 wrongKind final due (Exclude x m) = final || not (eqb due 0)
 wrongKind final due (Member r) = final || eqb due 0
+wrongKind final due (Limit r t) = final || not (eqb due 0)
 wrongKind final due End = not final || not (eqb due 0)
 wrongKind final due Unknown = true
 
--- 5 where not: each number below U, R or P; m from 1 to R; n from 2 to m
+-- 5 where not: each number below U, R or P; m from 1 to R; n from 2 to m; t from 2 to 256
 unfoldable pub inRange : Head → Entry → Bool
 inRange h (Assignment u r) = ltb (u .0) (h .users) && ltb (r .0) (h .roles)
 inRange h (Grant r p) = ltb (r .0) (h .roles) && ltb (p .0) (h .permissions)
 inRange h (Senior a b) = ltb (a .0) (h .roles) && ltb (b .0) (h .roles)
 inRange h (Exclude x m) = between 1 m (h .roles) && between 2 (x .limit) m
 inRange h (Member r) = ltb (r .0) (h .roles)
+inRange h (Limit r t) = ltb (r .0) (h .roles) && between 2 t 256
 inRange h End = true
 inRange h Unknown = true
 
@@ -94,6 +97,7 @@ repeats t (Grant r p) = false
 repeats t (Senior a b) = eqb (a .0) (b .0)
 repeats t (Exclude x m) = false
 repeats t (Member r) = has (t .members) (r .0)
+repeats t (Limit r n) = false
 repeats t End = false
 repeats t Unknown = false
 
@@ -104,6 +108,7 @@ crowds rows t (Grant r p) = false
 crowds rows t (Senior a b) = false
 crowds rows t (Exclude x m) = leb 32 (t .exclusions)
 crowds rows t (Member r) = false
+crowds rows t (Limit r n) = false
 crowds rows t End = false
 crowds rows t Unknown = false
 
@@ -128,6 +133,7 @@ assigning rows (Grant r p) = rows
 assigning rows (Senior a b) = rows
 assigning rows (Exclude x m) = rows
 assigning rows (Member r) = rows
+assigning rows (Limit r t) = rows
 assigning rows End = rows
 assigning rows Unknown = rows
 
@@ -137,6 +143,7 @@ next t (Grant r p) = t
 next t (Senior a b) = t
 next t (Exclude x m) = record { exclusions = t .exclusions + 1; due = m; members = 0 }
 next t (Member r) = record { exclusions = t .exclusions; due = t .due - 1; members = with (t .members) (r .0) }
+next t (Limit r n) = t
 next t End = t
 next t Unknown = t
 

@@ -1,28 +1,31 @@
 -- The independence rule: what a user sees of a run, what the session rules give that user, and the claim that these are the same,
--- whatever the other users' assignments, lines and calls are.
+-- whatever the other users' assignments, lines and calls are. Under a policy with limits the rules go by what the user's asks are told
+-- of the other users, and by nothing else of them.
 -- Assumes nothing.
 use mathlib.Core.Path.{_≡_}
 use mathlib.Core.Bool.{Bool, true, false}
 use mathlib.Core.List.{List, [], _∷_}
 use Prim.Native.Nat.{ℕ, _*_, _<_}
 use lib.Dec.{eqb}
-use lib.ListN.{length}
+use lib.ListN.{length, getD, drop}
 use Rattle.model.specs.declared.Head.{Head}
 use Rattle.model.specs.declared.Checked.the-variants.{Accepted}
 use Rattle.model.specs.Tests.{any}
 use Rattle.model.specs.Judgement.{judge}
-use Rattle.model.specs.Policy.{Meaning, policyOf, meaning, onlyFor, Agree}
+use Rattle.model.specs.Policy.{Meaning, policyOf, hasLimits, meaning, onlyFor, Agree, Policy}
 use Rattle.model.specs.Line.{lineSize}
+use Rattle.model.specs.Limits.{Others, nobody}
 use Rattle.model.specs.Session.{Operation, isText, Result, rule}
-use Rattle.model.specs.Run.{Call, Event, lineAt, run}
+use Rattle.model.specs.Run.{Call, Event, lineAt, told, run}
 use Rattle.model.specs.OwnWords.{policyIn, ownWords}
 
 -- ---- the session rules alone
 
--- the session rules over a list of one user's calls, each on the line that the one before left: every answer, with the line after it
-unfoldable pub rules : ℕ → Meaning → List ℕ → List Operation → List Result
-rules W m bs [] = []
-rules W m bs (o ∷ os) = let r = rule W m bs o in r ∷ rules W m (r .line) os
+-- the session rules over a list of one user's calls, each on the line that the one before left: every answer, with the line after it;
+-- the calls are told the members of xs in turn, and nothing of other users where there is none
+unfoldable pub rules : ℕ → Meaning → List ℕ → List Others → List Operation → List Result
+rules W m bs xs [] = []
+rules W m bs xs (o ∷ os) = let r = rule W m (getD xs 0 nobody) bs o in r ∷ rules W m (r .line) (drop 1 xs) os
 
 -- ---- a run
 
@@ -57,6 +60,21 @@ seenBy z u (c ∷ cs) (e ∷ es) =
 unfoldable pub viewOf : (W u : ℕ) → Run W → List Result
 viewOf W u r = seenBy (lineSize W) u (r .calls) (eventsOf W r)
 
+-- what each of u's calls is told of the other users, from the ledger before it
+unfoldable pub toldBy : ℕ → Policy → ℕ → List ℕ → List Call → List Event → List Others
+toldBy W p u ledger [] es = []
+toldBy W p u ledger (c ∷ cs) [] = []
+toldBy W p u ledger (c ∷ cs) (e ∷ es) =
+    elim (eqb (c .user) u) [ true ↦ told W p ledger c ∷ toldBy W p u (e .ledger) cs es | false ↦ toldBy W p u (e .ledger) cs es ]
+
+-- what user u is told of the other users in a run, call by call; nothing at all under a policy without limits
+unfoldable pub toldOf : (W u : ℕ) → Run W → List Others
+toldOf W u r =
+    elim (hasLimits (policyOf (r .image))) [
+      | true ↦ toldBy W (policyOf (r .image)) u (r .ledger) (r .calls) (eventsOf W r)
+      | false ↦ []
+    ]
+
 -- the line of user u before the first call
 unfoldable pub firstLine : (W u : ℕ) → Run W → List ℕ
 firstLine W u r = lineAt (lineSize W) u (r .ledger)
@@ -80,19 +98,22 @@ unfoldable pub hasText : List Operation → Bool
 hasText os = any isText os
 
 -- two runs that are the same for user u, who has a line: the policies agree in all but other users' assignments, the first ledgers
--- agree in u's line, and u makes the same calls in the same order. Where a clause text is among them, both images, other users'
--- assignments and the end word left out, are the same words in the same order.
+-- agree in u's line, u makes the same calls in the same order and, where the policy has limits, is told the same of the other users.
+-- Where a clause text is among the calls, both images, other users' assignments and the end word left out, are the same words in the
+-- same order.
 pub record SameFor (W u : ℕ) (r s : Run W) : Type 0 where
   pub agree : Agree u (policyOf (r .image)) (policyOf (s .image))
   pub below : u < r .head .users
   pub line : firstLine W u r ≡ firstLine W u s
   pub calls : callsOf u (r .calls) ≡ callsOf u (s .calls)
   pub words : hasText (callsOf u (r .calls)) ≡ true → ownWords u (r .image) ≡ ownWords u (s .image)
+  pub told : toldOf W u r ≡ toldOf W u s
 
--- user u sees the same in both runs, and it is what the session rules give from u's own policy, first line and calls; nobody else's
--- call changes u's line. The rules may be fed the image's words in place of the policy, other users' assignments and the end word left out.
+-- user u sees the same in both runs, and it is what the session rules give from u's own policy, first line, calls and what those are
+-- told; nobody else's call changes u's line. The rules may be fed the image's words in place of the policy, other users' assignments and
+-- the end word left out.
 pub record Independent (W u : ℕ) (r s : Run W) : Type 0 where
   pub same : viewOf W u r ≡ viewOf W u s
-  pub by-rules : viewOf W u r ≡ rules W (meaning (onlyFor u (policyOf (r .image))) u) (firstLine W u r) (callsOf u (r .calls))
-  pub by-words : viewOf W u r ≡ rules W (meaning (policyIn (ownWords u (r .image))) u) (firstLine W u r) (callsOf u (r .calls))
+  pub by-rules : viewOf W u r ≡ rules W (meaning (onlyFor u (policyOf (r .image))) u) (firstLine W u r) (toldOf W u r) (callsOf u (r .calls))
+  pub by-words : viewOf W u r ≡ rules W (meaning (policyIn (ownWords u (r .image))) u) (firstLine W u r) (toldOf W u r) (callsOf u (r .calls))
   pub steady : SteadyFor W u r × SteadyFor W u s

@@ -21,14 +21,14 @@ unfoldable pub lowestOverReach : Policy → ℕ
 lowestOverReach p = lowest (λ u. ltb 16 (count 64 (authorized p u))) 0 (p .head .users)
 
 -- refused by n with the number x where it is below the bound, else judged further
-unfoldable pub barred : ℕ → ℕ → ℕ → Checked → Checked
-barred n x bound v = elim (ltb x bound) [ true ↦ Refused n x | false ↦ v ]
+unfoldable pub refusing : ℕ → ℕ → ℕ → Checked → Checked
+refusing n x bound v = elim (ltb x bound) [ true ↦ Refused n x | false ↦ v ]
 
 -- 22, loop: a role stands below itself; the lowest such role. 23, reach: a user may activate more than 16 roles; the lowest such user
 unfoldable pub judgeMeaning : Policy → Checked → Checked
 judgeMeaning p (Refused n place) = Refused n place
 judgeMeaning p (Accepted h) =
-    barred 22 (lowestOnLoop p) (p .head .roles) (barred 23 (lowestOverReach p) (p .head .users) (Accepted h))
+    refusing 22 (lowestOnLoop p) (p .head .roles) (refusing 23 (lowestOverReach p) (p .head .users) (Accepted h))
 
 -- 1 to 8 with a place, then 22 with a role, then 23 with a user
 unfoldable pub judge : List ℕ → Checked

@@ -9,6 +9,7 @@ use Rattle.model.specs.declared.Kind.{Kind}
 use Rattle.model.specs.Sets.{within}
 use Rattle.model.specs.Policy.{Policy, policyOf, Meaning, meaning}
 use Rattle.model.specs.Line.{lineSize, readLine, sound}
+use Rattle.model.specs.Limits.{Others}
 use Rattle.model.specs.Session.{Operation, rule}
 use Rattle.model.specs.Run.{Call, Event, lineAt, run}
 use Rattle.model.specs.Ranges.{Each}
@@ -25,11 +26,12 @@ Antitone m = (f g : Kind → ℕ) → Fewer f g → m .allMet g ≡ true → m .
 abbrev pub SoundBytes : ℕ → Meaning → List ℕ → Type 0
 SoundBytes W m bs = sound W m (readLine W bs) ≡ true
 
--- one user's line: exclusions pass to smaller counts, the zero line is sound, and every call on a sound line leaves a sound line
+-- one user's line: exclusions pass to smaller counts, the zero line is sound, and every call on a sound line leaves a sound line,
+-- whatever it is told of other users
 pub record LineKept (W : ℕ) (m : Meaning) : Type 0 where
   pub antitone : Antitone m
   pub zero-line : SoundBytes W m (replicate (lineSize W) 0)
-  pub call : (bs : List ℕ) → SoundBytes W m bs → (op : Operation) → SoundBytes W m (rule W m bs op .line)
+  pub call : (x : Others) (bs : List ℕ) → SoundBytes W m bs → (op : Operation) → SoundBytes W m (rule W m x bs op .line)
 
 -- the ledger has a line for each user, and every line is sound
 pub record SoundLedger (W : ℕ) (p : Policy) (ledger : List ℕ) : Type 0 where

@@ -6,6 +6,7 @@ pub mod Judgement
 pub mod Bytes
 pub mod Words
 pub mod Line
+pub mod Limits
 pub mod Choice
 pub mod Reduced
 pub mod Clauses

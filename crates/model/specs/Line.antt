@@ -10,7 +10,7 @@ use Rattle.model.specs.declared.Kind.the-variants.{SsDmer, MsDmer, SsHme
 use Rattle.model.specs.declared.Session.{Session}
 use Rattle.model.specs.declared.Line.{Line}
 use Rattle.model.specs.Tests.{all}
-use Rattle.model.specs.Sets.{has, union, within}
+use Rattle.model.specs.Sets.{has, union, within, one}
 use Rattle.model.specs.Bytes.{number, bytesOf}
 use Rattle.model.specs.Policy.{Meaning}
 
@@ -53,6 +53,15 @@ isOpen l k = has (l .opened) k
 unfoldable pub activeIn : List Session → ℕ
 activeIn [] = 0
 activeIn (s ∷ ss) = union (s .active) (activeIn ss)
+
+-- in how many of the sessions role r is active
+unfoldable pub holding : ℕ → List Session → ℕ
+holding r [] = 0
+holding r (s ∷ ss) = one (has (s .active) r) + holding r ss
+
+-- the sessions other than session k
+unfoldable pub others : ℕ → List Session → List Session
+others k ss = take k ss ++ drop (suc k) ss
 
 -- what each kind of exclusion counts at a session of the line
 unfoldable pub counted : Line → Session → Kind → ℕ

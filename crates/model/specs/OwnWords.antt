@@ -7,9 +7,9 @@ use Prim.Native.Nat.{ℕ, zero, suc, _+_}
 use lib.Dec.{eqb}
 use lib.ListN.{getD, drop}
 use Rattle.model.specs.declared.Entry.{Entry}
-use Rattle.model.specs.declared.Entry.the-variants.{Assignment, Grant, Senior, Exclude, Member, End, Unknown}
+use Rattle.model.specs.declared.Entry.the-variants.{Assignment, Grant, Senior, Exclude, Member, Limit, End, Unknown}
 use Rattle.model.specs.Image.{wordAt, behindHead, decode, assigning, headOf, emptyRows}
-use Rattle.model.specs.Policy.{Policy, fold, granting, ordering, exclusionsOf}
+use Rattle.model.specs.Policy.{Policy, fold, granting, ordering, exclusionsOf, limiting}
 
 -- n words of an image from the place on
 unfoldable pub wordsFrom : List ℕ → ℕ → ℕ → List ℕ
@@ -29,6 +29,7 @@ policyIn ws =
       granted = fold granting emptyRows (map entryOf (drop 1 ws));
       juniors = fold ordering emptyRows (map entryOf (drop 1 ws));
       exclusions = exclusionsOf (map entryOf (drop 1 ws));
+      limits = fold limiting emptyRows (map entryOf (drop 1 ws));
     }
 
 -- neither an assignment of another user nor the end
@@ -38,6 +39,7 @@ isOwn u (Grant r p) = true
 isOwn u (Senior a b) = true
 isOwn u (Exclude x m) = true
 isOwn u (Member r) = true
+isOwn u (Limit r t) = true
 isOwn u End = false
 isOwn u Unknown = true
 

@@ -1,7 +1,7 @@
--- What the words of an accepted image mean: the policy, four tables read off its entries, and what it means for one user.
+-- What the words of an accepted image mean: the policy, five tables read off its entries, and what it means for one user.
 -- Assumes nothing.
 use mathlib.Core.Path.{_≡_}
-use mathlib.Core.Bool.{Bool, _&&_}
+use mathlib.Core.Bool.{Bool, _&&_, _||_, not}
 use mathlib.Core.Option.{Option}
 use mathlib.Core.List.{List, [], _∷_, _++_, map}
 use Prim.Native.Nat.{ℕ, zero, suc, _+_}
@@ -12,7 +12,7 @@ use Rattle.model.specs.declared.Kind.{Kind}
 use Rattle.model.specs.declared.Kind.the-variants.{SsDmer, MsDmer, SsHmer, MsHmer}
 use Rattle.model.specs.declared.Exclusion.{Exclusion}
 use Rattle.model.specs.declared.Entry.{Entry}
-use Rattle.model.specs.declared.Entry.the-variants.{Assignment, Grant, Senior, Exclude, Member, End, Unknown}
+use Rattle.model.specs.declared.Entry.the-variants.{Assignment, Grant, Senior, Exclude, Member, Limit, End, Unknown}
 use Rattle.model.specs.Tests.{pick, any, all}
 use Rattle.model.specs.Sets.{has, union, inter, with, count, unionAt, lowestIn}
 use Rattle.model.specs.Image.{wordAt, behindHead, decode, assigning, headOf, emptyRows}
@@ -40,6 +40,7 @@ granting rows (Grant r p) = set rows (r .0) (with (getD rows (r .0) 0) (p .0))
 granting rows (Senior a b) = rows
 granting rows (Exclude x m) = rows
 granting rows (Member r) = rows
+granting rows (Limit r t) = rows
 granting rows End = rows
 granting rows Unknown = rows
 
@@ -50,8 +51,24 @@ ordering rows (Grant r p) = rows
 ordering rows (Senior a b) = set rows (a .0) (with (getD rows (a .0) 0) (b .0))
 ordering rows (Exclude x m) = rows
 ordering rows (Member r) = rows
+ordering rows (Limit r t) = rows
 ordering rows End = rows
 ordering rows Unknown = rows
+
+-- the smaller of a limit so far, 0 where there is none, and t
+unfoldable pub lesser : ℕ → ℕ → ℕ
+lesser a t = pick (eqb a 0 || ltb t a) t a
+
+-- row r: the limit of role r, the smallest that a word gives it, and 0 where it has none
+unfoldable pub limiting : List ℕ → Entry → List ℕ
+limiting rows (Assignment u r) = rows
+limiting rows (Grant r p) = rows
+limiting rows (Senior a b) = rows
+limiting rows (Exclude x m) = rows
+limiting rows (Member r) = rows
+limiting rows (Limit r t) = set rows (r .0) (lesser (getD rows (r .0) 0) t)
+limiting rows End = rows
+limiting rows Unknown = rows
 
 -- the entries, each taken into a by the step
 unfoldable pub fold : {A : Type 0} → (A → Entry → A) → A → List Entry → A
@@ -66,6 +83,7 @@ joining s (Grant r p) = s
 joining s (Senior a b) = s
 joining s (Exclude x m) = s
 joining s (Member r) = with s (r .0)
+joining s (Limit r t) = s
 joining s End = s
 joining s Unknown = s
 
@@ -80,6 +98,7 @@ exclusionsOf (Grant r p ∷ es) = exclusionsOf es
 exclusionsOf (Senior a b ∷ es) = exclusionsOf es
 exclusionsOf (Exclude x m ∷ es) = withMembers x (take m es) ∷ exclusionsOf es
 exclusionsOf (Member r ∷ es) = exclusionsOf es
+exclusionsOf (Limit r t ∷ es) = exclusionsOf es
 exclusionsOf (End ∷ es) = exclusionsOf es
 exclusionsOf (Unknown ∷ es) = exclusionsOf es
 
@@ -91,6 +110,7 @@ pub record Policy : Type 0 where
   pub granted : List ℕ
   pub juniors : List ℕ
   pub exclusions : List Exclusion
+  pub limits : List ℕ
 
 -- the policy of an image; of an accepted one, what its words mean
 unfoldable pub policyOf : List ℕ → Policy
@@ -101,6 +121,7 @@ policyOf s =
       granted = fold granting emptyRows (entriesOf s);
       juniors = fold ordering emptyRows (entriesOf s);
       exclusions = exclusionsOf (entriesOf s);
+      limits = fold limiting emptyRows (entriesOf s);
     }
 
 -- ---- what a role carries: the grants of the roles reached by a chain of senior words, its own among them (001: π)
@@ -158,10 +179,19 @@ authorized p u = unionAt (reached p) (getD (p .assigned) u 0)
 unfoldable pub met : (Kind → ℕ) → Exclusion → Bool
 met counted x = ltb (count 64 (inter (x .members) (counted (x .kind)))) (x .limit)
 
--- what the session rules see of a policy: the numbers of roles and permissions, the roles that the user may activate, what each role
--- carries and through which granting role, whether every exclusion is met where kind k counts the roles `counted k`, and the exclusions in
--- image order, by which the clause text alone goes
+-- role r has a limit in the table
+unfoldable pub limited : List ℕ → ℕ → Bool
+limited limits r = not (eqb (getD limits r 0) 0)
+
+-- some role has one
+unfoldable pub hasLimits : Policy → Bool
+hasLimits p = any (λ t. not (eqb t 0)) (p .limits)
+
+-- what the session rules see of a policy: the user's number, the numbers of roles and permissions, the roles that the user may activate,
+-- what each role carries and through which granting role, whether every exclusion is met where kind k counts the roles `counted k`, the
+-- exclusions in image order, by which the clause text alone goes, and the limits
 pub record Meaning : Type 0 where
+  pub user : ℕ
   pub roles : ℕ
   pub permissions : ℕ
   pub authorized : ℕ
@@ -169,10 +199,12 @@ pub record Meaning : Type 0 where
   pub granter : ℕ → ℕ → Option ℕ
   pub allMet : (Kind → ℕ) → Bool
   pub exclusions : List Exclusion
+  pub limits : List ℕ
 
 unfoldable pub meaning : Policy → ℕ → Meaning
 meaning p u =
     record {
+      user = u;
       roles = p .head .roles;
       permissions = p .head .permissions;
       authorized = authorized p u;
@@ -180,6 +212,7 @@ meaning p u =
       granter = granter p;
       allMet = λ counted. all (met counted) (p .exclusions);
       exclusions = p .exclusions;
+      limits = p .limits;
     }
 
 -- ---- policies that agree for one user
@@ -193,6 +226,7 @@ onlyFor u p =
       granted = p .granted;
       juniors = p .juniors;
       exclusions = p .exclusions;
+      limits = p .limits;
     }
 
 unfoldable pub kindNumber : Kind → ℕ
@@ -215,3 +249,4 @@ pub record Agree (u : ℕ) (p q : Policy) : Type 0 where
   pub grants : p .granted ≡ q .granted
   pub seniors : p .juniors ≡ q .juniors
   pub exclusions : (x : Exclusion) → excludes p x ≡ excludes q x
+  pub limits : p .limits ≡ q .limits

@@ -1,5 +1,5 @@
 -- What an accepted image says of its policy: every number is in its range, no user is assigned to more than 16 roles, and there are at
--- most 32 exclusions, each with a limit that its members can reach.
+-- most 32 exclusions, each with a limit that its members can reach; a role's limit is from 2 to 256.
 -- Assumes nothing.
 use mathlib.Core.Path.{_≡_}
 use mathlib.Core.Bool.{true}
@@ -8,7 +8,7 @@ use Prim.Native.Nat.{ℕ, _^_, _≤_, _<_}
 use lib.ListN.{getD, length}
 use Rattle.model.specs.declared.Exclusion.{Exclusion}
 use Rattle.model.specs.Sets.{has, count}
-use Rattle.model.specs.Policy.{Policy}
+use Rattle.model.specs.Policy.{Policy, limited}
 
 -- every member of the list has the property
 abbrev pub Each : {A : Type 0} → (A → Type 0) → List A → Type 0
@@ -37,6 +37,10 @@ TableInRange m n rows = (i j : ℕ) → has (getD rows i 0) j ≡ true → (i < 
 abbrev pub RowsBelow : ℕ → List ℕ → Type 0
 RowsBelow n rows = (i : ℕ) → getD rows i 0 < 2 ^ n
 
+-- a table of limits: what has one is below n, and it is from 2 to 256
+abbrev pub LimitsInRange : ℕ → List ℕ → Type 0
+LimitsInRange n rows = (r : ℕ) → limited rows r ≡ true → (r < n) × (2 ≤ getD rows r 0) × (getD rows r 0 ≤ 256)
+
 pub record InRange (p : Policy) : Type 0 where
   -- 1 to 64 users, 1 to 64 roles, 1 to 256 permissions
   pub users : OneTo 64 (p .head .users)
@@ -55,3 +59,5 @@ pub record InRange (p : Policy) : Type 0 where
   -- at most 32 exclusions, each in range
   pub few-exclusions : length (p .exclusions) ≤ 32
   pub exclusions : Each (ExclusionInRange (p .head .roles)) (p .exclusions)
+  -- what has a limit is a role, and its limit is from 2 to 256
+  pub limits : LimitsInRange (p .head .roles) (p .limits)

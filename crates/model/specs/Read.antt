@@ -8,10 +8,10 @@ use Prim.Native.Nat.{ℕ, _≤_}
 use lib.ListN.{getD, take}
 use Rattle.model.specs.declared.Exclusion.{Exclusion}
 use Rattle.model.specs.declared.Entry.{Entry}
-use Rattle.model.specs.declared.Entry.the-variants.{Assignment, Grant, Senior, Exclude, Member}
+use Rattle.model.specs.declared.Entry.the-variants.{Assignment, Grant, Senior, Exclude, Member, Limit}
 use Rattle.model.specs.Sets.{has}
 use Rattle.model.specs.Image.{user, role, permission, behindHead}
-use Rattle.model.specs.Policy.{entryAt, entriesOf, withMembers, policyOf}
+use Rattle.model.specs.Policy.{entryAt, entriesOf, withMembers, policyOf, limited}
 
 -- a word behind the head says e
 pub record Said (s : List ℕ) (e : Entry) : Type 0 where
@@ -49,3 +49,14 @@ pub record ReadOff (s : List ℕ) : Type 0 where
   -- role r is a member of an exclusion that takes its members from the entries es
   pub members : (y : Exclusion) (es : List Entry) (r : ℕ)
       → (has (withMembers y es .members) r ≡ true) ↔ ((has (y .members) r ≡ true) ⊎ List·Memᴰ (Member (role r)) es)
+
+-- a word gives role r the limit t, and none gives it a smaller one
+pub record Smallest (es : List Entry) (r t : ℕ) : Type 0 where
+  pub said : List·Memᴰ (Limit (role r) t) es
+  pub least : (n : ℕ) → List·Memᴰ (Limit (role r) n) es → t ≤ n
+
+-- the limits of the policy of the image s, which is accepted, are the smallest that its words give: role r has a limit exactly if a word
+-- gives it one, and it is t exactly if t is the smallest
+pub record LimitsRead (s : List ℕ) : Type 0 where
+  pub is-limited : (r : ℕ) → (limited (policyOf s .limits) r ≡ true) ↔ ((t : ℕ) × List·Memᴰ (Limit (role r) t) (entriesOf s))
+  pub is-limit : (r t : ℕ) → limited (policyOf s .limits) r ≡ true → (getD (policyOf s .limits) r 0 ≡ t) ↔ Smallest (entriesOf s) r t

@@ -7,8 +7,7 @@ use Rattle.model.specs.declared.Kind.{Kind}
 use Rattle.model.specs.declared.Kind.the-variants.{SsDmer, MsDmer, SsHmer, MsHmer}
 use Rattle.model.specs.declared.Line.{Line}
 use Rattle.model.specs.Sets.{inter, count}
-use Rattle.model.specs.Line.{sessionAt, activeIn}
-use Rattle.model.specs.Conditions.{others}
+use Rattle.model.specs.Line.{sessionAt, activeIn, others}
 
 -- what stays counted for each kind: the roles active in a session are replaced, those active elsewhere and the histories stay
 unfoldable pub stay : Kind → ℕ → ℕ → ℕ → ℕ

@@ -84,10 +84,10 @@ judgedImages =
     ∷ judged (edited 0 (0x102080B0 ∷ [])) 2 0
     -- the largest head
     ∷ judged (edited 0 (0x18102000 ∷ [])) 0 0
-    -- 3, kind: 0, 1, 7 and 14, a member not due, no member where due, an end before the end, a last word that is no end
+    -- 3, kind: 0, 1, 8 and 14, a member not due, no member where due, an end before the end, a last word that is no end
     ∷ judged (edited 3 (0x00000000 ∷ [])) 3 3
     ∷ judged (edited 3 (0x102080A0 ∷ [])) 3 3
-    ∷ judged (edited 3 (0x70000000 ∷ [])) 3 3
+    ∷ judged (edited 3 (0x80000000 ∷ [])) 3 3
     ∷ judged (edited 3 (0xE0000000 ∷ [])) 3 3
     ∷ judged (edited 3 (0x60000000 ∷ [])) 3 3
     ∷ judged (edited 10 (0x20000000 ∷ [])) 3 10
@@ -128,6 +128,24 @@ judgedImages =
     ∷ judged (imageBytes (ended (wide (assignments 17)))) 7 17
     ∷ judged (imageBytes (ended (0x102080A0 ∷ exclusionWords 32))) 0 0
     ∷ judged (imageBytes (ended (0x102080A0 ∷ exclusionWords 33))) 7 97
+    -- limits: the smallest and the largest t, in any place, several for one role; 3 where a member is due and as the last word;
+    -- 4 for a spare bit, and the highest; 5 for the role and for t of 0, 1, 257 and 511; ties
+    ∷ judged (edited 3 (0x70004000 ∷ [])) 0 0
+    ∷ judged (edited 1 (0x70600000 ∷ [])) 0 0
+    ∷ judged (edited 9 (0x70004000 ∷ 0x54102000 ∷ [])) 0 0
+    ∷ judged (edited 12 (0x70004000 ∷ 0x70006000 ∷ 0x70004000 ∷ [])) 0 0
+    ∷ judged (edited 10 (0x70004000 ∷ [])) 3 10
+    ∷ judged (edited 11 (0x70004000 ∷ [])) 3 11
+    ∷ judged (imageBytes (take 9 bodyA ++ (0x70004000 ∷ []))) 3 9
+    ∷ judged (edited 3 (0x70004001 ∷ [])) 4 3
+    ∷ judged (edited 3 (0x70005000 ∷ [])) 4 3
+    ∷ judged (edited 3 (0x70804000 ∷ [])) 5 3
+    ∷ judged (edited 3 (0x70000000 ∷ [])) 5 3
+    ∷ judged (edited 3 (0x70002000 ∷ [])) 5 3
+    ∷ judged (edited 3 (0x70202000 ∷ [])) 5 3
+    ∷ judged (edited 3 (0x703FE000 ∷ [])) 5 3
+    ∷ judged (edited 10 (0x70802001 ∷ [])) 3 10
+    ∷ judged (edited 3 (0x70802001 ∷ [])) 4 3
     -- 8, balance, at the last word; a sum that drops its carries
     ∷ judged (imageBytes (bodyA ++ (0xFB0B9F61 ∷ []))) 8 12
     ∷ judged (imageBytes (bodyA ++ (0xF30B9F60 ∷ []))) 8 12
@@ -142,7 +160,7 @@ judgedImages =
     ∷ judged (imageBytes (ended (0x102080A0 ∷ (exclusionWords 32 ++ (0x54182000 ∷ []))))) 5 97
     -- two bad words: the earlier, whatever the numbers; 8 last
     ∷ judged (edited 1 (0x40000000 ∷ 0x20000001 ∷ [])) 6 1
-    ∷ judged (edited 1 (0x20400000 ∷ 0x70000000 ∷ [])) 5 1
+    ∷ judged (edited 1 (0x20400000 ∷ 0x80000000 ∷ [])) 5 1
     ∷ judged (unbalanced 1 (0x20400000 ∷ [])) 5 1
     ∷ judged (imageBytes (wide (assignments 17) ++ (0xF0000001 ∷ []))) 7 17
     ∷ judged (take 4 (imageBytes (0 ∷ [])) ++ imageBytes (drop 1 imageA)) 2 0

@@ -442,7 +442,7 @@ checkedCases =
     ∷ checks [] 1
     ∷ checks (replicate 16384 0) 2
     -- 3 to 8, each with 256 times the place
-    ∷ checks (edited 3 (0x70000000 ∷ [])) 771
+    ∷ checks (edited 3 (0x80000000 ∷ [])) 771
     ∷ checks (edited 10 (0x60200000 ∷ [])) 2564
     ∷ checks (edited 10 (0x60800000 ∷ [])) 2565
     ∷ checks (edited 11 (0x60000000 ∷ [])) 2822

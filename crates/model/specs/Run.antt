@@ -1,18 +1,21 @@
 -- Calls on a whole ledger, and runs of them: the image is judged, the ledger's length and the user's number are tested, and the session
--- rules are fed the user's line.
+-- rules are fed the user's line and, at an ask under a policy with limits, what the other users' lines hold.
 -- Assumes nothing.
-use mathlib.Core.Bool.{not}
+use mathlib.Core.Bool.{not, Bool, true, false, _&&_}
 use mathlib.Core.List.{List, [], _∷_, _++_}
 use Prim.Native.Nat.{ℕ, _+_, _*_}
 use lib.Dec.{eqb, ltb}
 use lib.ListN.{length, take, drop}
+use Rattle.model.specs.declared.Line.{Line}
 use Rattle.model.specs.declared.Checked.{Checked}
 use Rattle.model.specs.declared.Checked.the-variants.{Accepted, Refused}
-use Rattle.model.specs.Tests.{pick}
+use Rattle.model.specs.Tests.{pick, first}
+use Rattle.model.specs.Sets.{sumTo}
 use Rattle.model.specs.Judgement.{judge}
-use Rattle.model.specs.Policy.{Policy, policyOf, meaning}
-use Rattle.model.specs.Line.{lineSize}
-use Rattle.model.specs.Session.{Operation, open-session, close-session, ask, short-ask, show, explain, clauses, Reply, refuse, rule}
+use Rattle.model.specs.Policy.{Policy, policyOf, tableOf, limited, hasLimits, meaning}
+use Rattle.model.specs.Line.{lineSize, readLine, holding, sound}
+use Rattle.model.specs.Limits.{Others, nobody}
+use Rattle.model.specs.Session.{Operation, open-session, close-session, ask, short-ask, show, explain, clauses, isAsk, Reply, refuse, rule}
 
 -- a call is made by the user that it names
 pub record Call : Type 0 where
@@ -29,6 +32,35 @@ lineAt z u ledger = take z (drop (z * u) ledger)
 unfoldable pub withLine : ℕ → ℕ → List ℕ → List ℕ → List ℕ
 withLine z u bs ledger = take (z * u) ledger ++ (bs ++ drop (z * u + z) ledger)
 
+-- the line of user u as a value, for W sessions
+unfoldable pub lineOf : ℕ → List ℕ → ℕ → Line
+lineOf W ledger u = readLine W (lineAt (lineSize W) u ledger)
+
+-- ---- the other users, under an accepted policy
+
+-- in how many sessions of user v role r is active
+unfoldable pub holdingOf : ℕ → List ℕ → ℕ → ℕ → ℕ
+holdingOf W ledger r v = holding r (lineOf W ledger v .sessions)
+
+-- in how many sessions of users other than u role r is active
+unfoldable pub heldByOthers : ℕ → Policy → ℕ → List ℕ → ℕ → ℕ
+heldByOthers W p u ledger r = sumTo (λ v. pick (eqb v u) 0 (holdingOf W ledger r v)) (p .head .users)
+
+-- v is a user other than u whose line is not sound
+unfoldable pub unsoundOther : ℕ → Policy → ℕ → List ℕ → ℕ → Bool
+unsoundOther W p u ledger v = not (eqb v u) && not (sound W (meaning p v) (lineOf W ledger v))
+
+unfoldable pub othersOf : ℕ → Policy → ℕ → List ℕ → Others
+othersOf W p u ledger =
+    record {
+      held = λ r. pick (limited (p .limits) r) (heldByOthers W p u ledger r) 0;
+      unsound = first (unsoundOther W p u ledger) (tableOf (p .head .users) (λ v. v));
+    }
+
+-- what a call is told of the other users: nothing, unless it is an ask and the policy has limits
+unfoldable pub told : ℕ → Policy → List ℕ → Call → Others
+told W p ledger c = elim (isAsk (c .operation) && hasLimits p) [ true ↦ othersOf W p (c .user) ledger | false ↦ nobody ]
+
 -- ---- one call
 
 -- an answer, and the ledger after the call
@@ -39,7 +71,7 @@ pub record Event : Type 0 where
 -- of a user with a line
 unfoldable pub ruled : ℕ → Policy → List ℕ → Call → Event
 ruled W p ledger c =
-    let r = rule W (meaning p (c .user)) (lineAt (lineSize W) (c .user) ledger) (c .operation) in
+    let r = rule W (meaning p (c .user)) (told W p ledger c) (lineAt (lineSize W) (c .user) ledger) (c .operation) in
     record { reply = r .reply; ledger = withLine (lineSize W) (c .user) (r .line) ledger }
 
 -- under an accepted policy: 9 for a ledger that does not fit, 10 for a user without a line

@@ -1,4 +1,4 @@
--- The session rules: what a call does to one user's line, and what it answers.
+-- The session rules: what a call does to one user's line, and what it answers, given what it is told of the other users.
 -- Assumes nothing.
 use mathlib.Core.Bool.{Bool, true, false, _&&_, _||_, not}
 use mathlib.Core.Option.{Option, none, some}
@@ -12,6 +12,7 @@ use Rattle.model.specs.Sets.{within, count, lowestIn}
 use Rattle.model.specs.Bytes.{number, bytesOf}
 use Rattle.model.specs.Policy.{Meaning}
 use Rattle.model.specs.Line.{readLine, writeLine, sessionAt, isOpen, sound, lowestClosed, opening, closing, putIn}
+use Rattle.model.specs.Limits.{Others, unbarred}
 use Rattle.model.specs.Choice.{carriedBy, choose}
 use Rattle.model.specs.Dimacs.{textOf}
 
@@ -70,6 +71,16 @@ isText (show k room) = false
 isText (explain k n) = false
 isText (clauses k q) = true
 
+-- an ask, of either form, or a clause text: the calls that look at the other users, under a policy with limits
+unfoldable pub isAsk : Operation → Bool
+isAsk open-session = false
+isAsk (close-session k) = false
+isAsk (ask k q) = true
+isAsk (short-ask k lower upper room) = true
+isAsk (show k room) = false
+isAsk (explain k n) = false
+isAsk (clauses k q) = true
+
 -- ---- answers
 
 -- a call's answer: its number, its extra, and the bytes that fill the answer buffer, none where it is left alone
@@ -97,14 +108,16 @@ pub record Result : Type 0 where
   pub reply : Reply
   pub line : List ℕ
 
--- ---- the refusals 11 to 20, by the words of the register; two are of one permission, and `too-long` is of a clause text
+-- ---- the refusals 11 to 20, by the words of the register; 11 for another user's line, and for the user's own; two are of one permission,
+-- and `too-long` is of a clause text
 
 pub data Refusal : Type 0 where
-  bad-line bad-session is-closed is-full bad-set bad-permission bad-bounds bad-aim bad-room no-set : Refusal
+  bad-other bad-line bad-session is-closed is-full bad-set bad-permission bad-bounds bad-aim bad-room no-set : Refusal
   not-below not-carried : ℕ → Refusal
   too-long : Refusal
 
 unfoldable pub refusalNumber : Refusal → ℕ
+refusalNumber bad-other = 11
 refusalNumber bad-line = 11
 refusalNumber bad-session = 12
 refusalNumber is-closed = 13
@@ -123,19 +136,24 @@ refusalNumber too-long = 19
 unfoldable pub canGive : Operation → List Refusal
 canGive open-session = bad-line ∷ is-full ∷ []
 canGive (close-session k) = bad-line ∷ bad-session ∷ is-closed ∷ []
-canGive (ask k q) = bad-line ∷ bad-session ∷ is-closed ∷ bad-set ∷ bad-permission ∷ bad-bounds ∷ bad-aim ∷ bad-room ∷ no-set ∷ []
-canGive (short-ask k lower upper room) = bad-line ∷ bad-session ∷ is-closed ∷ bad-set ∷ bad-permission ∷ bad-bounds ∷ bad-room ∷ no-set ∷ []
+canGive (ask k q) = bad-other ∷ bad-line ∷ bad-session ∷ is-closed ∷ bad-set ∷ bad-permission ∷ bad-bounds ∷ bad-aim ∷ bad-room ∷ no-set ∷ []
+canGive (short-ask k lower upper room) = bad-other ∷ bad-line ∷ bad-session ∷ is-closed ∷ bad-set ∷ bad-permission ∷ bad-bounds ∷ bad-room ∷ no-set ∷ []
 canGive (show k room) = bad-line ∷ bad-session ∷ is-closed ∷ bad-room ∷ []
 canGive (explain k n) = bad-line ∷ bad-session ∷ is-closed ∷ not-below n ∷ not-carried n ∷ []
-canGive (clauses k q) = bad-line ∷ bad-session ∷ is-closed ∷ bad-set ∷ bad-permission ∷ bad-bounds ∷ bad-aim ∷ too-long ∷ []
+canGive (clauses k q) = bad-other ∷ bad-line ∷ bad-session ∷ is-closed ∷ bad-set ∷ bad-permission ∷ bad-bounds ∷ bad-aim ∷ too-long ∷ []
 
--- the set that a query is answered with
-unfoldable pub chosen : Meaning → Line → ℕ → Query → Option ℕ
-chosen m l k q = choose m l k (number (q .lower)) (number (q .upper)) (q .permissionAim) (q .roleAim)
+-- the set that a query is answered with: the best one without barred roles
+unfoldable pub chosen : Meaning → Others → Line → ℕ → Query → Option ℕ
+chosen m x l k q = choose (unbarred m x l k) l k (number (q .lower)) (number (q .upper)) (q .permissionAim) (q .roleAim)
 
--- the clause text of a query
-unfoldable pub textFor : Meaning → Line → ℕ → Query → List ℕ
-textFor m l k q = textOf m l k (number (q .lower)) (number (q .upper)) (q .permissionAim) (q .roleAim)
+-- a user's number plus 1, 0 where there is none
+unfoldable pub numberAfter : Option ℕ → ℕ
+numberAfter none = 0
+numberAfter (some v) = v + 1
+
+-- the clause text of a query, in which barred roles are not the user's
+unfoldable pub textFor : Meaning → Others → Line → ℕ → Query → List ℕ
+textFor m x l k q = textOf (unbarred m x l k) l k (number (q .lower)) (number (q .upper)) (q .permissionAim) (q .roleAim)
 
 unfoldable pub isNone : Option ℕ → Bool
 isNone none = true
@@ -159,21 +177,27 @@ withGranter name (some r) = twoRoles r (name r)
 unfoldable pub explanation : (ℕ → Option ℕ) → ℕ → Option ℕ
 explanation name s = withGranter name (carrier name s)
 
--- the case of a refusal holds, for W sessions, the meaning of the policy, the line, the session named and the query
-unfoldable pub applies : ℕ → Meaning → Line → ℕ → Query → Refusal → Bool
-applies W m l k q bad-line = not (sound W m l)
-applies W m l k q bad-session = leb W k
-applies W m l k q is-closed = not (isOpen l k)
-applies W m l k q is-full = eqb (count W (l .opened)) W
-applies W m l k q bad-set = not (eqb (length (q .lower)) 32 && eqb (length (q .upper)) 32)
-applies W m l k q bad-permission = not (ltb (number (q .lower)) (2 ^ m .permissions) && ltb (number (q .upper)) (2 ^ m .permissions))
-applies W m l k q bad-bounds = not (within (number (q .lower)) (number (q .upper)))
-applies W m l k q bad-aim = ltb 2 (q .permissionAim) || ltb 2 (q .roleAim)
-applies W m l k q bad-room = not (eqb (q .room) 40)
-applies W m l k q no-set = isNone (chosen m l k q)
-applies W m l k q (not-below n) = not (ltb n (m .permissions))
-applies W m l k q (not-carried n) = isNone (explanation (m .granter n) (sessionAt l k .active))
-applies W m l k q too-long = ltb (q .room) (length (textFor m l k q))
+-- the lowest line that is not sound is that of another user, where `own` says that the user's own is sound
+unfoldable pub otherFirst : Bool → ℕ → Option ℕ → Bool
+otherFirst own u none = false
+otherFirst own u (some v) = own || ltb v u
+
+-- the case of a refusal holds, for W sessions, the meaning of the policy, what is told, the line, the session named and the query
+unfoldable pub applies : ℕ → Meaning → Others → Line → ℕ → Query → Refusal → Bool
+applies W m x l k q bad-other = otherFirst (sound W m l) (m .user) (x .unsound)
+applies W m x l k q bad-line = not (sound W m l)
+applies W m x l k q bad-session = leb W k
+applies W m x l k q is-closed = not (isOpen l k)
+applies W m x l k q is-full = eqb (count W (l .opened)) W
+applies W m x l k q bad-set = not (eqb (length (q .lower)) 32 && eqb (length (q .upper)) 32)
+applies W m x l k q bad-permission = not (ltb (number (q .lower)) (2 ^ m .permissions) && ltb (number (q .upper)) (2 ^ m .permissions))
+applies W m x l k q bad-bounds = not (within (number (q .lower)) (number (q .upper)))
+applies W m x l k q bad-aim = ltb 2 (q .permissionAim) || ltb 2 (q .roleAim)
+applies W m x l k q bad-room = not (eqb (q .room) 40)
+applies W m x l k q no-set = isNone (chosen m x l k q)
+applies W m x l k q (not-below n) = not (ltb n (m .permissions))
+applies W m x l k q (not-carried n) = isNone (explanation (m .granter n) (sessionAt l k .active))
+applies W m x l k q too-long = ltb (q .room) (length (textFor m x l k q))
 
 -- ---- a call that nothing refuses; bs are the bytes of the line l
 
@@ -187,25 +211,42 @@ unfoldable pub explained : List ℕ → Option ℕ → Result
 explained bs none = record { reply = refuse 20 0; line = bs }
 explained bs (some x) = record { reply = done x; line = bs }
 
-unfoldable pub perform : ℕ → Meaning → Line → List ℕ → Operation → Result
-perform W m l bs open-session = let k = lowestClosed l 0 W in record { reply = done k; line = writeLine (opening k l) }
-perform W m l bs (close-session k) = record { reply = done 0; line = writeLine (closing k l) }
-perform W m l bs (ask k q) = asked m l bs k (chosen m l k q)
-perform W m l bs (short-ask k lower upper room) = asked m l bs k (chosen m l k (queryOf (short-ask k lower upper room)))
-perform W m l bs (show k room) = record { reply = given (sessionAt l k .active) (carriedBy m (sessionAt l k .active)); line = bs }
-perform W m l bs (explain k n) = explained bs (explanation (m .granter n) (sessionAt l k .active))
-perform W m l bs (clauses k q) = record { reply = wrote (textFor m l k q); line = bs }
+unfoldable pub perform : ℕ → Meaning → Others → Line → List ℕ → Operation → Result
+perform W m x l bs open-session = let k = lowestClosed l 0 W in record { reply = done k; line = writeLine (opening k l) }
+perform W m x l bs (close-session k) = record { reply = done 0; line = writeLine (closing k l) }
+perform W m x l bs (ask k q) = asked m l bs k (chosen m x l k q)
+perform W m x l bs (short-ask k lower upper room) = asked m l bs k (chosen m x l k (queryOf (short-ask k lower upper room)))
+perform W m x l bs (show k room) = record { reply = given (sessionAt l k .active) (carriedBy m (sessionAt l k .active)); line = bs }
+perform W m x l bs (explain k n) = explained bs (explanation (m .granter n) (sessionAt l k .active))
+perform W m x l bs (clauses k q) = record { reply = wrote (textFor m x l k q); line = bs }
 
 -- ---- the rules
 
+-- a refusal's extra: for another user's line that user plus 1, else 0
+unfoldable pub refusalExtra : Others → Refusal → ℕ
+refusalExtra x bad-other = numberAfter (x .unsound)
+refusalExtra x bad-line = 0
+refusalExtra x bad-session = 0
+refusalExtra x is-closed = 0
+refusalExtra x is-full = 0
+refusalExtra x bad-set = 0
+refusalExtra x bad-permission = 0
+refusalExtra x bad-bounds = 0
+refusalExtra x bad-aim = 0
+refusalExtra x bad-room = 0
+refusalExtra x no-set = 0
+refusalExtra x (not-below n) = 0
+refusalExtra x (not-carried n) = 0
+refusalExtra x too-long = 0
+
 -- the refusal, which leaves the line alone, or else the work done
-unfoldable pub unless : Option Refusal → List ℕ → Result → Result
-unless none bs r = r
-unless (some f) bs r = record { reply = refuse (refusalNumber f) 0; line = bs }
+unfoldable pub unless : Others → Option Refusal → List ℕ → Result → Result
+unless x none bs r = r
+unless x (some f) bs r = record { reply = refuse (refusalNumber f) (refusalExtra x f); line = bs }
 
 -- the lowest number whose case holds among those that the call can give, else what is written for the call
-unfoldable pub rule : ℕ → Meaning → List ℕ → Operation → Result
-rule W m bs op =
+unfoldable pub rule : ℕ → Meaning → Others → List ℕ → Operation → Result
+rule W m x bs op =
     let l = readLine W bs in
-    let r = perform W m l bs op in
-    unless (first (applies W m l (sessionOf op) (queryOf op)) (canGive op)) bs r
+    let r = perform W m x l bs op in
+    unless x (first (applies W m x l (sessionOf op) (queryOf op)) (canGive op)) bs r

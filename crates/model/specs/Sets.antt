@@ -47,6 +47,11 @@ unfoldable pub countTo : (ℕ → Bool) → ℕ → ℕ
 countTo f zero = 0
 countTo f (suc d) = one (f d) + countTo f d
 
+-- the sum of f at the numbers below d
+unfoldable pub sumTo : (ℕ → ℕ) → ℕ → ℕ
+sumTo f zero = 0
+sumTo f (suc d) = f d + sumTo f d
+
 -- how many members below d the set s has
 unfoldable pub count : ℕ → ℕ → ℕ
 unfolding countTo

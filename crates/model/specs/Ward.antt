@@ -1,16 +1,15 @@
 -- The ward examples: images, first ledgers and calls with the answers that 01 gives them. `starred` are 01's starred cases, `settled`
--- further ones on what 01 says in words.
+-- further ones on what 01 says in words, `carded` those on limits.
 -- Assumes nothing.
 use mathlib.Core.Bool.{Bool, true, false, _&&_}
 use mathlib.Core.List.{List, [], _∷_, _++_, map}
 use Prim.Native.Nat.{ℕ, _+_, _-_, _*_, _^_}
 use lib.Dec.{eqb}
 use lib.ListN.{replicate, take, drop}
-use Rattle.model.specs.Tests.{all}
 use Rattle.model.specs.Bytes.{number, bytesOf}
 use Rattle.model.specs.Words.{imageBytes, ended}
 use Rattle.model.specs.Line.{SESSIONS}
-use Rattle.model.specs.Run.{Call, Event, run, openBy, closeBy, askBy, shortAskBy, showBy, explainBy}
+use Rattle.model.specs.Run.{Call, Event, run, openBy, closeBy, askBy, shortAskBy, showBy, explainBy, clausesBy}
 
 -- ---- images as words
 
@@ -34,6 +33,17 @@ imageOfOne = imageWith 0x54082000
 -- image A for two users, the second with the same roles
 unfoldable pub imageOfTwo : List ℕ
 imageOfTwo = ended (0x104080A0 ∷ 0x20400000 ∷ 0x20410000 ∷ drop 1 (take 12 imageA))
+
+-- the same with limit words
+unfoldable pub imageLimited : List ℕ → List ℕ
+imageLimited ws = ended (0x104080A0 ∷ 0x20400000 ∷ 0x20410000 ∷ (drop 1 (take 12 imageA) ++ ws))
+
+-- the limit t on Doctor, and on Data_Manager
+unfoldable pub doctors : ℕ → ℕ
+doctors t = 0x70000000 + t * 2 ^ 13
+
+unfoldable pub managers : ℕ → ℕ
+managers t = 0x70400000 + t * 2 ^ 13
 
 -- 003's three roles, which carry 0 and 2, 1 and 3, 1 and 2
 unfoldable pub threeRoles : List ℕ
@@ -96,6 +106,17 @@ shows k = showBy 0 k 40
 unfoldable pub explains : ℕ → ℕ → Call
 explains k n = explainBy 0 k n
 
+-- short asks by user 1: for 0 and 1, which Doctor alone carries, and for 4, which Data_Manager alone carries
+unfoldable pub asksDoctor : ℕ → Call
+asksDoctor k = shortAskBy 1 k (bytesOf 32 0x3) (bytesOf 32 0x1f) 40
+
+unfoldable pub asksManager : ℕ → Call
+asksManager k = shortAskBy 1 k (bytesOf 32 0x10) (bytesOf 32 0x1f) 40
+
+-- a clause text, for at least 1 and none but 0 to 3
+unfoldable pub textsLow : ℕ → ℕ → Call
+textsLow k room = clausesBy 0 k (bytesOf 32 0x2) (bytesOf 32 0xf) 1 1 room
+
 -- ---- cases
 
 -- an answer as the program prints it: number, extra, roles, permissions
@@ -137,8 +158,11 @@ opened k = 0 ∷ k ∷ 0 ∷ 0 ∷ []
 unfoldable pub chose : ℕ → ℕ → List ℕ
 chose roles permissions = 0 ∷ 0 ∷ roles ∷ permissions ∷ []
 
+unfoldable pub refusedFor : ℕ → ℕ → List ℕ
+refusedFor n x = n ∷ x ∷ 0 ∷ 0 ∷ []
+
 unfoldable pub refused : ℕ → List ℕ
-refused n = n ∷ 0 ∷ 0 ∷ 0 ∷ []
+refused n = refusedFor n 0
 
 -- two asks of one session: lower 3, then lower 12
 unfoldable pub twoAsks : List Call
@@ -155,13 +179,17 @@ starred =
     ∷ case (imageOfKind 2) (twoAsks ++ (opens ∷ asks 1 0x12 0x1f 0 0 ∷ [])) (opened 0 ∷ chose 1 0xf ∷ refused 20 ∷ opened 1 ∷ chose 2 0x12 ∷ [])
     ∷ case imageA (opens ∷ asks 0 0x3 0x3 0 0 ∷ []) (opened 0 ∷ refused 20 ∷ [])
     ∷ case imageA (opens ∷ asks 0 0 0 1 0 ∷ []) (opened 0 ∷ chose 0 0 ∷ [])
-    ∷ case imageOfOne (opens ∷ asks 0 0x3 0x1f 0 0 ∷ asks 0 0 0 0 0 ∷ []) (replicate 3 (5 ∷ 9 ∷ 0 ∷ 0 ∷ []))
+    ∷ case imageOfOne (opens ∷ asks 0 0x3 0x1f 0 0 ∷ asks 0 0 0 0 0 ∷ []) (replicate 3 (refusedFor 5 9))
     ∷ case imageA (replicate 9 opens)
     (opened 0 ∷ opened 1 ∷ opened 2 ∷ opened 3 ∷ opened 4 ∷ opened 5 ∷ opened 6 ∷ opened 7 ∷ refused 14 ∷ [])
     ∷ case threeRoles (opens ∷ asks 0 0x1 0xf 2 0 ∷ []) (opened 0 ∷ chose 3 0xf ∷ [])
     ∷ case threeRoles (opens ∷ asks 0 0x1 0xf 2 2 ∷ []) (opened 0 ∷ chose 7 0xf ∷ [])
     ∷ case threeRoles (opens ∷ asks 0 0x1 0xf 1 2 ∷ []) (opened 0 ∷ chose 1 0x5 ∷ [])
     ∷ []
+
+-- a line with two open sessions, which have Doctor active
+unfoldable pub doctorLine : List ℕ
+doctorLine = bytesOf 8 3 ++ (bytesOf 8 1 ++ (bytesOf 8 1 ++ (bytesOf 8 1 ++ (bytesOf 8 1 ++ (bytesOf 8 1 ++ replicate 96 0)))))
 
 -- a line that is not sound, of 144 bytes
 unfoldable pub damaged : List ℕ
@@ -170,6 +198,51 @@ damaged = replicate 144 255
 -- the ledger of one user with the roles s active in session 0
 unfoldable pub activeRole : ℕ → List ℕ
 activeRole s = bytesOf 8 1 ++ (bytesOf 8 s ++ (bytesOf 8 s ++ (bytesOf 8 s ++ replicate 112 0)))
+
+-- a case of two users, under image A for two with the limit words
+unfoldable pub caseOfTwo : List ℕ → List ℕ → List Call → List (List ℕ) → Case
+caseOfTwo ws ledger calls answers = record { image = imageLimited ws; ledger = ledger; calls = calls; answers = answers }
+
+-- limits
+unfoldable pub carded : List Case
+carded =
+    -- the t - 1st session is given the role, and the t-th is refused, over two users, until one closes; a set without the role is given
+    caseOfTwo (doctors 2 ∷ []) (replicate 288 0)
+    (opens ∷ asksShort 0 0x3 0x1f ∷ openBy 1 ∷ asksDoctor 0 ∷ asksManager 0 ∷ closes 0 ∷ asksDoctor 0 ∷ [])
+    (opened 0 ∷ chose 1 0xf ∷ opened 0 ∷ refused 20 ∷ chose 2 0x12 ∷ opened 0 ∷ chose 1 0xf ∷ [])
+    -- the user's own other sessions count, the roles replaced do not
+    ∷ caseOfTwo (doctors 2 ∷ []) (replicate 288 0)
+    (opens ∷ asksShort 0 0x3 0x1f ∷ asksShort 0 0x3 0x1f ∷ opens ∷ asksShort 1 0x3 0x1f ∷ [])
+    (opened 0 ∷ chose 1 0xf ∷ chose 1 0xf ∷ opened 1 ∷ refused 20 ∷ [])
+    -- t of 3 lets two sessions hold the role; the limit is that of the role named
+    ∷ caseOfTwo (doctors 3 ∷ managers 2 ∷ []) (replicate 288 0)
+    (opens ∷ asksShort 0 0x3 0x1f ∷ opens ∷ asksShort 1 0x3 0x1f ∷ openBy 1 ∷ asksDoctor 0 ∷ asksManager 0 ∷ [])
+    (opened 0 ∷ chose 1 0xf ∷ opened 1 ∷ chose 1 0xf ∷ opened 0 ∷ refused 20 ∷ chose 2 0x12 ∷ [])
+    -- of several limits for a role the smallest counts, in either order
+    ∷ caseOfTwo (doctors 2 ∷ doctors 3 ∷ []) (replicate 288 0)
+    (opens ∷ asksShort 0 0x3 0x1f ∷ openBy 1 ∷ asksDoctor 0 ∷ []) (opened 0 ∷ chose 1 0xf ∷ opened 0 ∷ refused 20 ∷ [])
+    ∷ caseOfTwo (doctors 3 ∷ doctors 2 ∷ []) (replicate 288 0)
+    (opens ∷ asksShort 0 0x3 0x1f ∷ openBy 1 ∷ asksDoctor 0 ∷ []) (opened 0 ∷ chose 1 0xf ∷ opened 0 ∷ refused 20 ∷ [])
+    -- a closed session's history does not count
+    ∷ caseOfTwo (doctors 2 ∷ []) (replicate 288 0)
+    (opens ∷ asksShort 0 0x3 0x1f ∷ asksShort 0 0x10 0x1f ∷ openBy 1 ∷ asksDoctor 0 ∷ [])
+    (opened 0 ∷ chose 1 0xf ∷ chose 2 0x12 ∷ opened 0 ∷ chose 1 0xf ∷ [])
+    -- a damaged line of a higher user: an ask and a clause text name it, before 12, and the other calls do not look at it
+    ∷ caseOfTwo (doctors 2 ∷ []) (replicate 144 0 ++ damaged)
+    (opens ∷ asksShort 0 0x3 0x1f ∷ asks 8 0 0 3 3 ∷ textsLow 0 0 ∷ shows 0 ∷ explains 0 4 ∷ closes 0 ∷ openBy 1 ∷ asksDoctor 0 ∷ [])
+    (opened 0 ∷ refusedFor 11 2 ∷ refusedFor 11 2 ∷ refusedFor 11 2 ∷ chose 0 0 ∷ refused 20 ∷ opened 0 ∷ refused 11 ∷ refused 11 ∷ [])
+    -- a clause text bars the role too, by one line more than there is room for
+    ∷ caseOfTwo (managers 2 ∷ []) (replicate 288 0) (openBy 1 ∷ asksManager 0 ∷ opens ∷ textsLow 0 258 ∷ []) (opened 0 ∷ chose 2 0x12 ∷ opened 0 ∷ refused 19 ∷ [])
+    -- of a lower user, and of both
+    ∷ caseOfTwo (doctors 2 ∷ []) (damaged ++ replicate 144 0)
+    (openBy 1 ∷ asksDoctor 0 ∷ asksShort 0 0x3 0x1f ∷ []) (opened 0 ∷ refusedFor 11 1 ∷ refused 11 ∷ [])
+    ∷ caseOfTwo (doctors 2 ∷ []) (damaged ++ damaged) (asksDoctor 0 ∷ asksShort 0 0x3 0x1f ∷ openBy 1 ∷ []) (refusedFor 11 1 ∷ refused 11 ∷ refused 11 ∷ [])
+    -- a line over a limit is sound, and asks for other roles go on; without a limit nobody else's line is looked at
+    ∷ caseOfTwo (doctors 2 ∷ []) (doctorLine ++ replicate 144 0)
+    (shows 0 ∷ asksShort 0 0x3 0x1f ∷ openBy 1 ∷ asksDoctor 0 ∷ asksManager 0 ∷ closes 1 ∷ asksShort 0 0x3 0x1f ∷ [])
+    (chose 1 0xf ∷ refused 20 ∷ opened 0 ∷ refused 20 ∷ chose 2 0x12 ∷ opened 0 ∷ chose 1 0xf ∷ [])
+    ∷ caseOfTwo [] (replicate 144 0 ++ damaged) (opens ∷ asksShort 0 0x3 0x1f ∷ []) (opened 0 ∷ chose 1 0xf ∷ [])
+    ∷ []
 
 unfoldable pub settled : List Case
 settled =

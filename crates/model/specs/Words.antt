@@ -25,6 +25,10 @@ exclusionWord kind n m = 5 * 2 ^ 28 + kind * 2 ^ 26 + n * 2 ^ 19 + m * 2 ^ 12
 unfoldable pub memberWord : ℕ → ℕ
 memberWord role = 6 * 2 ^ 28 + role * 2 ^ 22
 
+-- fewer than t sessions of all users may hold the role
+unfoldable pub limitWord : ℕ → ℕ → ℕ
+limitWord role t = 7 * 2 ^ 28 + role * 2 ^ 22 + t * 2 ^ 13
+
 unfoldable pub sumOf : List ℕ → ℕ
 sumOf [] = 0
 sumOf (w ∷ ws) = w + sumOf ws

@@ -43,13 +43,15 @@ pub struct Exclusions {
     pub count: usize,
 }
 
-// What a word behind the head says. An exclusion word comes with the number of its member words (01: m), and has no member yet.
+// What a word behind the head says. An exclusion word comes with the number of its member words (01: m), and has no member yet. A limit
+// word says that fewer than t sessions of all users may hold a role.
 pub enum Entry {
     Assignment(User, Role),
     Grant(Role, Permission),
     Senior(Role, Role),
     Exclude(Exclusion, u8),
     Member(Role),
+    Limit(Role, u16),
     End,
     Unknown,
 }
