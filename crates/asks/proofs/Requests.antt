@@ -1,12 +1,13 @@
 -- The refusals of an ask before the search, case by case, and what holds where there is none.
 -- Assumes nothing.
-use mathlib.Core.Path.{_≡_, refl, sym, _∙_}
+use mathlib.Core.Path.{_≡_, refl, sym, ap, subst, _∙_}
 use mathlib.Core.Bool.{Bool, true, false, not, _&&_, _||_}
-use mathlib.Core.List.{List}
+use mathlib.Core.Option.{none}
+use mathlib.Core.List.{List, []}
 use Prim.Native.Nat.{ℕ, zero, suc, _+_, _*_, _^_, _≤_, _<_}
 use native.Mathlib.Omega.{arith}
 use lib.Dec.{eqb, ltb, leb}
-use lib.ListN.{length}
+use lib.ListN.{length, take}
 use borrow.Author.Tests.{le-leb, lt-leb, leb-false, lt-ltb, le-ltb, ltb-false, eq-eqb, ne-eqb, eqb-true}
 use Rattle.model.specs.declared.Head.{Head}
 use Rattle.model.specs.declared.Exclusions.{Exclusions}
@@ -16,10 +17,15 @@ use Rattle.model.specs.Sets.{within}
 use Rattle.model.specs.Bytes.{number}
 use Rattle.model.specs.Policy.{Policy}
 use Rattle.model.specs.Line.{lineSize, isOpen}
+use Rattle.model.specs.Session.{isAsk}
+use Rattle.model.specs.Run.{Call, lineOf, told}
+use Rattle.model.proofs.Reaches.{authorized-alone}
 use Rattle.model.proofs.Bools.{and-l, and-r, not-both}
-use Rattle.calls.specs.Calls.{Known, policyBy, lineOf, firstRefusal}
-use Rattle.asks.specs.Asks.{orElse, sessionRefusal, boundsRefusal, queryRefusal, askRefusal}
-use Rattle.calls.proofs.FirstSteps.{Ready, ready, known, room as first-room}
+use Rattle.calls.specs.Calls.{Known, firstRefusal}
+use Rattle.others.specs.Lines.{othersRefusal}
+use Rattle.asks.specs.Asks.{orElse, sessionRefusal, boundsRefusal, queryRefusal, askRefusal, limitedRefusal}
+use Rattle.calls.proofs.FirstSteps.{Ready, ready, room as first-room}
+use Rattle.others.proofs.Blaming.{others-quiet}
 
 -- ---- one refusal before others
 pub or-first : (n a b : ℕ) → n ≡ a → (n ≡ 0 → ⊥) → n ≡ orElse a b
@@ -183,36 +189,74 @@ module _ (W : ℕ) (p : Policy) (ledger : List ℕ) (u k : ℕ) (lower upper : L
         query = query-right (p .head .permissions) lower upper a b room (y .1);
       }
 
--- code that got 0 of them
-module _ (W : ℕ) (head : Head) (own : List ℕ) (xs : Exclusions) (ledger : List ℕ) (u k : ℕ) (lower upper : List ℕ) (a b room n : ℕ)
-    (e : (p : Policy) → Known head own xs p → n ≡ askRefusal W p ledger u k lower upper a b room) (z : n ≡ 0) where
-  pub ask-for : (p : Policy) → Known head own xs p → AskReady W p ledger u k lower upper a b room
-  ask-for p h = ask-ready W p ledger u k lower upper a b room (sym z ∙ e p h)
+-- a policy that has these parts and limits
+unfoldable pub limitedBy : Head → List ℕ → Exclusions → List ℕ → Policy
+limitedBy head own xs limits =
+    record {
+      head = head;
+      assigned = own;
+      granted = [];
+      juniors = [];
+      exclusions = take (xs .count) (xs .list);
+      limits = limits;
+    }
 
-  pub ask-by : AskReady W (policyBy head own xs) ledger u k lower upper a b room
-  ask-by = ask-for (policyBy head own xs) (known head own xs)
+known-limited : (head : Head) (own : List ℕ) (xs : Exclusions) (limits : List ℕ) → Known head own xs (limitedBy head own xs limits)
+unfolding limitedBy
+known-limited head own xs limits =
+    record { head-is = refl; own-is = λ u l w. sym (authorized-alone (limitedBy head own xs limits) u refl w); exclusions-are = refl }
+
+-- code that got 0 of them
+module _ (W : ℕ) (head : Head) (own : List ℕ) (xs : Exclusions) (limits ledger : List ℕ) (u k : ℕ) (lower upper : List ℕ) (a b room n : ℕ)
+    (e : (p : Policy) → Known head own xs p → p .limits ≡ limits → n ≡ limitedRefusal W p ledger u k lower upper a b room) (z : n ≡ 0) where
+  none-of : (p : Policy) → Known head own xs p → p .limits ≡ limits
+      → (0 ≡ othersRefusal W p ledger u) × (0 ≡ askRefusal W p ledger u k lower upper a b room)
+  unfolding limitedRefusal
+  none-of p h l = or-none (othersRefusal W p ledger u) (askRefusal W p ledger u k lower upper a b room) (sym z ∙ e p h l)
+
+  pub ask-for : (p : Policy) → Known head own xs p → p .limits ≡ limits → AskReady W p ledger u k lower upper a b room
+  ask-for p h l = ask-ready W p ledger u k lower upper a b room (none-of p h l .1)
+
+  -- and it is told of no line that is not sound
+  pub quiet-for : (p : Policy) → Known head own xs p → p .limits ≡ limits → (c : Call) → c .user ≡ u → isAsk (c .operation) ≡ true
+      → told W p ledger c .unsound ≡ none
+  quiet-for p h l c same a =
+      let r = ask-for p h l .first in
+      others-quiet W p ledger c a (none-of p h l .0 ∙ ap (othersRefusal W p ledger) (sym same)) (r .fits) (subst (λ (v : ℕ). v < p .head .users) (sym same) (r .below))
+
+  -- the policy of the parts that code holds
+  abbrev holding : Policy
+  holding = limitedBy head own xs limits
+
+  pub ask-by : AskReady W holding ledger u k lower upper a b room
+  unfolding limitedBy
+  ask-by = ask-for holding (known-limited head own xs limits) refl
 
   pub user-below : u < head .users
-  unfolding policyBy
+  unfolding limitedBy
   user-below = ask-by .first .below
 
-  pub line-room : lineSize W * u + lineSize W ≤ length ledger
-  line-room = first-room W (policyBy head own xs) ledger u (ask-by .first)
+  pub ledger-fits : length ledger ≡ lineSize W * head .users
+  unfolding limitedBy
+  ledger-fits = ask-by .first .fits
 
-  abbrev asked-query : Query (policyBy head own xs .head .permissions) lower upper a b room
+  pub line-room : lineSize W * u + lineSize W ≤ length ledger
+  line-room = first-room W holding ledger u (ask-by .first)
+
+  abbrev asked-query : Query (holding .head .permissions) lower upper a b room
   asked-query = ask-by .query
 
   pub lower-32 : length lower ≡ 32
-  lower-32 = lower-length (policyBy head own xs .head .permissions) lower upper a b room asked-query
+  lower-32 = lower-length (holding .head .permissions) lower upper a b room asked-query
 
   pub upper-32 : length upper ≡ 32
-  upper-32 = upper-length (policyBy head own xs .head .permissions) lower upper a b room asked-query
+  upper-32 = upper-length (holding .head .permissions) lower upper a b room asked-query
 
   pub room-40 : room ≡ 40
-  room-40 = room-length (policyBy head own xs .head .permissions) lower upper a b room asked-query
+  room-40 = room-length (holding .head .permissions) lower upper a b room asked-query
 
   pub first-small : a ≤ 2
-  first-small = first-aim (policyBy head own xs .head .permissions) lower upper a b room asked-query
+  first-small = first-aim (holding .head .permissions) lower upper a b room asked-query
 
   pub second-small : b ≤ 2
-  second-small = second-aim (policyBy head own xs .head .permissions) lower upper a b room asked-query
+  second-small = second-aim (holding .head .permissions) lower upper a b room asked-query

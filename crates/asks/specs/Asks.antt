@@ -12,12 +12,14 @@ use Rattle.model.specs.declared.Line.{Line}
 use Rattle.model.specs.Tests.{pick}
 use Rattle.model.specs.Sets.{within}
 use Rattle.model.specs.Bytes.{number}
-use Rattle.model.specs.Policy.{Policy, belowTable, authorized, meaning}
+use Rattle.model.specs.Policy.{Policy, Meaning, belowTable, meaning}
+use Rattle.model.specs.Limits.{Others, unbarred}
 use Rattle.model.specs.Line.{SESSIONS, lineSize, isOpen, exclusionsMet}
 use Rattle.model.specs.Session.{asked}
-use Rattle.model.specs.Run.{Event, lineAt, withLine, returned, answered}
+use Rattle.model.specs.Run.{Event, lineAt, withLine, returned, answered, lineOf}
 use Rattle.query.specs.Carry.{Carry}
-use Rattle.calls.specs.Calls.{lineOf, firstRefusal}
+use Rattle.calls.specs.Calls.{firstRefusal}
+use Rattle.others.specs.Lines.{othersRefusal}
 
 -- the first number, where it is a refusal's, else the second
 unfoldable pub orElse : ℕ → ℕ → ℕ
@@ -45,19 +47,27 @@ askRefusal W p ledger u k lower upper a b room =
     orElse (firstRefusal W p ledger u)
     (orElse (sessionRefusal W (lineOf W ledger u) k) (queryRefusal (p .head .permissions) lower upper a b room))
 
--- the roles that user u may activate, the exclusions, which the line meets, and what each of the roles carries are those of the policy
-pub record Asked (p : Policy) (u : ℕ) (l : Line) (own : ℕ) (xs : Exclusions) (row : ℕ → ℕ) : Type 0 where
-  pub own-is : authorized p u ≡ own
+-- the same where limits are looked at first: the refusal for a line that is not sound
+unfoldable pub limitedRefusal : ℕ → Policy → List ℕ → ℕ → ℕ → List ℕ → List ℕ → ℕ → ℕ → ℕ → ℕ
+limitedRefusal W p ledger u k lower upper a b room = orElse (othersRefusal W p ledger u) (askRefusal W p ledger u k lower upper a b room)
+
+-- what the policy means to user u for a choice for session k, given what is told of the other users: barred roles are not u's
+abbrev pub leftTo : Policy → ℕ → Others → Line → ℕ → Meaning
+leftTo p u x l k = unbarred (meaning p u) x l k
+
+-- the roles that user u may choose from, the exclusions, which the line meets, and what each of the roles carries are those of the policy
+pub record Asked (p : Policy) (u : ℕ) (x : Others) (l : Line) (k own : ℕ) (xs : Exclusions) (row : ℕ → ℕ) : Type 0 where
+  pub own-is : leftTo p u x l k .authorized ≡ own
   pub exclusions-are : p .exclusions ≡ take (xs .count) (xs .list)
   pub met : exclusionsMet (meaning p u) l ≡ true
   pub carry : Carry (meaning p u) own row
 
--- what the search is given is the policy's: what is granted, who is below whom, what the user may activate and the exclusions, which the
--- line meets
-pub record Searched (p : Policy) (u : ℕ) (ledger : List ℕ) (granted below : List ℕ) (own : ℕ) (xs : Exclusions) : Type 0 where
+-- what the search is given is the policy's: what is granted, who is below whom, what the user may choose from and the exclusions, which
+-- the line meets
+pub record Searched (p : Policy) (u : ℕ) (x : Others) (ledger : List ℕ) (k : ℕ) (granted below : List ℕ) (own : ℕ) (xs : Exclusions) : Type 0 where
   pub granted-is : granted ≡ p .granted
   pub below-is : below ≡ belowTable p
-  pub own-is : authorized p u ≡ own
+  pub own-is : leftTo p u x (lineOf SESSIONS ledger u) k .authorized ≡ own
   pub exclusions-are : p .exclusions ≡ take (xs .count) (xs .list)
   pub met : exclusionsMet (meaning p u) (lineOf SESSIONS ledger u) ≡ true
 

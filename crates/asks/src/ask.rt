@@ -2,26 +2,27 @@
 ghost use mathlib.Core.Path.{_≡_};
 ghost use Prim.Native.Nat.{ℕ, _+_, _*_, _≤_, _<_};
 ghost use lib.ListN.{length};
-ghost use Rattle.model.specs.Policy.{Policy, belowTable, meaning};
+ghost use Rattle.model.specs.Policy.{Policy, belowTable};
+ghost use Rattle.model.specs.Limits.{Others};
 ghost use Rattle.model.specs.Line.{SESSIONS, lineSize};
 ghost use Rattle.model.specs.Choice.{choose};
-ghost use Rattle.model.specs.Run.{stepOn, askBy};
+ghost use Rattle.model.specs.Run.{stepOn, askBy, lineOf};
 ghost use Rattle.sets.specs.Words.{value, values};
 ghost use Rattle.query.specs.Carry.{rowsOf};
 ghost use Rattle.search.specs.Answer.{answered};
-ghost use Rattle.calls.specs.Calls.{Known, lineOf};
+ghost use Rattle.calls.specs.Calls.{Known};
 ghost use Rattle.rows.specs.Rows.{exclusionsIn};
-ghost use Rattle.asks.specs.Asks.{Asked, Searched, askedOn, Answers};
+ghost use Rattle.asks.specs.Asks.{leftTo, Asked, Searched, askedOn, Answers};
 use crate::bounds::bound;
-use crate::request::ask_refusal;
+use crate::request::limited_refusal;
 use calls::answer::fill;
-use calls::first::roles_of;
 use calls::given::Rules;
 use calls::given::Window;
 use ledger::bytes::line_of;
 use ledger::bytes::put_line;
 use ledger::change::put_in;
 use model::Line;
+use others::left::roles_left;
 use query::rank::Job;
 use search::Choice;
 
@@ -44,8 +45,8 @@ fn best(
     wanted: Wanted,
 ) -> Choice
     requires { ⌜ (count ≤ 32) × (k < SESSIONS) × (length (now xs) ≡ 32) ⌝ }
-    ensures { λ r. ⌜ ((p : Policy) (u : ℕ) → Asked p u l authorized (exclusionsIn (now (xs .entry)) count) (rowsOf (now (rows .entry)))
-        → answered r ≡ choose (meaning p u) l k (value (wanted .lower)) (value (wanted .upper)) (wanted .first) (wanted .second)) ⌝ }
+    ensures { λ r. ⌜ ((p : Policy) (u : ℕ) (x : Others) → Asked p u x l k authorized (exclusionsIn (now (xs .entry)) count) (rowsOf (now (rows .entry)))
+        → answered r ≡ choose (leftTo p u x l k) l k (value (wanted .lower)) (value (wanted .upper)) (wanted .first) (wanted .second)) ⌝ }
 {
     let reduced = query::exclusions::reduce(xs, count, l, k);
     let masks = reduced.masks;
@@ -76,9 +77,9 @@ fn put_best(
 ) -> u64
     requires { ⌜ (count ≤ 32) × (lineSize SESSIONS * window .user + lineSize SESSIONS ≤ length (now ledger))
         × (window .session < SESSIONS) × (length (now answer) ≡ 40) × (length (now xs) ≡ 32) ⌝ }
-    ensures { λ r. ⌜ ((p : Policy) → Searched p (window .user) (now (ledger .entry)) (values (now (granted .entry))) (now (below .entry)) authorized (exclusionsIn (now (xs .entry)) count)
+    ensures { λ r. ⌜ ((p : Policy) (x : Others) → Searched p (window .user) x (now (ledger .entry)) (window .session) (values (now (granted .entry))) (now (below .entry)) authorized (exclusionsIn (now (xs .entry)) count)
         → Answers (askedOn p (now (ledger .entry)) (window .user) (window .session)
-        (choose (meaning p (window .user)) (lineOf SESSIONS (now (ledger .entry)) (window .user)) (window .session) (value (wanted .lower)) (value (wanted .upper)) (wanted .first) (wanted .second)))
+        (choose (leftTo p (window .user) x (lineOf SESSIONS (now (ledger .entry)) (window .user)) (window .session)) (lineOf SESSIONS (now (ledger .entry)) (window .user)) (window .session) (value (wanted .lower)) (value (wanted .upper)) (wanted .first) (wanted .second)))
         r (now (ledger .exit)) (now (answer .entry)) (now (answer .exit))) ⌝ }
 {
     let rows = tables::carried::carried(granted, below, authorized);
@@ -95,13 +96,15 @@ fn put_best(
     0
 }
 
-// The best admissible role set takes the place of the session's active roles and fills the answer.
+// The best admissible role set takes the place of the session's active roles and fills the answer. Limits bar roles, and under them every
+// line is to be sound; without a limit no other line is looked at.
 pub fn ask_roles(
     ledger: &mut [u8],
     rules: Rules,
     authorized: &[u64; 64],
     granted: &[[u64; 4]; 64],
     below: &[u64; 64],
+    limits: &[u64; 64],
     xs: &[[u64; 2]; 32],
     window: Window,
     lower: &[u8],
@@ -110,16 +113,17 @@ pub fn ask_roles(
     second: u64,
     answer: &mut [u8],
 ) -> u64
-    requires { ⌜ (rules .head .users ≤ 64) × (rules .count ≤ 32) × (length (now xs) ≡ 32) ⌝ }
+    requires { ⌜ (rules .head .users ≤ 64) × (rules .count ≤ 32) × (length (now xs) ≡ 32) × (length (now limits) ≡ 64) ⌝ }
     ensures { λ r. ⌜ ((p : Policy) → Known (rules .head) (now (authorized .entry)) (exclusionsIn (now (xs .entry)) (rules .count)) p → values (now (granted .entry)) ≡ p .granted
-        → now (below .entry) ≡ belowTable p
+        → now (below .entry) ≡ belowTable p → p .limits ≡ now (limits .entry)
         → Answers (stepOn SESSIONS p (now (ledger .entry)) (askBy (window .user) (window .session) (now (lower .entry)) (now (upper .entry)) first second (length (now (answer .entry)))))
         r (now (ledger .exit)) (now (answer .entry)) (now (answer .exit))) ⌝ }
 {
-    let n = ask_refusal(
+    let n = limited_refusal(
         ledger,
         rules,
         authorized,
+        limits,
         xs,
         window,
         lower,
@@ -131,7 +135,7 @@ pub fn ask_roles(
     if n != 0 {
         return n;
     }
-    let own = roles_of(authorized, window.user as usize);
+    let own = roles_left(ledger, rules, authorized, limits, window);
     let lower = bound(lower);
     let upper = bound(upper);
     let first = first as u8;

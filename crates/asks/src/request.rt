@@ -7,7 +7,7 @@ ghost use Rattle.model.specs.Policy.{Policy};
 ghost use Rattle.calls.specs.Calls.{Known};
 ghost use Rattle.sets.specs.Words.{value};
 ghost use Rattle.rows.specs.Rows.{exclusionsIn};
-ghost use Rattle.asks.specs.Asks.{sessionRefusal, boundsRefusal, queryRefusal, askRefusal};
+ghost use Rattle.asks.specs.Asks.{sessionRefusal, boundsRefusal, queryRefusal, askRefusal, limitedRefusal};
 use crate::bounds::below;
 use crate::bounds::bound;
 use calls::first::first_refusal;
@@ -112,4 +112,40 @@ pub fn ask_refusal(
     }
     let head = rules.head;
     query_refusal(lower, upper, head.permissions, first, second, room)
+}
+
+// The same under limits: a line that is not sound refuses it after 9 and 10 and before 12, whosever it is.
+pub fn limited_refusal(
+    ledger: &[u8],
+    rules: Rules,
+    authorized: &[u64; 64],
+    limits: &[u64; 64],
+    xs: &[[u64; 2]; 32],
+    window: Window,
+    lower: &[u8],
+    upper: &[u8],
+    first: u64,
+    second: u64,
+    room: usize,
+) -> u64
+    requires { ⌜ (rules .head .users ≤ 64) × (rules .count ≤ 32) × (length (now xs) ≡ 32) × (length (now limits) ≡ 64) ⌝ }
+    ensures { λ r. ⌜ ((p : Policy) → Known (rules .head) (now (authorized .entry)) (exclusionsIn (now (xs .entry)) (rules .count)) p → p .limits ≡ now (limits .entry)
+        → r ≡ limitedRefusal SESSIONS p (now (ledger .entry)) (window .user) (window .session) (now (lower .entry)) (now (upper .entry)) first second room) ⌝ }
+{
+    let n = others::lines::refusal(ledger, rules, authorized, limits, xs, window.user);
+    if n != 0 {
+        return n;
+    }
+    ask_refusal(
+        ledger,
+        rules,
+        authorized,
+        xs,
+        window,
+        lower,
+        upper,
+        first,
+        second,
+        room,
+    )
 }

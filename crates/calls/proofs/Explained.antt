@@ -12,10 +12,9 @@ use borrow.Author.Tests.{le-leb, lt-leb, lt-ltb, le-ltb}
 use Rattle.model.specs.Sets.{has}
 use Rattle.model.specs.Policy.{Policy, belowTable, withSelves, reached, granterBy, granter, meaning}
 use Rattle.model.specs.Line.{lineSize, sessionAt, isOpen}
-use Rattle.model.specs.Session.{refuse, done, bad-session, is-closed, not-below, not-carried, refusalNumber, canGive, isNone, explanation, applies, explained, perform, sessionOf, queryOf}
-use Rattle.model.specs.Run.{Event, lineAt, stepOn, explainBy, returned}
+use Rattle.model.specs.Session.{refuse, done, bad-session, is-closed, not-below, not-carried, refusalNumber, refusalExtra, canGive, isNone, explanation, applies, explained, perform, sessionOf, queryOf}
+use Rattle.model.specs.Run.{Event, lineAt, stepOn, explainBy, returned, lineOf}
 use Rattle.tables.specs.Told.{told}
-use Rattle.calls.specs.Calls.{lineOf}
 use Rattle.calls.proofs.FirstSteps.{refusedBy, Ready, refuses, performs, holds, fails, ends}
 
 -- the number of a refusal is returned as it is
@@ -31,36 +30,36 @@ set-explains p active n granted below eg eb = λ i. explanation (λ r. granterBy
 
 module _ (W : ℕ) (p : Policy) (ledger : List ℕ) (u k n : ℕ) (r : Ready W p ledger u) where
   pub explain12 : W ≤ k → 12 ≡ returned (stepOn W p ledger (explainBy u k n) .reply)
-  unfolding explainBy canGive applies refusalNumber sessionOf queryOf
+  unfolding explainBy canGive applies refusalNumber refusalExtra sessionOf queryOf
   explain12 h =
       returns-refusal _ 12 ledger
-      (refuses W p ledger (explainBy u k n) r bad-session (fails _ _ _ (ap not (r .sound-line)) ∙ holds _ _ _ (le-leb _ _ h)))
+      (refuses W p ledger (explainBy u k n) r bad-session refl (fails _ _ _ (ap not (r .sound-line)) ∙ holds _ _ _ (le-leb _ _ h)))
 
   pub explain13 : k < W → isOpen (lineOf W ledger u) k ≡ false → 13 ≡ returned (stepOn W p ledger (explainBy u k n) .reply)
-  unfolding explainBy canGive applies refusalNumber sessionOf queryOf
+  unfolding explainBy canGive applies refusalNumber refusalExtra sessionOf queryOf
   explain13 h o =
       returns-refusal _ 13 ledger
-      (refuses W p ledger (explainBy u k n) r is-closed
+      (refuses W p ledger (explainBy u k n) r is-closed refl
       (fails _ _ _ (ap not (r .sound-line)) ∙ fails _ _ _ (lt-leb _ _ h) ∙ holds _ _ _ (ap not o)))
 
   pub explain16 : k < W → isOpen (lineOf W ledger u) k ≡ true → p .head .permissions ≤ n → 16 ≡ returned (stepOn W p ledger (explainBy u k n) .reply)
-  unfolding explainBy canGive applies refusalNumber sessionOf queryOf meaning
+  unfolding explainBy canGive applies refusalNumber refusalExtra sessionOf queryOf meaning
   explain16 h o b =
       returns-refusal _ 16 ledger
-      (refuses W p ledger (explainBy u k n) r (not-below n)
+      (refuses W p ledger (explainBy u k n) r (not-below n) refl
       (fails _ _ _ (ap not (r .sound-line)) ∙ fails _ _ _ (lt-leb _ _ h) ∙ fails _ _ _ (ap not o) ∙ holds _ _ _ (ap not (le-ltb _ _ b))))
 
   -- the two roles are the extra, or 20 is returned
   pub explain0 : k < W → isOpen (lineOf W ledger u) k ≡ true → n < p .head .permissions
       → told (explanation (granter p n) (sessionAt (lineOf W ledger u) k .active)) ≡ returned (stepOn W p ledger (explainBy u k n) .reply)
-  unfolding explainBy canGive applies refusalNumber sessionOf queryOf meaning perform explained done returned told isNone
+  unfolding explainBy canGive applies refusalNumber refusalExtra sessionOf queryOf meaning perform explained done returned told isNone
   explain0 h o b = go (explanation (granter p n) (sessionAt (lineOf W ledger u) k .active)) refl
     where
       go : (x : Option ℕ) → explanation (granter p n) (sessionAt (lineOf W ledger u) k .active) ≡ x
           → told x ≡ returned (stepOn W p ledger (explainBy u k n) .reply)
       go none e =
           returns-refusal _ 20 ledger
-          (refuses W p ledger (explainBy u k n) r (not-carried n)
+          (refuses W p ledger (explainBy u k n) r (not-carried n) refl
           (fails _ _ _ (ap not (r .sound-line)) ∙ fails _ _ _ (lt-leb _ _ h) ∙ fails _ _ _ (ap not o) ∙ fails _ _ _ (ap not (lt-ltb _ _ b))
           ∙ holds _ _ _ (ap isNone e)))
       go (some x) e =

@@ -15,12 +15,13 @@ use Rattle.model.specs.declared.Exclusions.{Exclusions}
 use Rattle.model.specs.Tests.{pick, all, first}
 use Rattle.model.specs.Policy.{Policy, Meaning, authorized, met, meaning}
 use Rattle.model.specs.Line.{lineSize, readLine, sound}
-use Rattle.model.specs.Session.{Operation, open-session, close-session, ask, short-ask, show, explain, clauses, sessionOf, queryOf, refuse, Result, Refusal, bad-line, refusalNumber, canGive, applies, perform, unless, rule}
-use Rattle.model.specs.Run.{Call, Event, lineAt, withLine, ruled, stepOn, returned, filledWith, answered}
+use Rattle.model.specs.Limits.{Others, nobody}
+use Rattle.model.specs.Session.{Operation, open-session, close-session, ask, short-ask, show, explain, clauses, isAsk, sessionOf, queryOf, refuse, Result, Refusal, bad-line, refusalNumber, canGive, otherFirst, applies, perform, refusalExtra, unless, rule}
+use Rattle.model.specs.Run.{Call, Event, lineAt, withLine, lineOf, told, ruled, stepOn, returned, filledWith, answered}
 use Rattle.model.proofs.LedgerLaws.{apart, own-line, step-below}
 use Rattle.model.proofs.Reaches.{authorized-alone}
 use Rattle.ledger.specs.Held.{Held}
-use Rattle.calls.specs.Calls.{Known, policyBy, lineOf, firstRefusal, Gives, Shows}
+use Rattle.calls.specs.Calls.{Known, policyBy, firstRefusal, Gives, Shows}
 
 -- ---- a refusal, which leaves the ledger alone
 abbrev pub refusedBy : ℕ → List ℕ → Event
@@ -90,36 +91,39 @@ pub ends : (f : Refusal → Bool) → first f [] ≡ none
 unfolding first
 ends f = refl
 
-module _ (W : ℕ) (m : Meaning) (bs : List ℕ) (op : Operation) where
-  pub rule-refuses : (x : Refusal) → first (applies W m (readLine W bs) (sessionOf op) (queryOf op)) (canGive op) ≡ some x
-      → rule W m bs op ≡ record { reply = refuse (refusalNumber x) 0; line = bs }
+module _ (W : ℕ) (m : Meaning) (o : Others) (bs : List ℕ) (op : Operation) where
+  pub rule-refuses : (x : Refusal) → first (applies W m o (readLine W bs) (sessionOf op) (queryOf op)) (canGive op) ≡ some x
+      → rule W m o bs op ≡ record { reply = refuse (refusalNumber x) (refusalExtra o x); line = bs }
   unfolding rule unless
   rule-refuses x e = rw e
 
-  pub rule-performs : first (applies W m (readLine W bs) (sessionOf op) (queryOf op)) (canGive op) ≡ none
-      → rule W m bs op ≡ perform W m (readLine W bs) bs op
+  pub rule-performs : first (applies W m o (readLine W bs) (sessionOf op) (queryOf op)) (canGive op) ≡ none
+      → rule W m o bs op ≡ perform W m o (readLine W bs) bs op
   unfolding rule unless
   rule-performs e = rw e
 
--- a line that is not sound refuses every call
-rule11 : (W : ℕ) (m : Meaning) (bs : List ℕ) (op : Operation) → sound W m (readLine W bs) ≡ false
-    → rule W m bs op ≡ record { reply = refuse 11 0; line = bs }
-unfolding canGive applies refusalNumber
-rule11 W m bs op e = rule-refuses W m bs op bad-line (go op)
+-- a line that is not sound refuses every call that is told of no other such line
+rule11 : (W : ℕ) (m : Meaning) (o : Others) (bs : List ℕ) (op : Operation) → o .unsound ≡ none → sound W m (readLine W bs) ≡ false
+    → rule W m o bs op ≡ record { reply = refuse 11 0; line = bs }
+unfolding canGive applies refusalNumber refusalExtra otherFirst
+rule11 W m o bs op quiet e = rule-refuses W m o bs op bad-line (go op)
   where
-    go : (o : Operation) → first (applies W m (readLine W bs) (sessionOf o) (queryOf o)) (canGive o) ≡ some bad-line
+    calm : (own : Bool) → otherFirst own (m .user) (o .unsound) ≡ false
+    calm own = ap (otherFirst own (m .user)) quiet
+
+    go : (op : Operation) → first (applies W m o (readLine W bs) (sessionOf op) (queryOf op)) (canGive op) ≡ some bad-line
     go open-session = holds _ _ _ (ap not e)
     go (close-session k) = holds _ _ _ (ap not e)
-    go (ask k q) = holds _ _ _ (ap not e)
-    go (short-ask k lower upper room) = holds _ _ _ (ap not e)
+    go (ask k q) = fails _ _ _ (calm _) ∙ holds _ _ _ (ap not e)
+    go (short-ask k lower upper room) = fails _ _ _ (calm _) ∙ holds _ _ _ (ap not e)
     go (show k room) = holds _ _ _ (ap not e)
     go (explain k n) = holds _ _ _ (ap not e)
-    go (clauses k q) = holds _ _ _ (ap not e)
+    go (clauses k q) = fails _ _ _ (calm _) ∙ holds _ _ _ (ap not e)
 
 module _ (W : ℕ) (p : Policy) (ledger : List ℕ) (c : Call) where
   -- under a refusal of the session rules the ledger stays
   pub ruled-refused : (n : ℕ)
-      → rule W (meaning p (c .user)) (lineAt (lineSize W) (c .user) ledger) (c .operation)
+      → rule W (meaning p (c .user)) (told W p ledger c) (lineAt (lineSize W) (c .user) ledger) (c .operation)
       ≡ record { reply = refuse n 0; line = lineAt (lineSize W) (c .user) ledger }
       → ruled W p ledger c ≡ refusedBy n ledger
   unfolding ruled
@@ -127,21 +131,31 @@ module _ (W : ℕ) (p : Policy) (ledger : List ℕ) (c : Call) where
       ap (λ (r : Result). record { reply = r .reply; ledger = withLine (lineSize W) (c .user) (r .line) ledger }) e
       ∙ ap (λ (l : List ℕ). record { reply = refuse n 0; ledger = l }) (own-line (lineSize W) (c .user) ledger)
 
-  -- a call whose first refusal is n
-  pub stopped : (n : ℕ) → n ≡ firstRefusal W p ledger (c .user) → (n ≡ 0 → ⊥) → stepOn W p ledger c ≡ refusedBy n ledger
+  -- a call that is no ask is told nothing
+  pub untold : isAsk (c .operation) ≡ false → length ledger ≡ lineSize W * p .head .users → c .user < p .head .users
+      → told W p ledger c .unsound ≡ none
+  unfolding told nobody
+  untold e l b = rw (e, told)
+
+  -- a call whose first refusal is n, told of no other line that is not sound
+  pub stopped : (length ledger ≡ lineSize W * p .head .users → c .user < p .head .users → told W p ledger c .unsound ≡ none)
+      → (n : ℕ) → n ≡ firstRefusal W p ledger (c .user) → (n ≡ 0 → ⊥) → stepOn W p ledger c ≡ refusedBy n ledger
   unfolding stepOn firstRefusal pick lineOf
-  stopped n h z =
-      go (eqb (length ledger) (lineSize W * p .head .users)) (ltb (c .user) (p .head .users))
+  stopped quiet n h z =
+      go (eqb (length ledger) (lineSize W * p .head .users)) refl (ltb (c .user) (p .head .users)) refl
       (sound W (meaning p (c .user)) (lineOf W ledger (c .user))) refl h
     where
-      go : (a b x : Bool) → sound W (meaning p (c .user)) (lineOf W ledger (c .user)) ≡ x
+      go : (a : Bool) → eqb (length ledger) (lineSize W * p .head .users) ≡ a → (b : Bool) → ltb (c .user) (p .head .users) ≡ b
+          → (x : Bool) → sound W (meaning p (c .user)) (lineOf W ledger (c .user)) ≡ x
           → n ≡ pick {X = ℕ} (not a) 9 (pick {X = ℕ} (not b) 10 (pick {X = ℕ} (not x) 11 0))
           → pick (not a) (refusedBy 9 ledger) (pick (not b) (refusedBy 10 ledger) (ruled W p ledger c)) ≡ refusedBy n ledger
-      go false b x k h = ap (λ (i : ℕ). refusedBy i ledger) (sym h)
-      go true false x k h = ap (λ (i : ℕ). refusedBy i ledger) (sym h)
-      go true true true k h = absurd (z h)
-      go true true false k h =
-          ruled-refused 11 (rule11 W (meaning p (c .user)) (lineAt (lineSize W) (c .user) ledger) (c .operation) k)
+      go false f b g x k h = ap (λ (i : ℕ). refusedBy i ledger) (sym h)
+      go true f false g x k h = ap (λ (i : ℕ). refusedBy i ledger) (sym h)
+      go true f true g true k h = absurd (z h)
+      go true f true g false k h =
+          ruled-refused 11
+          (rule11 W (meaning p (c .user)) (told W p ledger c) (lineAt (lineSize W) (c .user) ledger) (c .operation)
+          (quiet (eqb-true (length ledger) (lineSize W * p .head .users) f) (ltb-true (c .user) (p .head .users) g)) k)
           ∙ ap (λ (i : ℕ). refusedBy i ledger) (sym h)
 
   -- a call that none of them refuses goes by the session rules
@@ -149,27 +163,29 @@ module _ (W : ℕ) (p : Policy) (ledger : List ℕ) (c : Call) where
   by-rules r = step-below W p ledger (r .fits) c (r .below)
 
   -- the session rules' refusal, given in the case of the call
-  pub refuses : Ready W p ledger (c .user) → (x : Refusal)
-      → first (applies W (meaning p (c .user)) (lineOf W ledger (c .user)) (sessionOf (c .operation)) (queryOf (c .operation)))
+  pub refuses : Ready W p ledger (c .user) → (x : Refusal) → refusalExtra (told W p ledger c) x ≡ 0
+      → first (applies W (meaning p (c .user)) (told W p ledger c) (lineOf W ledger (c .user)) (sessionOf (c .operation)) (queryOf (c .operation)))
       (canGive (c .operation)) ≡ some x
       → stepOn W p ledger c ≡ refusedBy (refusalNumber x) ledger
   unfolding lineOf
-  refuses r x e =
+  refuses r x q e =
       by-rules r
-      ∙ ruled-refused (refusalNumber x) (rule-refuses W (meaning p (c .user)) (lineAt (lineSize W) (c .user) ledger) (c .operation) x e)
+      ∙ ruled-refused (refusalNumber x)
+      (rule-refuses W (meaning p (c .user)) (told W p ledger c) (lineAt (lineSize W) (c .user) ledger) (c .operation) x e
+      ∙ ap (λ (n : ℕ). record { reply = refuse (refusalNumber x) n; line = lineAt (lineSize W) (c .user) ledger }) q)
 
   -- the work, where nothing refuses
   pub performs : Ready W p ledger (c .user)
-      → first (applies W (meaning p (c .user)) (lineOf W ledger (c .user)) (sessionOf (c .operation)) (queryOf (c .operation)))
+      → first (applies W (meaning p (c .user)) (told W p ledger c) (lineOf W ledger (c .user)) (sessionOf (c .operation)) (queryOf (c .operation)))
       (canGive (c .operation)) ≡ none
       → stepOn W p ledger c
-      ≡ (let r = perform W (meaning p (c .user)) (lineOf W ledger (c .user)) (lineAt (lineSize W) (c .user) ledger) (c .operation) in
+      ≡ (let r = perform W (meaning p (c .user)) (told W p ledger c) (lineOf W ledger (c .user)) (lineAt (lineSize W) (c .user) ledger) (c .operation) in
       record { reply = r .reply; ledger = withLine (lineSize W) (c .user) (r .line) ledger })
   unfolding lineOf ruled
   performs r e =
       by-rules r
       ∙ ap (λ (x : Result). record { reply = x .reply; ledger = withLine (lineSize W) (c .user) (x .line) ledger })
-      (rule-performs W (meaning p (c .user)) (lineAt (lineSize W) (c .user) ledger) (c .operation) e)
+      (rule-performs W (meaning p (c .user)) (told W p ledger c) (lineAt (lineSize W) (c .user) ledger) (c .operation) e)
 
 -- ---- what code knows of a call that none of them refuses
 

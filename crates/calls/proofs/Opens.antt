@@ -1,6 +1,6 @@
 -- The cases of an open on a sound line: all sessions open, and a session opened.
 -- Assumes nothing.
-use mathlib.Core.Path.{_≡_, sym, ap, _∙_}
+use mathlib.Core.Path.{_≡_, sym, ap, _∙_, refl}
 use mathlib.Core.Bool.{true, not}
 use mathlib.Core.List.{List}
 use Prim.Native.Nat.{ℕ, _*_, _^_, _≤_, _<_}
@@ -12,12 +12,12 @@ use Rattle.model.specs.Sets.{count}
 use Rattle.model.specs.Policy.{Policy, Meaning, meaning}
 use Rattle.model.specs.declared.Line.{Line}
 use Rattle.model.specs.Line.{lineSize, writeLine, sound, lowestClosed, opening}
-use Rattle.model.specs.Session.{done, is-full, refusalNumber, canGive, applies, perform, sessionOf, queryOf}
-use Rattle.model.specs.Run.{Event, withLine, stepOn, openBy, returned}
+use Rattle.model.specs.Session.{done, is-full, refusalNumber, refusalExtra, canGive, applies, perform, sessionOf, queryOf}
+use Rattle.model.specs.Run.{Event, withLine, stepOn, openBy, returned, lineOf}
 use Rattle.model.proofs.Bools.{and-l}
 use Rattle.model.proofs.SetLaws.{ones-count}
 use Rattle.model.proofs.CallLaws.{lowest-closed}
-use Rattle.calls.specs.Calls.{lineOf, Gives}
+use Rattle.calls.specs.Calls.{Gives}
 use Rattle.calls.proofs.FirstSteps.{Ready, gives-refusal, refuses, performs, holds, fails, ends}
 
 -- the open bits of a sound line are those of its sessions
@@ -33,10 +33,10 @@ module _ (W : ℕ) (p : Policy) (ledger : List ℕ) (u : ℕ) (small : W ≤ 64)
       sym (ones-count 64 _ (lt-of-lt-of-le h (pow-mono small))) ∙ ones-count W _ h
 
   pub open14 : count 64 (lineOf W ledger u .opened) ≡ W → Gives (stepOn W p ledger (openBy u)) 14 ledger
-  unfolding openBy canGive applies refusalNumber sessionOf queryOf
+  unfolding openBy canGive applies refusalNumber refusalExtra sessionOf queryOf
   open14 e =
       gives-refusal _ 14 ledger
-      (refuses W p ledger (openBy u) r is-full
+      (refuses W p ledger (openBy u) r is-full refl
       (fails _ _ _ (ap not (r .sound-line)) ∙ holds _ _ _ (eq-eqb _ _ (sym counts ∙ e))))
 
   -- what `opened` asks: the lowest closed session is one of them
@@ -46,7 +46,7 @@ module _ (W : ℕ) (p : Policy) (ledger : List ℕ) (u : ℕ) (small : W ≤ 64)
   pub open0 : (count 64 (lineOf W ledger u .opened) ≡ W → ⊥)
       → Gives (stepOn W p ledger (openBy u)) (256 * lowestClosed (lineOf W ledger u) 0 W)
       (withLine (lineSize W) u (writeLine (opening (lowestClosed (lineOf W ledger u) 0 W) (lineOf W ledger u))) ledger)
-  unfolding openBy canGive applies refusalNumber sessionOf queryOf perform done returned
+  unfolding openBy canGive applies refusalNumber refusalExtra sessionOf queryOf perform done returned
   open0 e =
       let h = performs W p ledger (openBy u) r
       (fails _ _ _ (ap not (r .sound-line)) ∙ fails _ _ _ (ne-eqb _ _ (λ q. e (counts ∙ q))) ∙ ends _) in

@@ -1,6 +1,6 @@
 -- The cases of a show on a sound line: no such session, a closed one, a buffer of another length, and a session shown.
 -- Assumes nothing.
-use mathlib.Core.Path.{_≡_, sym, ap, _∙_}
+use mathlib.Core.Path.{_≡_, sym, ap, _∙_, refl}
 use mathlib.Core.Bool.{true, false, not}
 use mathlib.Core.List.{List, _++_}
 use Prim.Native.Nat.{ℕ, _+_, _≤_, _<_}
@@ -11,10 +11,10 @@ use Rattle.model.specs.Policy.{Policy, belowTable, reached, carriedTable, meani
 use Rattle.model.specs.Bytes.{bytesOf}
 use Rattle.model.specs.Line.{sessionAt, isOpen}
 use Rattle.model.specs.Choice.{carriedBy}
-use Rattle.model.specs.Session.{given, bad-session, is-closed, bad-room, refusalNumber, canGive, applies, perform, sessionOf, queryOf}
-use Rattle.model.specs.Run.{Event, stepOn, showBy, returned, filledWith, answered}
+use Rattle.model.specs.Session.{given, bad-session, is-closed, bad-room, refusalNumber, refusalExtra, canGive, applies, perform, sessionOf, queryOf}
+use Rattle.model.specs.Run.{Event, stepOn, showBy, returned, filledWith, answered, lineOf}
 use Rattle.tables.specs.Carried.{carriedOf}
-use Rattle.calls.specs.Calls.{lineOf, Shows}
+use Rattle.calls.specs.Calls.{Shows}
 use Rattle.calls.proofs.FirstSteps.{Ready, shows-refusal, refuses, performs, holds, fails, ends}
 
 -- what the active roles carry by the tables is what the policy says that they carry
@@ -27,24 +27,24 @@ set-carries p u active granted below eg eb =
 
 module _ (W : ℕ) (p : Policy) (ledger : List ℕ) (u k : ℕ) (room : List ℕ) (r : Ready W p ledger u) where
   pub show12 : W ≤ k → Shows (stepOn W p ledger (showBy u k (length room))) 12 room room
-  unfolding showBy canGive applies refusalNumber sessionOf queryOf
+  unfolding showBy canGive applies refusalNumber refusalExtra sessionOf queryOf
   show12 h =
       shows-refusal _ 12 ledger room
-      (refuses W p ledger (showBy u k (length room)) r bad-session (fails _ _ _ (ap not (r .sound-line)) ∙ holds _ _ _ (le-leb _ _ h)))
+      (refuses W p ledger (showBy u k (length room)) r bad-session refl (fails _ _ _ (ap not (r .sound-line)) ∙ holds _ _ _ (le-leb _ _ h)))
 
   pub show13 : k < W → isOpen (lineOf W ledger u) k ≡ false → Shows (stepOn W p ledger (showBy u k (length room))) 13 room room
-  unfolding showBy canGive applies refusalNumber sessionOf queryOf
+  unfolding showBy canGive applies refusalNumber refusalExtra sessionOf queryOf
   show13 h o =
       shows-refusal _ 13 ledger room
-      (refuses W p ledger (showBy u k (length room)) r is-closed
+      (refuses W p ledger (showBy u k (length room)) r is-closed refl
       (fails _ _ _ (ap not (r .sound-line)) ∙ fails _ _ _ (lt-leb _ _ h) ∙ holds _ _ _ (ap not o)))
 
   pub show19 : k < W → isOpen (lineOf W ledger u) k ≡ true → (length room ≡ 40 → ⊥)
       → Shows (stepOn W p ledger (showBy u k (length room))) 19 room room
-  unfolding showBy canGive applies refusalNumber sessionOf queryOf
+  unfolding showBy canGive applies refusalNumber refusalExtra sessionOf queryOf
   show19 h o n =
       shows-refusal _ 19 ledger room
-      (refuses W p ledger (showBy u k (length room)) r bad-room
+      (refuses W p ledger (showBy u k (length room)) r bad-room refl
       (fails _ _ _ (ap not (r .sound-line)) ∙ fails _ _ _ (lt-leb _ _ h) ∙ fails _ _ _ (ap not o) ∙ holds _ _ _ (ap not (ne-eqb _ _ n))))
 
   -- the active roles and what they carry fill the buffer
@@ -52,7 +52,7 @@ module _ (W : ℕ) (p : Policy) (ledger : List ℕ) (u k : ℕ) (room : List ℕ
       → Shows (stepOn W p ledger (showBy u k (length room))) 0 room
       (bytesOf 8 (sessionAt (lineOf W ledger u) k .active)
       ++ bytesOf 32 (carriedBy (meaning p u) (sessionAt (lineOf W ledger u) k .active)))
-  unfolding showBy canGive applies refusalNumber sessionOf queryOf perform given returned answered filledWith bytesOf
+  unfolding showBy canGive applies refusalNumber refusalExtra sessionOf queryOf perform given returned answered filledWith bytesOf
   show0 h o n =
       let e = performs W p ledger (showBy u k (length room)) r
       (fails _ _ _ (ap not (r .sound-line)) ∙ fails _ _ _ (lt-leb _ _ h) ∙ fails _ _ _ (ap not o) ∙ fails _ _ _ (ap not (eq-eqb _ _ n)) ∙ ends _) in

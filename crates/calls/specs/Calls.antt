@@ -9,11 +9,10 @@ use lib.Dec.{eqb, ltb}
 use lib.ListN.{getD, length, take}
 use Rattle.model.specs.declared.Head.{Head}
 use Rattle.model.specs.declared.Exclusions.{Exclusions}
-use Rattle.model.specs.declared.Line.{Line}
 use Rattle.model.specs.Tests.{pick}
 use Rattle.model.specs.Policy.{Policy, authorized, meaning}
-use Rattle.model.specs.Line.{lineSize, readLine, sound}
-use Rattle.model.specs.Run.{lineAt, Event, returned, answered}
+use Rattle.model.specs.Line.{lineSize, sound}
+use Rattle.model.specs.Run.{lineOf, Event, returned, answered}
 
 -- the head, the roles that each user may activate, a word a user, and the exclusions are those of the policy
 pub record Known (head : Head) (own : List ℕ) (xs : Exclusions) (p : Policy) : Type 0 where
@@ -24,11 +23,7 @@ pub record Known (head : Head) (own : List ℕ) (xs : Exclusions) (p : Policy) :
 -- a policy that has these parts: the roles assigned, and no senior word
 unfoldable pub policyBy : Head → List ℕ → Exclusions → Policy
 policyBy head own xs =
-    record { head = head; assigned = own; granted = []; juniors = []; exclusions = take (xs .count) (xs .list) }
-
--- the line of user u
-unfoldable pub lineOf : ℕ → List ℕ → ℕ → Line
-lineOf W ledger u = readLine W (lineAt (lineSize W) u ledger)
+    record { head = head; assigned = own; granted = []; juniors = []; exclusions = take (xs .count) (xs .list); limits = [] }
 
 -- 9 for a ledger that does not fit, 10 for a user without a line, 11 for a line that is not sound, else 0
 unfoldable pub firstRefusal : ℕ → Policy → List ℕ → ℕ → ℕ

@@ -18,8 +18,8 @@ use Rattle.model.specs.declared.Line.{Line}
 use Rattle.model.specs.Tests.{pick, any, all}
 use Rattle.model.specs.Sets.{has, union, inter, within, one, countTo, count, unionAt, setOf}
 use Rattle.model.specs.Policy.{Meaning}
-use Rattle.model.specs.Line.{sessionAt, activeIn, counted, exclusionsMet}
-use Rattle.model.specs.Conditions.{others, countedAfter, MetAfter}
+use Rattle.model.specs.Line.{sessionAt, activeIn, others, counted, exclusionsMet}
+use Rattle.model.specs.Conditions.{countedAfter, MetAfter}
 use Rattle.model.specs.Choice.{carriedBy, admissible}
 use Rattle.model.specs.Ranges.{Each, ExclusionInRange}
 use Rattle.model.specs.Reduced.{stay, stays, maskOf, roomOf}

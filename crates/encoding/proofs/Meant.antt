@@ -8,15 +8,18 @@ use Prim.Native.Nat.{ℕ, _^_, _≤_, _<_}
 use lib.ListN.{length, getD, List·getD-map}
 use Rattle.model.specs.declared.Exclusion.{Exclusion}
 use Rattle.model.specs.declared.Line.{Line}
-use Rattle.model.specs.Sets.{has, unionAt}
+use Rattle.model.specs.Sets.{has, within, unionAt}
 use Rattle.model.specs.Policy.{Policy, Meaning, reached, carriedTable, meaning}
 use Rattle.model.specs.Line.{counted, sessionAt, exclusionsMet}
+use Rattle.model.specs.Limits.{Others, unbarred}
 use Rattle.model.specs.Choice.{carriedBy, admissible}
 use Rattle.model.specs.Conditions.{MetAfter}
 use Rattle.model.specs.Ranges.{Each, OneTo, ExclusionInRange, InRange}
-use Rattle.model.proofs.UnionLaws.{unionTo-lt, unionAt-none}
+use Rattle.model.proofs.UnionLaws.{has-below, unionTo-lt, unionAt-none}
+use Rattle.model.proofs.AnyWidth.{within-iff, members-below}
 use Rattle.model.proofs.Reaches.{authorized-below}
 use Rattle.model.proofs.ConditionsProof.{Met, exclusionsMet-iff, solution}
+use Rattle.model.proofs.Barred.{change-first, first-of, left-own}
 
 -- 001's conditions for session k alone (specs/Conditions.antt), by a policy's meaning
 pub record Solved (p : Meaning) (l : Line) (k lb ub s : ℕ) : Type 0 where
@@ -63,4 +66,37 @@ module _ (p : Policy) (range : InRange p) (u : ℕ) where
               (λ e. let d = c .0 e in record { own = d .own; lower = d .lower; upper = d .upper; exclusions = d .exclusions }),
               (λ d. c .1 (record { own = d .own; lower = d .lower; upper = d .upper; exclusions = d .exclusions })),
             );
+      }
+
+-- the same where limits bar roles: those that are left are the user's
+module _ (m : Meaning) (h : Meant m) (x : Others) (l₀ : Line) (k₀ : ℕ) where
+  abbrev left : Meaning
+  left = unbarred m x l₀ k₀
+
+  left-solution : (l : Line) (k lb ub s : ℕ) → k < length (l .sessions) → exclusionsMet m l ≡ true
+      → (admissible left l k lb ub s ≡ true) ↔ Solved left l k lb ub s
+  unfolding admissible carriedBy exclusionsMet unbarred
+  left-solution l k lb ub s inside met = (
+    (λ e. let own = within-iff s (left .authorized) .0 (first-of (within s (left .authorized)) _ _ _ e) in
+        let d = h .solution l k lb ub s inside met .0
+        (change-first (within s (left .authorized)) (within s (m .authorized)) _ _ _
+        (λ _. within-iff s (m .authorized) .1 (λ r q. left-own m x l₀ k₀ r (own r q))) e) in
+        record { own = own; lower = d .lower; upper = d .upper; exclusions = d .exclusions }),
+    (λ d. change-first (within s (m .authorized)) (within s (left .authorized)) _ _ _ (λ _. within-iff s (left .authorized) .1 (d .own))
+        (h .solution l k lb ub s inside met .1
+        (record { own = λ r q. left-own m x l₀ k₀ r (d .own r q); lower = d .lower; upper = d .upper; exclusions = d .exclusions }))),
+  )
+
+  pub left-meant : Meant left
+  unfolding exclusionsMet unbarred
+  left-meant =
+      record {
+        roles = h .roles;
+        permissions = h .permissions;
+        own = members-below (m .roles) (left .authorized) (λ r e. has-below (m .roles) (m .authorized) r (h .own) (left-own m x l₀ k₀ r e));
+        rows = h .rows;
+        few-exclusions = h .few-exclusions;
+        exclusions = h .exclusions;
+        met-now = h .met-now;
+        solution = left-solution;
       }

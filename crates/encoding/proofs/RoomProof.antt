@@ -11,12 +11,13 @@ use borrow.Author.Tests.{le-ltb, leb-false, not-false}
 use Rattle.model.specs.Tests.{first}
 use Rattle.model.specs.Bytes.{number}
 use Rattle.model.specs.Policy.{Meaning}
-use Rattle.model.specs.Line.{readLine, sound}
-use Rattle.model.specs.Session.{Query, clauses, refuse, wrote, Result, Refusal, bad-line, bad-session, is-closed, bad-set, bad-permission, bad-bounds, bad-aim, too-long, refusalNumber, canGive, textFor, applies, perform, sessionOf, queryOf, unless, rule}
+use Rattle.model.specs.Line.{readLine, sound, exclusionsMet}
+use Rattle.model.specs.Limits.{Others, unbarred}
+use Rattle.model.specs.Session.{Query, clauses, refuse, wrote, Result, Refusal, bad-other, bad-line, bad-session, is-closed, bad-set, bad-permission, bad-bounds, bad-aim, too-long, refusalNumber, canGive, textFor, applies, perform, sessionOf, queryOf, unless, rule}
 use Rattle.model.proofs.LineLaws.{length-readSessions}
 use Rattle.model.proofs.SoundLaws.{sound-parts}
 use Rattle.encoding.specs.Texts.{TEXT_ROOM, RoomEnough}
-use Rattle.encoding.proofs.Meant.{Meant}
+use Rattle.encoding.proofs.Meant.{Meant, left-meant}
 use Rattle.encoding.proofs.DimacsSizes.{text-small}
 
 -- what refuses a call is not of number 19
@@ -42,24 +43,25 @@ none-left f x e = go (f x) refl
     go true p = absurd (true≢false (sym p ∙ e))
     go false p = tt
 
-module _ (W : ℕ) (m : Meaning) (range : Meant m) (bs : List ℕ) (k : ℕ) (q : Query) (enough : TEXT_ROOM ≤ q .room) where
+module _ (W : ℕ) (m : Meaning) (range : Meant m) (x : Others) (bs : List ℕ) (k : ℕ) (q : Query) (enough : TEXT_ROOM ≤ q .room) where
   abbrev tests : Refusal → Bool
-  tests = applies W m (readLine W bs) k q
+  tests = applies W m x (readLine W bs) k q
 
   fits : sound W m (readLine W bs) ≡ true → k < W → tests too-long ≡ false
-  unfolding applies textFor readLine
+  unfolding applies textFor readLine unbarred exclusionsMet
   fits s l =
       let inside : k < length (readLine W bs .sessions) = rw (length-readSessions W _) l in
       le-ltb (q .room) _
       (omega (
         arith,
-        text-small m range (readLine W bs) k (number (q .lower)) (number (q .upper)) inside (sound-parts m (readLine W bs) W s .met) (q .permissionAim) (q .roleAim)
+        text-small (unbarred m x (readLine W bs) k) (left-meant m range x (readLine W bs) k) (readLine W bs) k (number (q .lower)) (number (q .upper)) inside (sound-parts m (readLine W bs) W s .met) (q .permissionAim) (q .roleAim)
             .bytes,
       ))
 
   never : Never19 (first tests (canGive (clauses k q)))
   unfolding canGive applies refusalNumber
   never =
+      passing tests bad-other _ (λ e. omega arith) (λ _.
       passing tests bad-line _ (λ e. omega arith) (λ a.
       passing tests bad-session _ (λ e. omega arith) (λ b.
       passing tests is-closed _ (λ e. omega arith) (λ _.
@@ -67,16 +69,16 @@ module _ (W : ℕ) (m : Meaning) (range : Meant m) (bs : List ℕ) (k : ℕ) (q 
       passing tests bad-permission _ (λ e. omega arith) (λ _.
       passing tests bad-bounds _ (λ e. omega arith) (λ _.
       passing tests bad-aim _ (λ e. omega arith) (λ _.
-      none-left tests too-long (fits (not-false (sound W m (readLine W bs)) a) (leb-false W k b)))))))))
+      none-left tests too-long (fits (not-false (sound W m (readLine W bs)) a) (leb-false W k b))))))))))
 
-  unless-never : (o : Option Refusal) → Never19 o → ¬ (unless o bs (perform W m (readLine W bs) bs (clauses k q)) .reply .number ≡ 19)
+  unless-never : (o : Option Refusal) → Never19 o → ¬ (unless x o bs (perform W m x (readLine W bs) bs (clauses k q)) .reply .number ≡ 19)
   unfolding unless refuse perform wrote
   unless-never none h e = omega arith
   unless-never (some f) h e = h e
 
-  room-here : ¬ (rule W m bs (clauses k q) .reply .number ≡ 19)
+  room-here : ¬ (rule W m x bs (clauses k q) .reply .number ≡ 19)
   unfolding rule sessionOf queryOf
   room-here = unless-never (first tests (canGive (clauses k q))) never
 
 pub room-enough : (W : ℕ) (m : Meaning) → Meant m → RoomEnough W m
-room-enough W m range bs k q enough = room-here W m range bs k q enough
+room-enough W m range x bs k q enough = room-here W m range x bs k q enough

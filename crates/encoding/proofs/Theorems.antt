@@ -3,20 +3,27 @@
 -- Assumes nothing.
 use mathlib.Core.Path.{_≡_}
 use mathlib.Core.Bool.{true}
+use mathlib.Core.Logic.{_↔_}
 use mathlib.Core.List.{List}
 use Prim.Native.Nat.{ℕ, _^_, _<_}
+use native.Mathlib.Nat.{lt-of-lt-of-le}
+use lib.Pow.{pow-mono}
 use lib.ListN.{length}
 use Rattle.model.specs.declared.Head.{Head}
 use Rattle.model.specs.declared.Line.{Line}
 use Rattle.model.specs.declared.Checked.the-variants.{Accepted}
 use Rattle.model.specs.Judgement.{judge}
-use Rattle.model.specs.Policy.{policyOf, meaning}
+use Rattle.model.specs.Policy.{Meaning, policyOf, meaning}
+use Rattle.model.specs.Limits.{Others, unbarred}
+use Rattle.model.specs.Choice.{admissible}
+use Rattle.model.specs.Chosen.{Unbarred}
 use Rattle.model.specs.Line.{exclusionsMet}
 use Rattle.model.specs.Ranges.{Each}
 use Rattle.model.proofs.Judgements.{accepted-in-range}
+use Rattle.model.proofs.Barred.{admissible-unbarred}
 use Rattle.encoding.specs.Satisfied.{HardIs, SoftIs, FewClauses}
 use Rattle.encoding.specs.Texts.{TextIs, TextSmall, RoomEnough}
-use Rattle.encoding.proofs.Meant.{Meant, meant}
+use Rattle.encoding.proofs.Meant.{Meant, meant, left-meant}
 use Rattle.encoding.proofs.ClauseProof
 use Rattle.encoding.proofs.ClauseWeights
 use Rattle.encoding.proofs.DimacsProof
@@ -27,25 +34,44 @@ module _ (s : List ℕ) (h : Head) (accepted : judge s ≡ Accepted h) where
   by-policy : (u : ℕ) → Meant (meaning (policyOf s) u)
   by-policy = meant (policyOf s) (accepted-in-range s h accepted)
 
-  module _ (u : ℕ) (l : Line) (k lower upper : ℕ) (open-k : k < length (l .sessions))
-      (met : exclusionsMet (meaning (policyOf s) u) l ≡ true) where
-    -- the hard clauses are satisfied exactly by what says an admissible set and what it carries
-    pub hard-clauses : lower < 2 ^ policyOf s .head .permissions → HardIs (meaning (policyOf s) u) l k lower upper
-    unfolding meaning
-    hard-clauses low = ClauseProof.hard-is (meaning (policyOf s) u) (by-policy u) l k lower upper open-k met low
+  -- what the policy means to user u for a choice for session k of the line, given what is told of the other users: barred roles are not u's
+  abbrev pub left : ℕ → Others → Line → ℕ → Meaning
+  left u x l k = unbarred (meaning (policyOf s) u) x l k
 
-    -- the soft clauses rank those sets by the objectives
-    pub soft-clauses : lower < 2 ^ policyOf s .head .permissions → (a b : ℕ) → SoftIs (meaning (policyOf s) u) l k lower upper a b
-    unfolding meaning
-    soft-clauses low = ClauseWeights.soft-is (meaning (policyOf s) u) (by-policy u) l k lower upper open-k met low
+  left-policy : (u : ℕ) (x : Others) (l : Line) (k : ℕ) → Meant (left u x l k)
+  left-policy u = left-meant (meaning (policyOf s) u) (by-policy u)
+
+  -- the sets that are admissible then are the admissible ones without barred roles
+  pub left-admissible : (u : ℕ) (x : Others) (l : Line) (k lower upper t : ℕ)
+      → (admissible (left u x l k) l k lower upper t ≡ true)
+      ↔ ((admissible (meaning (policyOf s) u) l k lower upper t ≡ true) × Unbarred (meaning (policyOf s) u) x l k t)
+  left-admissible u x l k lower upper t =
+      admissible-unbarred (meaning (policyOf s) u) x l k
+      (lt-of-lt-of-le (by-policy u .own) (pow-mono (by-policy u .roles .1))) lower upper t
+
+  module _ (u : ℕ) (x : Others) (l : Line) (k lower upper : ℕ) (open-k : k < length (l .sessions))
+      (met : exclusionsMet (meaning (policyOf s) u) l ≡ true) where
+    met-left : exclusionsMet (left u x l k) l ≡ true
+    unfolding exclusionsMet unbarred
+    met-left = met
+
+    -- the hard clauses are satisfied exactly by what says an admissible set without barred roles and what it carries
+    pub hard-clauses : lower < 2 ^ policyOf s .head .permissions → HardIs (left u x l k) l k lower upper
+    unfolding meaning unbarred
+    hard-clauses low = ClauseProof.hard-is (left u x l k) (left-policy u x l k) l k lower upper open-k met-left low
+
+    -- the soft clauses rank those sets by the objectives, and the set that answers the ask violates the least weight
+    pub soft-clauses : lower < 2 ^ policyOf s .head .permissions → (a b : ℕ) → SoftIs (left u x l k) l k lower upper a b
+    unfolding meaning unbarred
+    soft-clauses low = ClauseWeights.soft-is (left u x l k) (left-policy u x l k) l k lower upper open-k met-left low
 
     -- the head of the clause text tells the numbers of variables and lines
-    pub clause-text : (a b : ℕ) → TextIs (meaning (policyOf s) u) l k lower upper a b
-    clause-text a b = DimacsProof.text-is (meaning (policyOf s) u) (by-policy u) l k lower upper open-k met a b
+    pub clause-text : (a b : ℕ) → TextIs (left u x l k) l k lower upper a b
+    clause-text a b = DimacsProof.text-is (left u x l k) (left-policy u x l k) l k lower upper open-k met-left a b
 
     -- its numbers and its length are small
-    pub clause-sizes : (a b : ℕ) → TextSmall (meaning (policyOf s) u) l k lower upper a b
-    clause-sizes = DimacsSizes.text-small (meaning (policyOf s) u) (by-policy u) l k lower upper open-k met
+    pub clause-sizes : (a b : ℕ) → TextSmall (left u x l k) l k lower upper a b
+    clause-sizes = DimacsSizes.text-small (left u x l k) (left-policy u x l k) l k lower upper open-k met-left
 
   -- a buffer of `TEXT_ROOM` bytes is never too short
   pub room-enough : (W u : ℕ) → RoomEnough W (meaning (policyOf s) u)

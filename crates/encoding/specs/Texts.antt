@@ -9,6 +9,7 @@ use lib.ListN.{length}
 use Rattle.model.specs.declared.Line.{Line}
 use Rattle.model.specs.Tests.{between, all}
 use Rattle.model.specs.Policy.{Meaning}
+use Rattle.model.specs.Limits.{Others}
 use Rattle.model.specs.Clauses.{Literal, holds, fails, Clause, hard, Weighted, soft, top}
 use Rattle.model.specs.Dimacs.{variablesOf, clausesOf, textOf}
 use Rattle.model.specs.Session.{Query, clauses, rule}
@@ -45,4 +46,4 @@ pub record TextSmall (m : Meaning) (l : Line) (k lower upper a b : ℕ) : Type 0
 
 -- so a buffer of that many bytes has room for every text: no clause text into it is refused by 19
 abbrev pub RoomEnough : ℕ → Meaning → Type 0
-RoomEnough W m = (bs : List ℕ) (k : ℕ) (q : Query) → TEXT_ROOM ≤ q .room → ¬ (rule W m bs (clauses k q) .reply .number ≡ 19)
+RoomEnough W m = (x : Others) (bs : List ℕ) (k : ℕ) (q : Query) → TEXT_ROOM ≤ q .room → ¬ (rule W m x bs (clauses k q) .reply .number ≡ 19)

@@ -14,7 +14,7 @@ use Rattle.model.specs.declared.Checked.the-variants.{Accepted, Refused}
 use Rattle.model.specs.Tests.{lowest}
 use Rattle.model.specs.Sets.{has}
 use Rattle.model.specs.Policy.{Policy, belowTable, reached, authorized, closed}
-use Rattle.model.specs.Judgement.{lowestOnLoop, lowestOverReach, barred, judgeMeaning}
+use Rattle.model.specs.Judgement.{lowestOnLoop, lowestOverReach, refusing, judgeMeaning}
 use Rattle.hierarchy.specs.Loops.{Gives, Judged}
 use Rattle.hierarchy.specs.Reach.{reachAt, wideAt, Authorizes}
 
@@ -74,11 +74,11 @@ module _ (p : Policy) (h : Head) (assigned juniors below : List ℕ) (g : Gives 
     -- by the two tests
     judging : (r u : ℕ) (a b : Bool) → r ≡ lowestOnLoop p → u ≡ lowestOverReach p → ltb r (h .roles) ≡ a → ltb u (h .users) ≡ b
         → verdict a b r u (Accepted h) ≡ judgeMeaning p c
-    unfolding judgeMeaning barred
+    unfolding judgeMeaning refusing
     judging r u a b er eu ea eb =
         ap₂ (λ (x y : Bool). verdict x y r u (Accepted h)) (sym ea) (sym eb)
-        ∙ ap (λ (x : Head). barred 22 r (x .roles) (barred 23 u (x .users) (Accepted h))) (sym (g .head-is))
-        ∙ ap₂ (λ (x y : ℕ). barred 22 x (p .head .roles) (barred 23 y (p .head .users) (Accepted h))) er eu
+        ∙ ap (λ (x : Head). refusing 22 r (x .roles) (refusing 23 u (x .users) (Accepted h))) (sym (g .head-is))
+        ∙ ap₂ (λ (x y : ℕ). refusing 22 x (p .head .roles) (refusing 23 y (p .head .users) (Accepted h))) er eu
         ∙ sym (ap (judgeMeaning p) ec)
 
     module _ (r : ℕ) (er : r ≡ onLoop below (h .roles)) where

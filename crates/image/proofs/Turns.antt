@@ -13,7 +13,7 @@ use Rattle.model.specs.declared.Exclusion.{Exclusion}
 use Rattle.model.specs.declared.Scan.{Scan}
 use Rattle.model.specs.declared.Word.{Word}
 use Rattle.model.specs.declared.Entry.{Entry}
-use Rattle.model.specs.declared.Entry.the-variants.{Assignment, Grant, Senior, Exclude, Member, End, Unknown}
+use Rattle.model.specs.declared.Entry.the-variants.{Assignment, Grant, Senior, Exclude, Member, Limit, End, Unknown}
 use Rattle.model.specs.declared.Checked.{Checked}
 use Rattle.model.specs.declared.Checked.the-variants.{Accepted, Refused}
 use Rattle.model.specs.Tests.{pick}
@@ -44,6 +44,7 @@ due-entry rows t final (Grant r p) k x = omega arith
 due-entry rows t final (Senior a b) k x = omega arith
 due-entry rows t final (Exclude y m) k x = leb-false 32 (t .exclusions) x
 due-entry rows t final (Member r) k x = let n = eqb-false (t .due) 0 (not-first final (eqb (t .due) 0) k) in omega arith
+due-entry rows t final (Limit r n) k x = omega arith
 due-entry rows t final End k x = omega arith
 due-entry rows t final Unknown k x = omega arith
 

@@ -8,7 +8,7 @@ use Rattle.model.specs.declared.Head.{Head}
 use Rattle.model.specs.declared.Scan.{Scan}
 use Rattle.model.specs.declared.Word.{Word}
 use Rattle.model.specs.declared.Entry.{Entry}
-use Rattle.model.specs.declared.Entry.the-variants.{Assignment, Grant, Senior, Exclude, Member, End, Unknown}
+use Rattle.model.specs.declared.Entry.the-variants.{Assignment, Grant, Senior, Exclude, Member, Limit, End, Unknown}
 use Rattle.model.specs.Image.{fault, assigning}
 use Rattle.model.specs.Policy.{ordering}
 
@@ -19,6 +19,7 @@ Small (Grant r p) = r .0 < 64
 Small (Senior a b) = (a .0 < 64) × (b .0 < 64)
 Small (Exclude x m) = m < 128
 Small (Member r) = r .0 < 64
+Small (Limit r t) = r .0 < 64
 Small End = 0 < 1
 Small Unknown = 0 < 1
 
@@ -29,6 +30,7 @@ Due t (Grant r p) = 0 < 1
 Due t (Senior a b) = 0 < 1
 Due t (Exclude x m) = t .exclusions < 32
 Due t (Member r) = 0 < t .due
+Due t (Limit r n) = 0 < 1
 Due t End = 0 < 1
 Due t Unknown = 0 < 1
 

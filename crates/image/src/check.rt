@@ -34,6 +34,7 @@ pub fn wrong_kind(last: bool, due: u32, e: Entry) -> bool
         Entry::Grant(_, _) => last | (due != 0),
         Entry::Senior(_, _) => last | (due != 0),
         Entry::Exclude(_, _) => last | (due != 0),
+        Entry::Limit(_, _) => last | (due != 0),
     }
 }
 
@@ -120,6 +121,21 @@ pub fn member_fault(h: Head, t: Scan, r: Role) -> u8
     0
 }
 
+pub fn limit_fault(h: Head, r: Role, t: u16) -> u8
+    ensures { λ n. ⌜ ((rows : List ℕ) (s : Scan) → n ≡ entryFault h rows s (Entry.Limit r t)) ⌝ }
+{
+    if h.roles <= r.0 {
+        return 5;
+    }
+    if t < 2 {
+        return 5;
+    }
+    if 256 < t {
+        return 5;
+    }
+    0
+}
+
 // 4 where there are spare bits, else the number.
 pub fn spared(spare: u32, number: u8) -> u8
     ensures { λ n. ⌜ n ≡ sparing spare number ⌝ }
@@ -188,6 +204,7 @@ fn taken(
         Entry::Senior(a, b) => take_senior(h, juniors, spare, a, b),
         Entry::Exclude(x, m) => spared(spare, exclusion_fault(h, t, x, m)),
         Entry::Member(r) => spared(spare, member_fault(h, t, r)),
+        Entry::Limit(r, n) => spared(spare, limit_fault(h, r, n)),
         Entry::End => spared(spare, 0),
         Entry::Unknown => spared(spare, 0),
     }
@@ -212,6 +229,7 @@ pub fn next(t: Scan, e: Entry) -> Scan
         Entry::Assignment(_, _) => t,
         Entry::Grant(_, _) => t,
         Entry::Senior(_, _) => t,
+        Entry::Limit(_, _) => t,
         Entry::End => t,
         Entry::Unknown => t,
     }

@@ -52,6 +52,10 @@ pub fn decode(w: u32) -> Word
             entry: Entry::Member(Role(first)),
             spare: w % 4194304,
         },
+        7 => Word {
+            entry: Entry::Limit(Role(first), (w / 8192 % 512) as u16),
+            spare: w % 8192,
+        },
         15 => Word {
             entry: Entry::End,
             spare: 0,

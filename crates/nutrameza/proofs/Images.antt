@@ -3,7 +3,7 @@
 use mathlib.Core.Path.{_≡_, refl, sym, ap, subst, _∙_}
 use mathlib.Core.List.{List}
 use Prim.Native.Nat.{ℕ, _≤_}
-use lib.ListN.{replicate}
+use lib.ListN.{length, replicate}
 use Rattle.model.specs.declared.Head.{Head}
 use Rattle.model.specs.declared.Checked.the-variants.{Accepted, Refused}
 use Rattle.model.specs.Image.{emptyRows, checkNumber}
@@ -16,13 +16,14 @@ use Rattle.model.proofs.Judgements.{accepted-head, accepted-in-range}
 use Rattle.sets.specs.Words.{value, values}
 use Rattle.rows.specs.Rows.{exclusionsIn}
 use Rattle.tables.specs.Tables.{Fresh, Tables}
+use Rattle.tables.proofs.Fills.{length-limits}
 use Rattle.calls.specs.Calls.{Known, Gives, Shows}
 use Rattle.asks.specs.Asks.{Answers}
 
 -- tables of zeros are fresh
-pub fresh : Fresh (replicate 64 0) (values (replicate 64 (replicate 4 0))) (replicate 64 0)
+pub fresh : Fresh (replicate 64 0) (values (replicate 64 (replicate 4 0))) (replicate 64 0) (replicate 64 0)
 unfolding emptyRows values value
-fresh = record { assigned-none = refl; granted-none = refl; juniors-none = refl }
+fresh = record { assigned-none = refl; granted-none = refl; juniors-none = refl; limits-none = refl }
 
 -- an accepted image has at most 64 users
 pub accepted-users : (s : List ℕ) (h : Head) → judge s ≡ Accepted h → h .users ≤ 64
@@ -33,11 +34,16 @@ pub accepted-permissions : (s : List ℕ) (h : Head) → judge s ≡ Accepted h 
 accepted-permissions s h e = subst (λ (x : Head). x .permissions ≤ 256) (accepted-head s h e) (accepted-in-range s h e .permissions .1)
 
 -- an accepted image's tables are known
-pub known-of : (s : List ℕ) (h : Head) (own granted below : List ℕ) (rows : List (List ℕ)) (count : ℕ) → judge s ≡ Accepted h
-    → Tables (policyOf s) own granted below rows count → Known h own (exclusionsIn rows count) (policyOf s)
+pub known-of : (s : List ℕ) (h : Head) (own granted below limits : List ℕ) (rows : List (List ℕ)) (count : ℕ) → judge s ≡ Accepted h
+    → Tables (policyOf s) own granted below limits rows count → Known h own (exclusionsIn rows count) (policyOf s)
 unfolding exclusionsIn
-known-of s h own granted below rows count e t =
+known-of s h own granted below limits rows count e t =
     record { head-is = accepted-head s h e; own-is = λ u l w. t .own-is u l; exclusions-are = t .exclusions-are }
+
+-- and its limits are a table of 64 rows
+pub limits-full : (s own granted below limits : List ℕ) (rows : List (List ℕ)) (count : ℕ) → Tables (policyOf s) own granted below limits rows count
+    → length limits ≡ 64
+limits-full s own granted below limits rows count t = ap length (t .limits-is) ∙ length-limits s
 
 module _ (W : ℕ) (s ledger : List ℕ) (c : Call) where
   -- a call goes by the policy of an accepted image

@@ -4,5 +4,5 @@ pub mod Loops
 pub mod ShortAsks
 pub mod Tidying
 pub mod TableCalls
-pub mod SearchTable
 pub mod Texts
+pub mod SearchTable

@@ -9,25 +9,26 @@ use Rattle.model.specs.Tests.{first}
 use Rattle.model.specs.Judgement.{judge}
 use Rattle.model.specs.Policy.{Meaning, policyOf, meaning}
 use Rattle.model.specs.Line.{lineSize}
-use Rattle.model.specs.Session.{shortAim, ask, short-ask, sessionOf, queryOf, canGive, applies, perform, unless, rule}
-use Rattle.model.specs.Run.{Event, lineAt, ruled, stepOn, stepBy, step, askBy, shortAskBy, returned, answered}
+use Rattle.model.specs.Limits.{Others}
+use Rattle.model.specs.Session.{shortAim, isAsk, ask, short-ask, sessionOf, queryOf, canGive, applies, perform, unless, rule}
+use Rattle.model.specs.Run.{Event, lineAt, told, ruled, stepOn, stepBy, step, askBy, shortAskBy, returned, answered}
 
 module _ (W k : ℕ) (lower upper : List ℕ) (room : ℕ) where
   -- the session rules take a short ask as the ask
-  short-rule : (m : Meaning) (bs : List ℕ)
-      → rule W m bs (short-ask k lower upper room)
-      ≡ rule W m bs (ask k (record { lower = lower; upper = upper; permissionAim = shortAim; roleAim = shortAim; room = room }))
+  short-rule : (m : Meaning) (x : Others) (bs : List ℕ)
+      → rule W m x bs (short-ask k lower upper room)
+      ≡ rule W m x bs (ask k (record { lower = lower; upper = upper; permissionAim = shortAim; roleAim = shortAim; room = room }))
   unfolding rule unless shortAim sessionOf queryOf canGive applies first perform
-  short-rule m bs = refl
+  short-rule m x bs = refl
 
   -- and so does the call
   short-step : (u : ℕ) (image ledger : List ℕ) → step W image ledger (shortAskBy u k lower upper room) ≡ step W image ledger (askBy u k lower upper shortAim shortAim room)
-  unfolding step stepBy stepOn ruled shortAskBy askBy
+  unfolding step stepBy stepOn ruled told isAsk shortAskBy askBy
   short-step u image ledger = go (judge image)
     where
       go : (c : Checked) → stepBy W c (policyOf image) ledger (shortAskBy u k lower upper room) ≡ stepBy W c (policyOf image) ledger (askBy u k lower upper shortAim shortAim room)
       go (Refused n place) = refl
-      go (Accepted h) = rw (short-rule (meaning (policyOf image) u) (lineAt (lineSize W) u ledger))
+      go (Accepted h) = rw (short-rule (meaning (policyOf image) u) (told W (policyOf image) ledger (askBy u k lower upper shortAim shortAim room)) (lineAt (lineSize W) u ledger))
 
   -- what a host gets of the ask is what it gets of the short ask
   pub short-given : (u : ℕ) (image ledger : List ℕ) (n : ℕ) (after buffer answer : List ℕ)

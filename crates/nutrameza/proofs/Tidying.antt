@@ -1,23 +1,32 @@
 -- The call that tidies, by its image: refused as the image is, or done by the tables that its words fill.
 -- Assumes nothing.
 use mathlib.Core.Path.{_≡_, refl, sym, ap, subst, _∙_}
+use mathlib.Core.Bool.{Bool, true, false}
 use mathlib.Core.List.{List}
 use Prim.Native.Nat.{ℕ, _≤_}
+use native.Mathlib.Omega.{arith}
+use lib.Dec.{eqb}
 use lib.ListN.{length, getD}
+use borrow.Author.Tests.{eqb-true, not-false}
 use Rattle.model.specs.declared.Head.{Head}
 use Rattle.model.specs.declared.Checked.the-variants.{Accepted, Refused}
 use Rattle.model.specs.Sets.{has}
 use Rattle.model.specs.Image.{checkNumber}
-use Rattle.model.specs.Policy.{Policy, policyOf}
-use Rattle.model.specs.Ranges.{TableInRange}
+use Rattle.model.specs.Policy.{Policy, policyOf, limited}
+use Rattle.model.specs.Ranges.{TableInRange, LimitsInRange}
 use Rattle.model.specs.Judgement.{judge}
 use Rattle.model.proofs.Judgements.{accepted-head, accepted-in-range}
 use Rattle.image.proofs.Turns.{length-assigned, length-juniors}
 use Rattle.tables.specs.Tables.{Read}
-use Rattle.tables.proofs.Fills.{length-granted}
+use Rattle.tables.proofs.Fills.{length-granted, length-limits}
 use Rattle.tidying.specs.Tidy.{tidyBy, tidyCall}
-use Rattle.tidy.specs.Tables.{Table}
+use Rattle.tidy.specs.Tables.{Table, Limited}
 use Rattle.tidy.specs.Whole.{policyBy, Fitted, Writes}
+
+-- no limit is a small one
+unlimited-small : (rows : List ℕ) (r : ℕ) → limited rows r ≡ false → getD rows r 0 ≤ 256
+unfolding limited
+unlimited-small rows r e = let z = eqb-true (getD rows r 0) 0 (not-false (eqb (getD rows r 0) 0) e) in omega arith
 
 module _ (s out : List ℕ) where
   -- a refused image ends the call there
@@ -25,15 +34,15 @@ module _ (s out : List ℕ) where
   unfolding tidyCall tidyBy checkNumber
   tidy-refused n place r e q = rw e (record { number = q; bytes = refl })
 
-  module _ (h : Head) (e : judge s ≡ Accepted h) (a g j : List ℕ) (rows : List (List ℕ)) (n : ℕ) (t : Read (policyOf s) a g j rows n) where
+  module _ (h : Head) (e : judge s ≡ Accepted h) (a g j l : List ℕ) (rows : List (List ℕ)) (n : ℕ) (t : Read (policyOf s) a g j l rows n) where
     -- the policy of the tables is the image's
-    tables-policy : policyBy h a g j rows n ≡ policyOf s
+    tables-policy : policyBy h a g j rows n l ≡ policyOf s
     unfolding policyBy
     tables-policy =
-        λ i. record { head = sym (accepted-head s h e) i; assigned = t .assigned-is i; granted = t .granted-is i; juniors = t .juniors-is i; exclusions = t .exclusions-are i }
+        λ i. record { head = sym (accepted-head s h e) i; assigned = t .assigned-is i; granted = t .granted-is i; juniors = t .juniors-is i; exclusions = t .exclusions-are i; limits = t .limits-is i }
 
     -- under an accepted one it goes by the tables
-    pub tidy-accepted : (r : ℕ) (after : List ℕ) → Writes (tidyBy (Accepted h) (policyBy h a g j rows n) out) r after → Writes (tidyCall s out) r after
+    pub tidy-accepted : (r : ℕ) (after : List ℕ) → Writes (tidyBy (Accepted h) (policyBy h a g j rows n l) out) r after → Writes (tidyCall s out) r after
     unfolding tidyCall
     tidy-accepted r after w = rw e (subst (λ (p : Policy). Writes (tidyBy (Accepted h) p out) r after) tables-policy w)
 
@@ -41,8 +50,17 @@ module _ (s out : List ℕ) where
     table-fits m k rows table q z f =
         record { size = ap length q ∙ z; inside = λ i j b. f i j (ap (λ (x : List ℕ). has (getD x i 0) j) (sym q) ∙ b) .0 }
 
+    limits-fitted : (m : ℕ) (rows table : List ℕ) → table ≡ rows → length rows ≡ 64 → LimitsInRange m rows → Limited m table
+    limits-fitted m rows table q z f =
+        subst (Limited m) (sym q)
+        (record { size = z; inside = λ r b. f r b .0; most = λ r. most (limited rows r) r refl })
+      where
+        most : (b : Bool) (r : ℕ) → limited rows r ≡ b → getD rows r 0 ≤ 256
+        most true r e = f r e .2
+        most false r e = unlimited-small rows r e
+
     -- which fit the head
-    pub tables-fit : Fitted h a g j
+    pub tables-fit : Fitted h a g j l
     tables-fit =
         let range = accepted-in-range s h e in
         let head = accepted-head s h e in
@@ -52,4 +70,5 @@ module _ (s out : List ℕ) where
           assigned-fits = subst (λ (x : Head). Table (x .users) a) head (table-fits _ _ _ a (t .assigned-is) (length-assigned s) (range .assigned));
           granted-fits = subst (λ (x : Head). Table (x .roles) g) head (table-fits _ _ _ g (t .granted-is) (length-granted s) (range .granted));
           juniors-fits = subst (λ (x : Head). Table (x .roles) j) head (table-fits _ _ _ j (t .juniors-is) (length-juniors s) (range .juniors));
+          limits-fit = subst (λ (x : Head). Limited (x .roles) l) head (limits-fitted (policyOf s .head .roles) (policyOf s .limits) l (t .limits-is) (length-limits s) (range .limits));
         }

@@ -28,8 +28,16 @@ pub extern "C" fn nutrameza_clauses(
     let mut authorized = [0u64; 64];
     let mut granted = [[0u64; 4]; 64];
     let mut below = [0u64; 64];
+    let mut limits = [0u64; 64];
     let mut xs = [[0u64; 2]; 32];
-    let all = tables::read::read(image, &mut authorized, &mut granted, &mut below, &mut xs);
+    let all = tables::read::read(
+        image,
+        &mut authorized,
+        &mut granted,
+        &mut below,
+        &mut limits,
+        &mut xs,
+    );
     let c = all.checked;
     let Checked::Accepted(head) = c else {
         return refusal_of(c);
@@ -43,6 +51,7 @@ pub extern "C" fn nutrameza_clauses(
         &authorized,
         &granted,
         &below,
+        &limits,
         &xs,
         window,
         lower,

@@ -63,14 +63,31 @@ pub extern "C" fn nutrameza_tidy(image: &[u8], out: &mut [u8]) -> u64
     let mut assigned = [0u64; 64];
     let mut granted = [[0u64; 4]; 64];
     let mut juniors = [0u64; 64];
+    let mut limits = [0u64; 64];
     let mut xs = [[0u64; 2]; 32];
-    let all = tables::read::read_direct(image, &mut assigned, &mut granted, &mut juniors, &mut xs);
+    let all = tables::read::read_direct(
+        image,
+        &mut assigned,
+        &mut granted,
+        &mut juniors,
+        &mut limits,
+        &mut xs,
+    );
     let c = all.checked;
     let Checked::Accepted(head) = c else {
         return refusal_of(c);
     };
     let count = all.count;
-    tidy::whole::tidy(head, &assigned, &granted, &juniors, &xs, count, out)
+    tidy::whole::tidy(
+        head,
+        &assigned,
+        &granted,
+        &juniors,
+        &xs,
+        &limits,
+        count,
+        out,
+    )
 }
 
 // Opens the user's lowest closed session, and returns it as the extra.
@@ -82,8 +99,16 @@ pub extern "C" fn nutrameza_open(image: &[u8], ledger: &mut [u8], user: u64) -> 
     let mut authorized = [0u64; 64];
     let mut granted = [[0u64; 4]; 64];
     let mut below = [0u64; 64];
+    let mut limits = [0u64; 64];
     let mut xs = [[0u64; 2]; 32];
-    let all = tables::read::read(image, &mut authorized, &mut granted, &mut below, &mut xs);
+    let all = tables::read::read(
+        image,
+        &mut authorized,
+        &mut granted,
+        &mut below,
+        &mut limits,
+        &mut xs,
+    );
     let c = all.checked;
     let Checked::Accepted(head) = c else {
         return refusal_of(c);
@@ -102,8 +127,16 @@ pub extern "C" fn nutrameza_close(image: &[u8], ledger: &mut [u8], user: u64, se
     let mut authorized = [0u64; 64];
     let mut granted = [[0u64; 4]; 64];
     let mut below = [0u64; 64];
+    let mut limits = [0u64; 64];
     let mut xs = [[0u64; 2]; 32];
-    let all = tables::read::read(image, &mut authorized, &mut granted, &mut below, &mut xs);
+    let all = tables::read::read(
+        image,
+        &mut authorized,
+        &mut granted,
+        &mut below,
+        &mut limits,
+        &mut xs,
+    );
     let c = all.checked;
     let Checked::Accepted(head) = c else {
         return refusal_of(c);
@@ -130,8 +163,16 @@ pub extern "C" fn nutrameza_show(
     let mut authorized = [0u64; 64];
     let mut granted = [[0u64; 4]; 64];
     let mut below = [0u64; 64];
+    let mut limits = [0u64; 64];
     let mut xs = [[0u64; 2]; 32];
-    let all = tables::read::read(image, &mut authorized, &mut granted, &mut below, &mut xs);
+    let all = tables::read::read(
+        image,
+        &mut authorized,
+        &mut granted,
+        &mut below,
+        &mut limits,
+        &mut xs,
+    );
     let c = all.checked;
     let Checked::Accepted(head) = c else {
         return refusal_of(c);
@@ -166,8 +207,16 @@ pub extern "C" fn nutrameza_explain(
     let mut authorized = [0u64; 64];
     let mut granted = [[0u64; 4]; 64];
     let mut below = [0u64; 64];
+    let mut limits = [0u64; 64];
     let mut xs = [[0u64; 2]; 32];
-    let all = tables::read::read(image, &mut authorized, &mut granted, &mut below, &mut xs);
+    let all = tables::read::read(
+        image,
+        &mut authorized,
+        &mut granted,
+        &mut below,
+        &mut limits,
+        &mut xs,
+    );
     let c = all.checked;
     let Checked::Accepted(head) = c else {
         return refusal_of(c);
@@ -207,8 +256,16 @@ pub extern "C" fn nutrameza_ask(
     let mut authorized = [0u64; 64];
     let mut granted = [[0u64; 4]; 64];
     let mut below = [0u64; 64];
+    let mut limits = [0u64; 64];
     let mut xs = [[0u64; 2]; 32];
-    let all = tables::read::read(image, &mut authorized, &mut granted, &mut below, &mut xs);
+    let all = tables::read::read(
+        image,
+        &mut authorized,
+        &mut granted,
+        &mut below,
+        &mut limits,
+        &mut xs,
+    );
     let c = all.checked;
     let Checked::Accepted(head) = c else {
         return refusal_of(c);
@@ -222,6 +279,7 @@ pub extern "C" fn nutrameza_ask(
         &authorized,
         &granted,
         &below,
+        &limits,
         &xs,
         window,
         lower,
@@ -258,8 +316,16 @@ fn moved(image: &[u8], old: &[u8], new: &mut [u8], from: u8, to: u8) -> u64
     let mut authorized = [0u64; 64];
     let mut granted = [[0u64; 4]; 64];
     let mut below = [0u64; 64];
+    let mut limits = [0u64; 64];
     let mut xs = [[0u64; 2]; 32];
-    let all = tables::read::read(image, &mut authorized, &mut granted, &mut below, &mut xs);
+    let all = tables::read::read(
+        image,
+        &mut authorized,
+        &mut granted,
+        &mut below,
+        &mut limits,
+        &mut xs,
+    );
     let c = all.checked;
     let Checked::Accepted(head) = c else {
         return refusal_of(c);
@@ -298,8 +364,16 @@ pub extern "C" fn nutrameza_table(image: &[u8], table: &mut [u8]) -> u64
     let mut authorized = [0u64; 64];
     let mut granted = [[0u64; 4]; 64];
     let mut below = [0u64; 64];
+    let mut limits = [0u64; 64];
     let mut xs = [[0u64; 2]; 32];
-    let all = tables::read::read(image, &mut authorized, &mut granted, &mut below, &mut xs);
+    let all = tables::read::read(
+        image,
+        &mut authorized,
+        &mut granted,
+        &mut below,
+        &mut limits,
+        &mut xs,
+    );
     let c = all.checked;
     let Checked::Accepted(head) = c else {
         return refusal_of(c);

@@ -20,9 +20,9 @@ use Rattle.model.specs.declared.Line.{Line}
 use Rattle.model.specs.Tests.{pick, all}
 use Rattle.model.specs.Sets.{has, union, inter, within, one, countTo, count}
 use Rattle.model.specs.Policy.{Policy, authorized, meaning}
-use Rattle.model.specs.Line.{emptySession, sessionAt, activeIn, exclusionsMet, putIn}
+use Rattle.model.specs.Line.{emptySession, sessionAt, activeIn, others, exclusionsMet, putIn}
 use Rattle.model.specs.Choice.{carriedBy, admissible}
-use Rattle.model.specs.Conditions.{others, countedAfter, MetAfter}
+use Rattle.model.specs.Conditions.{countedAfter, MetAfter}
 use Rattle.model.specs.Reduced.{stay, stays, maskOf, roomOf}
 use Rattle.model.proofs.Bools.{and-r, both, bool-ext}
 use Rattle.model.proofs.Every.{all-mem, mem-all, all-at, at-all}

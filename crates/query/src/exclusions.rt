@@ -2,8 +2,7 @@
 ghost use mathlib.Core.Path.{_≡_};
 ghost use Prim.Native.Nat.{_≤_, _<_};
 ghost use lib.ListN.{length};
-ghost use Rattle.model.specs.Line.{SESSIONS, activeIn};
-ghost use Rattle.model.specs.Conditions.{others};
+ghost use Rattle.model.specs.Line.{SESSIONS, activeIn, others};
 ghost use Rattle.model.specs.Reduced.{stay, maskOf, roomOf};
 ghost use Rattle.rows.specs.Rows.{exclusionsIn};
 ghost use Rattle.query.specs.Reduction.{Reduces};

@@ -7,7 +7,7 @@ use Prim.Native.Nat.{ℕ, zero, suc, _+_, _-_, _<_, _≤_}
 use native.Mathlib.Omega.{arith}
 use Rattle.model.specs.declared.Exclusion.{Exclusion}
 use Rattle.model.specs.declared.Entry.{Entry}
-use Rattle.model.specs.declared.Entry.the-variants.{Assignment, Grant, Senior, Exclude, Member, End, Unknown}
+use Rattle.model.specs.declared.Entry.the-variants.{Assignment, Grant, Senior, Exclude, Member, Limit, End, Unknown}
 use Rattle.model.specs.Image.{wordAt, behindHead, decode}
 use Rattle.model.specs.Policy.{entryAt, entriesFrom, entriesOf, exclusionsOf}
 use Rattle.reader.specs.Places.{foundAt, excludes, isExclusion, exclusionAmong, exclusionAfter, entriesBehind, exclusionBy, visiting, walked}
@@ -21,6 +21,7 @@ of-first (Grant r p) es = refl
 of-first (Senior a b) es = refl
 of-first (Exclude x m) es = refl
 of-first (Member r) es = refl
+of-first (Limit r n) es = refl
 of-first End es = refl
 of-first Unknown es = refl
 
@@ -32,6 +33,7 @@ of-other (Grant r p) es h = refl
 of-other (Senior a b) es h = refl
 of-other (Exclude x m) es h = absurd (true≢false h)
 of-other (Member r) es h = refl
+of-other (Limit r n) es h = refl
 of-other End es h = refl
 of-other Unknown es h = refl
 

@@ -8,7 +8,7 @@ use lib.Dec.{leb}
 use lib.ListN.{take}
 use Rattle.model.specs.declared.Exclusion.{Exclusion}
 use Rattle.model.specs.declared.Entry.{Entry}
-use Rattle.model.specs.declared.Entry.the-variants.{Assignment, Grant, Senior, Exclude, Member, End, Unknown}
+use Rattle.model.specs.declared.Entry.the-variants.{Assignment, Grant, Senior, Exclude, Member, Limit, End, Unknown}
 use Rattle.model.specs.Tests.{pick, between}
 use Rattle.model.specs.Image.{wordAt, behindHead, decode}
 use Rattle.model.specs.Policy.{entryAt, entriesFrom, withMembers}
@@ -30,6 +30,7 @@ excludes (Grant r p) = false
 excludes (Senior a b) = false
 excludes (Exclude x m) = true
 excludes (Member r) = false
+excludes (Limit r t) = false
 excludes End = false
 excludes Unknown = false
 
@@ -64,6 +65,7 @@ exclusionBy (Grant r p) es = []
 exclusionBy (Senior a b) es = []
 exclusionBy (Exclude x m) es = withMembers x (take m es) ∷ []
 exclusionBy (Member r) es = []
+exclusionBy (Limit r t) es = []
 exclusionBy End es = []
 exclusionBy Unknown es = []
 

@@ -108,6 +108,7 @@ fn excludes(e: Entry) -> bool
         Entry::Senior(_, _) => false,
         Entry::Exclude(_, _) => true,
         Entry::Member(_) => false,
+        Entry::Limit(_, _) => false,
         Entry::End => false,
         Entry::Unknown => false,
     }

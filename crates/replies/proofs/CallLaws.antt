@@ -10,6 +10,7 @@ use Rattle.model.specs.declared.Checked.the-variants.{Accepted, Refused}
 use Rattle.model.specs.Judgement.{judge}
 use Rattle.model.specs.Policy.{Policy, Meaning, policyOf}
 use Rattle.model.specs.Line.{SESSIONS}
+use Rattle.model.specs.Limits.{Others}
 use Rattle.model.specs.Session.{Refusal, Result, Reply, refuse, done, perform, unless, rule}
 use Rattle.model.specs.Run.{Call, Event, ruled, stepOn, stepBy, step, openBy, closeBy, showBy, shortAskBy, askBy, returned, filledWith, answered}
 use Rattle.model.proofs.Bools.{pick-case}
@@ -27,16 +28,16 @@ use Rattle.asks.specs.Asks.{Answers}
 abbrev Empty : Event → Type 0
 Empty e = e .reply .filled ≡ []
 
-unless-empty : (o : Option Refusal) (bs : List ℕ) (r : Result) → r .reply .filled ≡ [] → unless o bs r .reply .filled ≡ []
+unless-empty : (x : Others) (o : Option Refusal) (bs : List ℕ) (r : Result) → r .reply .filled ≡ [] → unless x o bs r .reply .filled ≡ []
 unfolding unless refuse
-unless-empty none bs r h = h
-unless-empty (some f) bs r h = refl
+unless-empty x none bs r h = h
+unless-empty x (some f) bs r h = refl
 
-module _ (W : ℕ) (c : Call) (h : (m : Meaning) (bs : List ℕ) → rule W m bs (c .operation) .reply .filled ≡ []) where
+module _ (W : ℕ) (c : Call) (h : (m : Meaning) (x : Others) (bs : List ℕ) → rule W m x bs (c .operation) .reply .filled ≡ []) where
   stepBy-empty : (j : Checked) (p : Policy) (ledger : List ℕ) → Empty (stepBy W j p ledger c)
   unfolding stepBy stepOn ruled refuse
   stepBy-empty (Refused n place) p ledger = refl
-  stepBy-empty (Accepted head) p ledger = pick-case Empty _ _ _ (λ _. refl) (λ _. pick-case Empty _ _ _ (λ _. refl) (λ _. h _ _))
+  stepBy-empty (Accepted head) p ledger = pick-case Empty _ _ _ (λ _. refl) (λ _. pick-case Empty _ _ _ (λ _. refl) (λ _. h _ _ _))
 
   step-empty : (image ledger : List ℕ) → Empty (step W image ledger c)
   unfolding step
@@ -44,11 +45,11 @@ module _ (W : ℕ) (c : Call) (h : (m : Meaning) (bs : List ℕ) → rule W m bs
 
 open-empty : (u : ℕ) (image ledger : List ℕ) → Empty (step SESSIONS image ledger (openBy u))
 unfolding openBy rule perform done
-open-empty u image ledger = step-empty SESSIONS (openBy u) (λ m bs. unless-empty _ bs _ refl) image ledger
+open-empty u image ledger = step-empty SESSIONS (openBy u) (λ m x bs. unless-empty x _ bs _ refl) image ledger
 
 close-empty : (u k : ℕ) (image ledger : List ℕ) → Empty (step SESSIONS image ledger (closeBy u k))
 unfolding closeBy rule perform done
-close-empty u k image ledger = step-empty SESSIONS (closeBy u k) (λ m bs. unless-empty _ bs _ refl) image ledger
+close-empty u k image ledger = step-empty SESSIONS (closeBy u k) (λ m x bs. unless-empty x _ bs _ refl) image ledger
 
 left-alone : (room : List ℕ) (r : Reply) → r .filled ≡ [] → room ≡ answered room r
 unfolding answered filledWith

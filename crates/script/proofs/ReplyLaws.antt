@@ -9,7 +9,8 @@ use Rattle.model.specs.declared.Checked.{Checked}
 use Rattle.model.specs.declared.Checked.the-variants.{Accepted, Refused}
 use Rattle.model.specs.Policy.{Policy, Meaning, policyOf, meaning}
 use Rattle.model.specs.Judgement.{judge}
-use Rattle.model.specs.Session.{Operation, open-session, close-session, ask, short-ask, show, explain, clauses, Reply, refuse, done, given, wrote, Result, Refusal, bad-line, bad-session, is-closed, is-full, bad-set, bad-permission, bad-bounds, bad-aim, bad-room, no-set, not-below, not-carried, too-long, refusalNumber, asked, explained, perform, unless, rule}
+use Rattle.model.specs.Limits.{Others}
+use Rattle.model.specs.Session.{Operation, open-session, close-session, ask, short-ask, show, explain, clauses, Reply, refuse, done, given, wrote, Result, Refusal, bad-other, bad-line, bad-session, is-closed, is-full, bad-set, bad-permission, bad-bounds, bad-aim, bad-room, no-set, not-below, not-carried, too-long, refusalNumber, asked, explained, perform, unless, rule}
 use Rattle.model.specs.Run.{Call, Event, step, stepBy, stepOn, ruled, returned}
 use Rattle.model.proofs.Bools.{pick-case}
 use Rattle.model.proofs.ImageNumbers.{Numbered}
@@ -34,6 +35,7 @@ judge-small s = go (judge s) (judge-numbered s)
 
 refusal-small : (r : Refusal) → refusalNumber r < 256
 unfolding refusalNumber
+refusal-small bad-other = omega arith
 refusal-small bad-line = omega arith
 refusal-small bad-session = omega arith
 refusal-small is-closed = omega arith
@@ -58,24 +60,24 @@ unfolding explained refuse done
 explained-small bs none = omega arith
 explained-small bs (some x) = omega arith
 
-perform-small : (W : ℕ) (m : Meaning) (l : _) (bs : List ℕ) (op : Operation) → perform W m l bs op .reply .number < 256
+perform-small : (W : ℕ) (m : Meaning) (x : Others) (l : _) (bs : List ℕ) (op : Operation) → perform W m x l bs op .reply .number < 256
 unfolding perform done given wrote
-perform-small W m l bs open-session = omega arith
-perform-small W m l bs (close-session k) = omega arith
-perform-small W m l bs (ask k q) = asked-small m l bs k _
-perform-small W m l bs (short-ask k lower upper room) = asked-small m l bs k _
-perform-small W m l bs (show k room) = omega arith
-perform-small W m l bs (explain k n) = explained-small bs _
-perform-small W m l bs (clauses k q) = omega arith
+perform-small W m x l bs open-session = omega arith
+perform-small W m x l bs (close-session k) = omega arith
+perform-small W m x l bs (ask k q) = asked-small m l bs k _
+perform-small W m x l bs (short-ask k lower upper room) = asked-small m l bs k _
+perform-small W m x l bs (show k room) = omega arith
+perform-small W m x l bs (explain k n) = explained-small bs _
+perform-small W m x l bs (clauses k q) = omega arith
 
-unless-small : (o : Option Refusal) (bs : List ℕ) (r : Result) → r .reply .number < 256 → unless o bs r .reply .number < 256
+unless-small : (x : Others) (o : Option Refusal) (bs : List ℕ) (r : Result) → r .reply .number < 256 → unless x o bs r .reply .number < 256
 unfolding unless refuse
-unless-small none bs r h = h
-unless-small (some f) bs r h = refusal-small f
+unless-small x none bs r h = h
+unless-small x (some f) bs r h = refusal-small f
 
-rule-small : (W : ℕ) (m : Meaning) (bs : List ℕ) (op : Operation) → rule W m bs op .reply .number < 256
+rule-small : (W : ℕ) (m : Meaning) (x : Others) (bs : List ℕ) (op : Operation) → rule W m x bs op .reply .number < 256
 unfolding rule
-rule-small W m bs op = unless-small _ bs _ (perform-small W m _ bs op)
+rule-small W m x bs op = unless-small x _ bs _ (perform-small W m x _ bs op)
 
 -- ---- of a call
 
@@ -83,7 +85,7 @@ stepOn-small : (W : ℕ) (p : Policy) (ledger : List ℕ) (c : Call) → stepOn 
 unfolding stepOn ruled refuse
 stepOn-small W p ledger c =
     pick-case (λ (e : Event). e .reply .number < 256) _ _ _ (λ _. omega arith)
-    (λ _. pick-case (λ (e : Event). e .reply .number < 256) _ _ _ (λ _. omega arith) (λ _. rule-small W (meaning p (c .user)) _ (c .operation)))
+    (λ _. pick-case (λ (e : Event). e .reply .number < 256) _ _ _ (λ _. omega arith) (λ _. rule-small W (meaning p (c .user)) _ _ (c .operation)))
 
 stepBy-small : (W : ℕ) (j : Checked) (p : Policy) (ledger : List ℕ) (c : Call) → Small j → stepBy W j p ledger c .reply .number < 256
 unfolding stepBy refuse Small

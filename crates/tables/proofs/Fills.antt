@@ -10,25 +10,27 @@ use Rattle.model.specs.declared.Checked.{Checked}
 use Rattle.model.specs.declared.Checked.the-variants.{Accepted}
 use Rattle.model.specs.Image.{behindHead, assigning, emptyRows, judgeWords}
 use Rattle.model.specs.Sets.{count}
-use Rattle.model.specs.Policy.{Policy, entriesFrom, entriesOf, fold, granting, ordering, policyOf}
+use Rattle.model.specs.Policy.{Policy, entriesFrom, entriesOf, fold, granting, ordering, limiting, policyOf}
 use Rattle.model.specs.Judgement.{judgeMeaning, judge}
 use Rattle.model.proofs.Accepted.{words-head, words-in-range}
 use Rattle.model.proofs.Judgements.{words-pass}
 use Rattle.model.proofs.Tables.{granting-length}
+use Rattle.limits.proofs.LimitTable.{fold-length}
 use Rattle.image.proofs.Turns.{length-assigned, length-juniors}
 use Rattle.hierarchy.specs.Loops.{Fit, Passed, Judged}
 use Rattle.tables.specs.Tables.{Fresh, Gathered, Read, Tables}
 
 -- ---- the whole: what was gathered from empty tables is the policy's
-pub tables-of : (s : List ℕ) (a₀ g₀ j₀ a g j : List ℕ) (rows : List (List ℕ)) (count : ℕ) → Fresh a₀ g₀ j₀
-    → Gathered s (length s / 4 - 1) a₀ g₀ j₀ a g j rows count → Read (policyOf s) a g j rows count
+pub tables-of : (s : List ℕ) (a₀ g₀ j₀ l₀ a g j l : List ℕ) (rows : List (List ℕ)) (count : ℕ) → Fresh a₀ g₀ j₀ l₀
+    → Gathered s (length s / 4 - 1) a₀ g₀ j₀ l₀ a g j l rows count → Read (policyOf s) a g j l rows count
 unfolding policyOf entriesOf behindHead
-tables-of s a₀ g₀ j₀ a g j rows count f t =
+tables-of s a₀ g₀ j₀ l₀ a g j l rows count f t =
     let es : List Entry = entriesFrom s (length s / 4 - 1) 1 in
     record {
       assigned-is = t .assigned-is ∙ ap (λ (x : List ℕ). fold assigning x es) (f .assigned-none);
       granted-is = t .granted-is ∙ ap (λ (x : List ℕ). fold granting x es) (f .granted-none);
       juniors-is = t .juniors-is ∙ ap (λ (x : List ℕ). fold ordering x es) (f .juniors-none);
+      limits-is = t .limits-is ∙ ap (λ (x : List ℕ). fold limiting x es) (f .limits-none);
       exclusions-are = t .exclusions-are;
       few = t .few;
       full = t .full;
@@ -43,6 +45,11 @@ granting-keeps (e ∷ es) rows = granting-keeps es (granting rows e) ∙ grantin
 pub length-granted : (s : List ℕ) → length (policyOf s .granted) ≡ 64
 unfolding policyOf emptyRows
 length-granted s = granting-keeps (entriesOf s) emptyRows
+
+-- so has that of limits
+pub length-limits : (s : List ℕ) → length (policyOf s .limits) ≡ 64
+unfolding policyOf emptyRows
+length-limits s = fold-length (entriesOf s) emptyRows
 
 -- ---- an image judged by its words, and then by what they mean together
 
@@ -73,21 +80,22 @@ module _ (s : List ℕ) (c : Checked) (ec : c ≡ judgeWords s) (assigned junior
     read-judged = verdict .verdict ∙ ap (judgeMeaning (policyOf s)) ec
 
     -- the tables that the words of an accepted image fill are the policy's
-    pub direct-judged : (g : List ℕ) (rows : List (List ℕ)) (count : ℕ)
-        → ((h : Head) → c ≡ Accepted h → Read (policyOf s) assigned g juniors rows count)
-        → (h : Head) → v ≡ Accepted h → Read (policyOf s) assigned g juniors rows count
-    direct-judged g rows count read h e = read h (ec ∙ words-pass s h (sym read-judged ∙ e))
+    pub direct-judged : (g l : List ℕ) (rows : List (List ℕ)) (count : ℕ)
+        → ((h : Head) → c ≡ Accepted h → Read (policyOf s) assigned g juniors l rows count)
+        → (h : Head) → v ≡ Accepted h → Read (policyOf s) assigned g juniors l rows count
+    direct-judged g l rows count read h e = read h (ec ∙ words-pass s h (sym read-judged ∙ e))
 
     -- and so are those that follow from them
-    pub tables-judged : (g : List ℕ) (rows : List (List ℕ)) (count : ℕ)
-        → ((h : Head) → c ≡ Accepted h → Read (policyOf s) assigned g juniors rows count)
-        → (h : Head) → v ≡ Accepted h → Tables (policyOf s) own g below rows count
-    tables-judged g rows count read h e =
-        let t = direct-judged g rows count read h e in
+    pub tables-judged : (g l : List ℕ) (rows : List (List ℕ)) (count : ℕ)
+        → ((h : Head) → c ≡ Accepted h → Read (policyOf s) assigned g juniors l rows count)
+        → (h : Head) → v ≡ Accepted h → Tables (policyOf s) own g below l rows count
+    tables-judged g l rows count read h e =
+        let t = direct-judged g l rows count read h e in
         record {
           own-is = verdict .own-is h e;
           granted-is = t .granted-is;
           below-is = verdict .below-is h e;
+          limits-is = t .limits-is;
           exclusions-are = t .exclusions-are;
           few = t .few;
           full = t .full;

@@ -13,7 +13,7 @@ use borrow.Author.Tests.{eqb-true, eqb-false, ltb-true, ltb-false}
 use Rattle.model.specs.declared.Exclusion.{Exclusion}
 use Rattle.model.specs.declared.Scan.{Scan}
 use Rattle.model.specs.declared.Entry.{Entry}
-use Rattle.model.specs.declared.Entry.the-variants.{Assignment, Grant, Senior, Exclude, Member, End, Unknown}
+use Rattle.model.specs.declared.Entry.the-variants.{Assignment, Grant, Senior, Exclude, Member, Limit, End, Unknown}
 use Rattle.model.specs.declared.Word.{Word}
 use Rattle.model.specs.Image.{wordAt, decode, next}
 use Rattle.model.specs.Policy.{entryAt, entriesFrom, fold, joining, withMembers, exclusionsOf}
@@ -29,6 +29,7 @@ placed (Grant r q) p ps = ps
 placed (Senior a b) p ps = ps
 placed (Exclude x m) p ps = p ∷ ps
 placed (Member r) p ps = ps
+placed (Limit r t) p ps = ps
 placed End p ps = ps
 placed Unknown p ps = ps
 
@@ -47,6 +48,7 @@ exclusions-by (Grant r q) es f p ps h ih = ih
 exclusions-by (Senior a b) es f p ps h ih = ih
 exclusions-by (Exclude x m) es f p ps h ih = ap₂ (λ (y : Exclusion) (ys : List Exclusion). y ∷ ys) (sym h) ih
 exclusions-by (Member r) es f p ps h ih = ih
+exclusions-by (Limit r t) es f p ps h ih = ih
 exclusions-by End es f p ps h ih = ih
 exclusions-by Unknown es f p ps h ih = ih
 
@@ -73,6 +75,7 @@ noted (Exclude x m) t places p rest l d =
     ∙ ap (λ (v : List ℕ). v ++ rest) (take-suc-set places (t .exclusions) p (omega arith))
     ∙ append-snoc (take (t .exclusions) places) p rest
 noted (Member r) t places p rest l d = refl
+noted (Limit r n) t places p rest l d = refl
 noted End t places p rest l d = refl
 noted Unknown t places p rest l d = refl
 
@@ -104,6 +107,7 @@ length-noted p i places (Grant r q) = refl
 length-noted p i places (Senior a b) = refl
 length-noted p i places (Exclude x m) = length-set places i p
 length-noted p i places (Member r) = refl
+length-noted p i places (Limit r t) = refl
 length-noted p i places End = refl
 length-noted p i places Unknown = refl
 
@@ -122,6 +126,7 @@ noted-below n p i places (Exclude x m) l h j = go (eqb j i) refl (ltb i (length 
         subst (λ (v : List ℕ). getD v j 0 < n) (sym (set-out places i p (ltb-false i (length places) q))) (h j)
     go false e b q = subst (λ (x : ℕ). x < n) (sym (getD-set-other places i j p 0 (eqb-false j i e))) (h j)
 noted-below n p i places (Member r) l h j = h j
+noted-below n p i places (Limit r t) l h j = h j
 noted-below n p i places End l h j = h j
 noted-below n p i places Unknown l h j = h j
 
@@ -140,6 +145,7 @@ next-few t (Grant r q) d h = h
 next-few t (Senior a b) d h = h
 next-few t (Exclude x m) d h = omega arith
 next-few t (Member r) d h = h
+next-few t (Limit r n) d h = h
 next-few t End d h = h
 next-few t Unknown d h = h
 

@@ -9,36 +9,39 @@ use Rattle.model.specs.declared.Head.{Head}
 use Rattle.model.specs.declared.Scan.{Scan}
 use Rattle.model.specs.declared.Word.{Word}
 use Rattle.model.specs.declared.Entry.{Entry}
-use Rattle.model.specs.declared.Entry.the-variants.{Assignment, Grant, Senior, Exclude, Member, End, Unknown}
+use Rattle.model.specs.declared.Entry.the-variants.{Assignment, Grant, Senior, Exclude, Member, Limit, End, Unknown}
 use Rattle.model.specs.Tests.{pick}
 use Rattle.model.specs.Image.{wrongKind, inRange, repeats, crowds, entryFault, sparing, fault, assigning}
-use Rattle.model.specs.Policy.{granting, ordering}
+use Rattle.model.specs.Policy.{granting, ordering, limiting}
 use Rattle.image.proofs.Turns.{right-kind, wrong-kind}
 use Rattle.tables.specs.Tables.{noting, Step}
 
 -- a word of the right kind, by what its entry says
-pub took : {h : Head} {t : Scan} {final : Bool} {place : ℕ} {w : Word} {a₀ g₀ j₀ p₀ : List ℕ} {n : ℕ} {a g j p : List ℕ} (e : Entry)
+pub took : {h : Head} {t : Scan} {final : Bool} {place : ℕ} {w : Word} {a₀ g₀ j₀ l₀ p₀ : List ℕ} {n : ℕ} {a g j l p : List ℕ} (e : Entry)
     → w .entry ≡ e → wrongKind final (t .due) (w .entry) ≡ false → n ≡ sparing (w .spare) (entryFault h a₀ t e)
-    → (n ≡ 0 → a ≡ assigning a₀ e) → (n ≡ 0 → g ≡ granting g₀ e) → (n ≡ 0 → j ≡ ordering j₀ e) → (n ≡ 0 → p ≡ noting place (t .exclusions) p₀ e)
-    → Step h t final place w a₀ g₀ j₀ p₀ n a g j p
-took {h} {t} {final} {place} {w} {a₀} {g₀} {j₀} {p₀} {n} e ee ek en fa fg fj fp =
+    → (n ≡ 0 → a ≡ assigning a₀ e) → (n ≡ 0 → g ≡ granting g₀ e) → (n ≡ 0 → j ≡ ordering j₀ e) → (n ≡ 0 → l ≡ limiting l₀ e)
+    → (n ≡ 0 → p ≡ noting place (t .exclusions) p₀ e)
+    → Step h t final place w a₀ g₀ j₀ l₀ p₀ n a g j l p
+took {h} {t} {final} {place} {w} {a₀} {g₀} {j₀} {l₀} {p₀} {n} e ee ek en fa fg fj fl fp =
     record {
       faulty = right-kind h a₀ t final w n e ee ek en;
       assigned-is = λ z. fa z ∙ ap (assigning a₀) (sym ee);
       granted-is = λ z. fg z ∙ ap (granting g₀) (sym ee);
       juniors-is = λ z. fj z ∙ ap (ordering j₀) (sym ee);
+      limits-is = λ z. fl z ∙ ap (limiting l₀) (sym ee);
       places-is = λ z. fp z ∙ ap (noting place (t .exclusions) p₀) (sym ee);
     }
 
 -- a word of the wrong kind
-pub mistook : {h : Head} {t : Scan} {final : Bool} {place : ℕ} {w : Word} {a₀ g₀ j₀ p₀ : List ℕ} {a g j p : List ℕ}
-    → wrongKind final (t .due) (w .entry) ≡ true → Step h t final place w a₀ g₀ j₀ p₀ 3 a g j p
+pub mistook : {h : Head} {t : Scan} {final : Bool} {place : ℕ} {w : Word} {a₀ g₀ j₀ l₀ p₀ : List ℕ} {a g j l p : List ℕ}
+    → wrongKind final (t .due) (w .entry) ≡ true → Step h t final place w a₀ g₀ j₀ l₀ p₀ 3 a g j l p
 mistook {h} {t} {final} {place} {w} {a₀} ek =
     record {
       faulty = wrong-kind h a₀ t final w ek;
       assigned-is = λ z. absurd (omega arith);
       granted-is = λ z. absurd (omega arith);
       juniors-is = λ z. absurd (omega arith);
+      limits-is = λ z. absurd (omega arith);
       places-is = λ z. absurd (omega arith);
     }
 
@@ -52,6 +55,7 @@ end-of due (Grant r p) k = absurd (false≢true (sym k))
 end-of due (Senior a b) k = absurd (false≢true (sym k))
 end-of due (Exclude x m) k = absurd (false≢true (sym k))
 end-of due (Member r) k = absurd (false≢true (sym k))
+end-of due (Limit r t) k = absurd (false≢true (sym k))
 end-of due End k = refl
 end-of due Unknown k = absurd (false≢true (sym k))
 

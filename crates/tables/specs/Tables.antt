@@ -11,9 +11,9 @@ use Rattle.model.specs.declared.Exclusion.{Exclusion}
 use Rattle.model.specs.declared.Scan.{Scan}
 use Rattle.model.specs.declared.Word.{Word}
 use Rattle.model.specs.declared.Entry.{Entry}
-use Rattle.model.specs.declared.Entry.the-variants.{Assignment, Grant, Senior, Exclude, Member, End, Unknown}
+use Rattle.model.specs.declared.Entry.the-variants.{Assignment, Grant, Senior, Exclude, Member, Limit, End, Unknown}
 use Rattle.model.specs.Image.{fault, assigning, emptyRows}
-use Rattle.model.specs.Policy.{Policy, entryAt, entriesFrom, fold, granting, ordering, withMembers, exclusionsOf, belowTable, authorized}
+use Rattle.model.specs.Policy.{Policy, entryAt, entriesFrom, fold, granting, ordering, limiting, withMembers, exclusionsOf, belowTable, authorized}
 use Rattle.rows.specs.Rows.{exclusionOf}
 
 -- ---- exclusions, by the places of their words
@@ -25,6 +25,7 @@ noting place i places (Grant r p) = places
 noting place i places (Senior a b) = places
 noting place i places (Exclude x m) = set places i place
 noting place i places (Member r) = places
+noting place i places (Limit r t) = places
 noting place i places End = places
 noting place i places Unknown = places
 
@@ -39,6 +40,7 @@ exclusionBy (Grant r p) es = nothing
 exclusionBy (Senior a b) es = nothing
 exclusionBy (Exclude x m) es = withMembers x (take m es)
 exclusionBy (Member r) es = nothing
+exclusionBy (Limit r t) es = nothing
 exclusionBy End es = nothing
 exclusionBy Unknown es = nothing
 
@@ -50,46 +52,51 @@ exclusionAt s words place = exclusionBy (entryAt s place) (entriesFrom s (words 
 
 -- a word judged, n its fault, and where it has none taken into the tables
 pub record Step
-    (h : Head) (t : Scan) (final : Bool) (place : ℕ) (w : Word) (assigned₀ granted₀ juniors₀ places₀ : List ℕ) (n : ℕ)
-    (assigned granted juniors places : List ℕ) : Type 0 where
+    (h : Head) (t : Scan) (final : Bool) (place : ℕ) (w : Word) (assigned₀ granted₀ juniors₀ limits₀ places₀ : List ℕ) (n : ℕ)
+    (assigned granted juniors limits places : List ℕ) : Type 0 where
   pub faulty : n ≡ fault h assigned₀ t final w
   pub assigned-is : n ≡ 0 → assigned ≡ assigning assigned₀ (w .entry)
   pub granted-is : n ≡ 0 → granted ≡ granting granted₀ (w .entry)
   pub juniors-is : n ≡ 0 → juniors ≡ ordering juniors₀ (w .entry)
+  pub limits-is : n ≡ 0 → limits ≡ limiting limits₀ (w .entry)
   pub places-is : n ≡ 0 → places ≡ noting place (t .exclusions) places₀ (w .entry)
 
 -- ---- the whole
 
--- the tables after n words from place 1, which held the first three before, and the exclusions among those words
+-- the tables after n words from place 1, which held the first four before, and the exclusions among those words
 pub record Gathered
-    (s : List ℕ) (n : ℕ) (assigned₀ granted₀ juniors₀ : List ℕ) (assigned granted juniors : List ℕ) (rows : List (List ℕ)) (count : ℕ) : Type 0 where
+    (s : List ℕ) (n : ℕ) (assigned₀ granted₀ juniors₀ limits₀ : List ℕ) (assigned granted juniors limits : List ℕ) (rows : List (List ℕ)) (count : ℕ) : Type 0 where
   pub assigned-is : assigned ≡ fold assigning assigned₀ (entriesFrom s n 1)
   pub granted-is : granted ≡ fold granting granted₀ (entriesFrom s n 1)
   pub juniors-is : juniors ≡ fold ordering juniors₀ (entriesFrom s n 1)
+  pub limits-is : limits ≡ fold limiting limits₀ (entriesFrom s n 1)
   pub exclusions-are : take count (map exclusionOf rows) ≡ exclusionsOf (entriesFrom s n 1)
   pub few : count ≤ 32
   pub full : length rows ≡ 32
 
 -- tables before any word
-pub record Fresh (assigned granted juniors : List ℕ) : Type 0 where
+pub record Fresh (assigned granted juniors limits : List ℕ) : Type 0 where
   pub assigned-none : assigned ≡ emptyRows
   pub granted-none : granted ≡ emptyRows
   pub juniors-none : juniors ≡ emptyRows
+  pub limits-none : limits ≡ emptyRows
 
 -- the tables and the exclusions are those of the policy, with the direct juniors of each role
-pub record Read (p : Policy) (assigned granted juniors : List ℕ) (rows : List (List ℕ)) (count : ℕ) : Type 0 where
+pub record Read (p : Policy) (assigned granted juniors limits : List ℕ) (rows : List (List ℕ)) (count : ℕ) : Type 0 where
   pub assigned-is : assigned ≡ p .assigned
   pub granted-is : granted ≡ p .granted
   pub juniors-is : juniors ≡ p .juniors
+  pub limits-is : limits ≡ p .limits
   pub exclusions-are : take count (map exclusionOf rows) ≡ p .exclusions
   pub few : count ≤ 32
   pub full : length rows ≡ 32
 
 -- the same with the roles that each user may activate in place of those assigned, and with the closed table, of the roles below each role
-pub record Tables (p : Policy) (own granted below : List ℕ) (rows : List (List ℕ)) (count : ℕ) : Type 0 where
+pub record Tables (p : Policy) (own granted below limits : List ℕ) (rows : List (List ℕ)) (count : ℕ) : Type 0 where
   pub own-is : (u : ℕ) → u < p .head .users → getD own u 0 ≡ authorized p u
   pub granted-is : granted ≡ p .granted
   pub below-is : below ≡ belowTable p
+  pub limits-is : limits ≡ p .limits
   pub exclusions-are : take count (map exclusionOf rows) ≡ p .exclusions
   pub few : count ≤ 32
   pub full : length rows ≡ 32

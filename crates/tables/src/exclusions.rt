@@ -35,6 +35,7 @@ fn joined(members: u64, e: Entry) -> u64
         Entry::Grant(_, _) => members,
         Entry::Senior(_, _) => members,
         Entry::Exclude(_, _) => members,
+        Entry::Limit(_, _) => members,
         Entry::End => members,
         Entry::Unknown => members,
     }
@@ -88,6 +89,7 @@ fn exclusion_at(image: &[u8], words: usize, place: usize) -> Exclusion
         Entry::Grant(_, _) => nothing(),
         Entry::Senior(_, _) => nothing(),
         Entry::Member(_) => nothing(),
+        Entry::Limit(_, _) => nothing(),
         Entry::End => nothing(),
         Entry::Unknown => nothing(),
     }

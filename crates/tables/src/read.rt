@@ -7,7 +7,7 @@ ghost use lib.ListN.{length};
 ghost use Rattle.model.specs.declared.Head.{Head as HeadOf};
 ghost use Rattle.model.specs.Image.{sparing, entryFault, fault, scan, start, judgeWords};
 ghost use Rattle.model.specs.Judgement.{judge};
-ghost use Rattle.model.specs.Policy.{granting, policyOf};
+ghost use Rattle.model.specs.Policy.{granting, lesser as lesserOf, limiting, policyOf};
 ghost use Rattle.sets.specs.Words.{values};
 ghost use Rattle.image.specs.Bounds.{Small};
 ghost use Rattle.tables.specs.Tables.{noting, Step, Fresh, Gathered, Read, Tables};
@@ -15,6 +15,7 @@ use crate::exclusions::exclusions_at;
 use hierarchy::loops::judged;
 use image::check::exclusion_fault;
 use image::check::grant_fault;
+use image::check::limit_fault;
 use image::check::member_fault;
 use image::check::next;
 use image::check::spared;
@@ -54,6 +55,34 @@ fn take_grant(h: Head, granted: &mut [[u64; 4]; 64], spare: u32, r: Role, p: Per
     n
 }
 
+// The smaller of a limit so far, 0 where there is none, and t.
+fn lesser(a: u64, t: u64) -> u64
+    ensures { λ r. ⌜ r ≡ lesserOf a t ⌝ }
+{
+    if a == 0 {
+        return t;
+    }
+    if t < a {
+        return t;
+    }
+    a
+}
+
+fn take_limit(h: Head, limits: &mut [u64; 64], spare: u32, r: Role, t: u16) -> u8
+    requires { ⌜ r .0 < 64 ⌝ }
+    ensures { λ n. ⌜ ((rows : List ℕ) (s : Scan) → n ≡ sparing spare (entryFault h rows s (Entry.Limit r t)))
+        × (n ≡ 0 → now (limits .exit) ≡ limiting (now (limits .entry)) (Entry.Limit r t)) ⌝ }
+{
+    let n = spared(spare, limit_fault(h, r, t));
+    if n != 0 {
+        return n;
+    }
+    let who = r.0 as usize;
+    let row = lesser(limits[who], t as u64);
+    limits[who] = row;
+    n
+}
+
 // An exclusion's place is noted; its members are read later.
 fn take_exclusion(
     h: Head,
@@ -82,14 +111,15 @@ fn step(
     assigned: &mut [u64; 64],
     granted: &mut [[u64; 4]; 64],
     juniors: &mut [u64; 64],
+    limits: &mut [u64; 64],
     places: &mut [usize; 32],
     t: Scan,
     place: usize,
     w: Word,
 ) -> u8
     requires { ⌜ Small (w .entry) ⌝ }
-    ensures { λ n. ⌜ Step h t false place w (now (assigned .entry)) (values (now (granted .entry))) (now (juniors .entry)) (now (places .entry)) n
-        (now (assigned .exit)) (values (now (granted .exit))) (now (juniors .exit)) (now (places .exit)) ⌝ }
+    ensures { λ n. ⌜ Step h t false place w (now (assigned .entry)) (values (now (granted .entry))) (now (juniors .entry)) (now (limits .entry)) (now (places .entry)) n
+        (now (assigned .exit)) (values (now (granted .exit))) (now (juniors .exit)) (now (limits .exit)) (now (places .exit)) ⌝ }
 {
     let e = w.entry;
     let spare = w.spare;
@@ -102,6 +132,7 @@ fn step(
         Entry::Senior(a, b) => take_senior(h, juniors, spare, a, b),
         Entry::Exclude(x, m) => take_exclusion(h, places, spare, t, x, m, place),
         Entry::Member(r) => spared(spare, member_fault(h, t, r)),
+        Entry::Limit(r, n) => take_limit(h, limits, spare, r, n),
         Entry::End => spared(spare, 0),
         Entry::Unknown => spared(spare, 0),
     }
@@ -138,13 +169,14 @@ fn read_words(
     assigned: &mut [u64; 64],
     granted: &mut [[u64; 4]; 64],
     juniors: &mut [u64; 64],
+    limits: &mut [u64; 64],
     xs: &mut [[u64; 2]; 32],
 ) -> Reading
     requires { ⌜ (4 * words ≤ length (now image)) × (2 ≤ words) × (words ≤ 4096) × (length (now xs) ≡ 32) ⌝ }
     ensures { λ r. ⌜ (r .checked ≡ scan (now (image .entry)) h (words - 1) 1 (now (assigned .entry)) start first)
         × ((g : HeadOf) → r .checked ≡ Checked.Accepted g
-        → Gathered (now (image .entry)) (words - 1) (now (assigned .entry)) (values (now (granted .entry))) (now (juniors .entry))
-        (now (assigned .exit)) (values (now (granted .exit))) (now (juniors .exit)) (now (xs .exit)) (r .count)) ⌝ }
+        → Gathered (now (image .entry)) (words - 1) (now (assigned .entry)) (values (now (granted .entry))) (now (juniors .entry)) (now (limits .entry))
+        (now (assigned .exit)) (values (now (granted .exit))) (now (juniors .exit)) (now (limits .exit)) (now (xs .exit)) (r .count)) ⌝ }
 {
     let mut places = [0usize; 32];
     let mut t = Scan {
@@ -157,7 +189,17 @@ fn read_words(
     for place in 1..end {
         let w = octets::word_at(image, place);
         let word = decode(w);
-        let number = step(h, assigned, granted, juniors, &mut places, t, place, word);
+        let number = step(
+            h,
+            assigned,
+            granted,
+            juniors,
+            limits,
+            &mut places,
+            t,
+            place,
+            word,
+        );
         if number != 0 {
             return refused(number, place as u16);
         }
@@ -183,18 +225,19 @@ fn read_words(
 }
 
 // Judges an image by its words and, where they pass, leaves in the tables the roles assigned to each user, the permissions granted to each
-// role, the direct juniors of each role and the exclusions.
+// role, the direct juniors of each role, the limit of each role and the exclusions.
 fn gather(
     image: &[u8],
     assigned: &mut [u64; 64],
     granted: &mut [[u64; 4]; 64],
     juniors: &mut [u64; 64],
+    limits: &mut [u64; 64],
     xs: &mut [[u64; 2]; 32],
 ) -> Reading
-    requires { ⌜ (Fresh (now assigned) (values (now granted)) (now juniors)) × (length (now xs) ≡ 32) ⌝ }
+    requires { ⌜ (Fresh (now assigned) (values (now granted)) (now juniors) (now limits)) × (length (now xs) ≡ 32) ⌝ }
     ensures { λ r. ⌜ (r .checked ≡ judgeWords (now (image .entry)))
         × ((g : HeadOf) → r .checked ≡ Checked.Accepted g
-        → Read (policyOf (now (image .entry))) (now (assigned .exit)) (values (now (granted .exit))) (now (juniors .exit)) (now (xs .exit)) (r .count)) ⌝ }
+        → Read (policyOf (now (image .entry))) (now (assigned .exit)) (values (now (granted .exit))) (now (juniors .exit)) (now (limits .exit)) (now (xs .exit)) (r .count)) ⌝ }
 {
     let len = image.len();
     if len % 4 != 0 {
@@ -216,6 +259,7 @@ fn gather(
             assigned,
             granted,
             juniors,
+            limits,
             xs,
         );
     }
@@ -223,20 +267,21 @@ fn gather(
 }
 
 // Judges an image and, where it is accepted, leaves in the tables the roles that each user may activate, the permissions granted to each
-// role, the roles below each role and the exclusions.
+// role, the roles below each role, the limit of each role and the exclusions.
 pub fn read(
     image: &[u8],
     authorized: &mut [u64; 64],
     granted: &mut [[u64; 4]; 64],
     below: &mut [u64; 64],
+    limits: &mut [u64; 64],
     xs: &mut [[u64; 2]; 32],
 ) -> Reading
-    requires { ⌜ (Fresh (now authorized) (values (now granted)) (now below)) × (length (now xs) ≡ 32) ⌝ }
+    requires { ⌜ (Fresh (now authorized) (values (now granted)) (now below) (now limits)) × (length (now xs) ≡ 32) ⌝ }
     ensures { λ r. ⌜ (r .checked ≡ judge (now (image .entry)))
         × ((g : HeadOf) → r .checked ≡ Checked.Accepted g
-        → Tables (policyOf (now (image .entry))) (now (authorized .exit)) (values (now (granted .exit))) (now (below .exit)) (now (xs .exit)) (r .count)) ⌝ }
+        → Tables (policyOf (now (image .entry))) (now (authorized .exit)) (values (now (granted .exit))) (now (below .exit)) (now (limits .exit)) (now (xs .exit)) (r .count)) ⌝ }
 {
-    let all = gather(image, authorized, granted, below, xs);
+    let all = gather(image, authorized, granted, below, limits, xs);
     let c = all.checked;
     let checked = judged(c, authorized, below);
     Reading {
@@ -246,20 +291,21 @@ pub fn read(
 }
 
 // Judges an image and, where it is accepted, leaves in the tables what its words say: the roles assigned to each user, the permissions
-// granted to each role, the direct juniors of each role and the exclusions.
+// granted to each role, the direct juniors of each role, the limit of each role and the exclusions.
 pub fn read_direct(
     image: &[u8],
     assigned: &mut [u64; 64],
     granted: &mut [[u64; 4]; 64],
     juniors: &mut [u64; 64],
+    limits: &mut [u64; 64],
     xs: &mut [[u64; 2]; 32],
 ) -> Reading
-    requires { ⌜ (Fresh (now assigned) (values (now granted)) (now juniors)) × (length (now xs) ≡ 32) ⌝ }
+    requires { ⌜ (Fresh (now assigned) (values (now granted)) (now juniors) (now limits)) × (length (now xs) ≡ 32) ⌝ }
     ensures { λ r. ⌜ (r .checked ≡ judge (now (image .entry)))
         × ((g : HeadOf) → r .checked ≡ Checked.Accepted g
-        → Read (policyOf (now (image .entry))) (now (assigned .exit)) (values (now (granted .exit))) (now (juniors .exit)) (now (xs .exit)) (r .count)) ⌝ }
+        → Read (policyOf (now (image .entry))) (now (assigned .exit)) (values (now (granted .exit))) (now (juniors .exit)) (now (limits .exit)) (now (xs .exit)) (r .count)) ⌝ }
 {
-    let all = gather(image, assigned, granted, juniors, xs);
+    let all = gather(image, assigned, granted, juniors, limits, xs);
     let c = all.checked;
     let mut own = *assigned;
     let mut below = *juniors;

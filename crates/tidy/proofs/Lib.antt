@@ -2,6 +2,7 @@
 pub mod Writing
 pub mod Members
 pub mod Turns
+pub mod Limiting
 pub mod Order
 pub mod Placing
 pub mod Wholes

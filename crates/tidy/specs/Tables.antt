@@ -2,13 +2,17 @@
 -- Assumes nothing.
 use mathlib.Core.Path.{_≡_}
 use mathlib.Core.Bool.{true}
-use mathlib.Core.List.{List, _∷_, map}
-use Prim.Native.Nat.{ℕ, _+_, _*_, _^_, _<_}
+use mathlib.Core.List.{List, [], _∷_, map}
+use Prim.Native.Nat.{ℕ, _+_, _*_, _^_, _≤_, _<_}
+use lib.Dec.{eqb}
 use lib.ListN.{length, getD, drop}
 use Rattle.model.specs.declared.Exclusion.{Exclusion}
+use Rattle.model.specs.Tests.{pick}
 use Rattle.model.specs.Sets.{has}
+use Rattle.model.specs.Words.{limitWord}
+use Rattle.model.specs.Policy.{limited}
 use Rattle.tidying.specs.Groups.{spread}
-use Rattle.tidying.specs.Tidy.{membersTo, tableGroups, exclusionGroup}
+use Rattle.tidying.specs.Tidy.{membersTo, tableGroups, exclusionGroup, limitedRows}
 
 -- a word of a kind with two numbers of 6 bits: an assignment or a senior word
 unfoldable pub pairWord : ℕ → ℕ → ℕ → ℕ
@@ -30,3 +34,17 @@ pub record Table (n : ℕ) (rows : List ℕ) : Type 0 where
 -- an exclusion's word and its members
 unfoldable pub exclusionWords : Exclusion → List ℕ
 exclusionWords x = exclusionGroup x .word ∷ exclusionGroup x .members
+
+-- the word for the limit t of role r, none where it has none
+unfoldable pub limitRow : ℕ → ℕ → List ℕ
+limitRow r t = pick (eqb t 0) [] (limitWord r t ∷ [])
+
+-- the words of the limits of the roles from role i on
+unfoldable pub limitWords : List ℕ → ℕ → List ℕ
+limitWords limits i = tableWords (λ r j. limitWord r (getD limits r 0)) 1 (limitedRows limits) i
+
+-- a table of 64 limits, of which only the first n are there, none above 256
+pub record Limited (n : ℕ) (limits : List ℕ) : Type 0 where
+  pub size : length limits ≡ 64
+  pub inside : (r : ℕ) → limited limits r ≡ true → r < n
+  pub most : (r : ℕ) → getD limits r 0 ≤ 256

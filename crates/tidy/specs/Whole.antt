@@ -11,29 +11,42 @@ use Rattle.model.specs.Policy.{Policy}
 use Rattle.rows.specs.Rows.{exclusionOf}
 use Rattle.tidying.specs.Groups.{spread}
 use Rattle.tidying.specs.Tidy.{exclusionGroup, Written}
-use Rattle.tidy.specs.Tables.{tableWords, Table}
+use Rattle.tidy.specs.Tables.{tableWords, Table, limitWords, Limited}
 
--- the words of the tables, and of exclusions in their order
-unfoldable pub groupWords : List ℕ → List ℕ → List ℕ → List Exclusion → List ℕ
-groupWords assigned granted juniors xs =
-    tableWords assignWord 64 assigned 0 ++ (tableWords grantWord 256 granted 0 ++ (tableWords seniorWord 64 juniors 0 ++ spread (map exclusionGroup xs)))
+-- the words of exclusions in their order, and of limits
+unfoldable pub restWords : List Exclusion → List ℕ → List ℕ
+restWords xs limits = spread (map exclusionGroup xs) ++ limitWords limits 0
+
+-- behind those of the tables
+unfoldable pub groupWords : List ℕ → List ℕ → List ℕ → List Exclusion → List ℕ → List ℕ
+groupWords assigned granted juniors xs limits =
+    tableWords assignWord 64 assigned 0 ++ (tableWords grantWord 256 granted 0 ++ (tableWords seniorWord 64 juniors 0 ++ restWords xs limits))
 
 -- behind the head
-unfoldable pub wordsBy : Head → List ℕ → List ℕ → List ℕ → List Exclusion → List ℕ
-wordsBy h assigned granted juniors xs = headWord (h .users) (h .roles) (h .permissions) ∷ groupWords assigned granted juniors xs
+unfoldable pub wordsBy : Head → List ℕ → List ℕ → List ℕ → List Exclusion → List ℕ → List ℕ
+wordsBy h assigned granted juniors xs limits =
+    headWord (h .users) (h .roles) (h .permissions) ∷ groupWords assigned granted juniors xs limits
 
--- the policy of a head, three tables and the first n of the exclusions' rows
-unfoldable pub policyBy : Head → List ℕ → List ℕ → List ℕ → List (List ℕ) → ℕ → Policy
-policyBy h assigned granted juniors rows n =
-    record { head = h; assigned = assigned; granted = granted; juniors = juniors; exclusions = take n (map exclusionOf rows) }
+-- the policy of a head, three tables, the first n of the exclusions' rows and the limits
+unfoldable pub policyBy : Head → List ℕ → List ℕ → List ℕ → List (List ℕ) → ℕ → List ℕ → Policy
+policyBy h assigned granted juniors rows n limits =
+    record {
+      head = h;
+      assigned = assigned;
+      granted = granted;
+      juniors = juniors;
+      exclusions = take n (map exclusionOf rows);
+      limits = limits;
+    }
 
 -- the tables are those of so many users and roles
-pub record Fitted (h : Head) (assigned granted juniors : List ℕ) : Type 0 where
+pub record Fitted (h : Head) (assigned granted juniors limits : List ℕ) : Type 0 where
   pub users : h .users ≤ 64
   pub roles : h .roles ≤ 64
   pub assigned-fits : Table (h .users) assigned
   pub granted-fits : Table (h .roles) granted
   pub juniors-fits : Table (h .roles) juniors
+  pub limits-fit : Limited (h .roles) limits
 
 -- what is returned and the buffer after the call are what the definition says
 pub record Writes (e : Written) (x : ℕ) (buffer : List ℕ) : Type 0 where

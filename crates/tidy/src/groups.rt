@@ -9,7 +9,7 @@ ghost use Rattle.tidying.specs.Tidy.{exclusionGroup};
 ghost use Rattle.sets.specs.Words.{value, values};
 ghost use Rattle.rows.specs.Rows.{exclusionOf};
 ghost use Rattle.tidy.specs.Buffers.{buffer, puts, Room};
-ghost use Rattle.tidy.specs.Tables.{pairWord, rowWords, tableWords, Table, exclusionWords};
+ghost use Rattle.tidy.specs.Tables.{pairWord, rowWords, tableWords, Table, exclusionWords, limitRow, limitWords, Limited};
 use crate::words::Cursor;
 use crate::words::put_set;
 use crate::words::put_word;
@@ -83,6 +83,35 @@ pub fn put_exclusions(out: &mut [u8], from: Cursor, xs: &[[u64; 2]; 32], n: usiz
     let mut c = from;
     for i in 0..n {
         c = put_exclusion(out, c, xs[i]);
+    }
+    c
+}
+
+// ---- limits
+
+// The word for the limit t of role r, where it has one.
+fn put_limit(out: &mut [u8], from: Cursor, r: usize, t: u64) -> Cursor
+    requires { ⌜ (r < 64) × (t ≤ 256) × Room (now out) from (limitRow r t) ⌝ }
+    ensures { λ c. ⌜ buffer (now (out .exit)) c ≡ puts (buffer (now (out .entry)) from) (limitRow r t) ⌝ }
+{
+    if t == 0 {
+        return from;
+    }
+    put_word(
+        out,
+        from,
+        1879048192 + 4194304 * (r as u32) + 8192 * (t as u32),
+    )
+}
+
+// The words for the limits of the first n roles; no other has one.
+pub fn put_limits(out: &mut [u8], from: Cursor, limits: &[u64; 64], n: usize) -> Cursor
+    requires { ⌜ (n ≤ 64) × Limited n (now limits) × Room (now out) from (limitWords (now limits) 0) ⌝ }
+    ensures { λ c. ⌜ buffer (now (out .exit)) c ≡ puts (buffer (now (out .entry)) from) (limitWords (now (limits .entry)) 0) ⌝ }
+{
+    let mut c = from;
+    for r in 0..n {
+        c = put_limit(out, c, r, limits[r]);
     }
     c
 }

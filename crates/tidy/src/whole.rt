@@ -9,12 +9,15 @@ ghost use Rattle.rows.specs.Rows.{exclusionOf};
 ghost use Rattle.tidying.specs.Tidy.{tidyBy};
 ghost use Rattle.octets.specs.Splice.{splice};
 ghost use Rattle.tidy.specs.Buffers.{buffer, puts, Room};
-ghost use Rattle.tidy.specs.Whole.{groupWords, wordsBy, policyBy, Fitted, Writes};
+ghost use Rattle.tidy.specs.Tables.{Limited};
+ghost use Rattle.tidy.specs.Whole.{restWords, groupWords, wordsBy, policyBy, Fitted, Writes};
 use crate::count::count_exclusions;
 use crate::count::count_grants;
+use crate::count::count_limits;
 use crate::count::count_table;
 use crate::groups::put_exclusions;
 use crate::groups::put_grants;
+use crate::groups::put_limits;
 use crate::groups::put_table;
 use crate::sort::sort;
 use crate::words::Cursor;
@@ -46,11 +49,12 @@ fn count_words(
     granted: &[[u64; 4]; 64],
     juniors: &[u64; 64],
     xs: &[[u64; 2]; 32],
+    limits: &[u64; 64],
     n: usize,
 ) -> usize
-    requires { ⌜ Fitted h (now assigned) (values (now granted)) (now juniors) × (n ≤ 32) × (length (now xs) ≡ 32) ⌝ }
+    requires { ⌜ Fitted h (now assigned) (values (now granted)) (now juniors) (now limits) × (n ≤ 32) × (length (now xs) ≡ 32) ⌝ }
     ensures { λ m. ⌜ (m < 2 ^ 43)
-        × (m ≡ length (ended (wordsBy h (now (assigned .entry)) (values (now (granted .entry))) (now (juniors .entry)) (take n (map exclusionOf (now (xs .entry))))))) ⌝ }
+        × (m ≡ length (ended (wordsBy h (now (assigned .entry)) (values (now (granted .entry))) (now (juniors .entry)) (take n (map exclusionOf (now (xs .entry)))) (now (limits .entry))))) ⌝ }
 {
     let users = h.users as usize;
     let roles = h.roles as usize;
@@ -58,7 +62,26 @@ fn count_words(
     let g = count_grants(granted, roles);
     let j = count_table(juniors, roles);
     let x = count_exclusions(xs, n);
-    2 + a + g + j + x
+    let l = count_limits(limits, roles);
+    2 + a + g + j + x + l
+}
+
+// Writes the words of the exclusions, and those of the limits.
+fn put_rest(
+    out: &mut [u8],
+    from: Cursor,
+    xs: &[[u64; 2]; 32],
+    limits: &[u64; 64],
+    n: usize,
+    roles: usize,
+) -> Cursor
+    requires { ⌜ (n ≤ 32) × (length (now xs) ≡ 32) × (roles ≤ 64) × Limited roles (now limits)
+        × Room (now out) from (restWords (take n (map exclusionOf (now xs))) (now limits)) ⌝ }
+    ensures { λ c. ⌜ buffer (now (out .exit)) c
+        ≡ puts (buffer (now (out .entry)) from) (restWords (take n (map exclusionOf (now (xs .entry)))) (now (limits .entry))) ⌝ }
+{
+    let x = put_exclusions(out, from, xs, n);
+    put_limits(out, x, limits, roles)
 }
 
 // Writes the words between head and end.
@@ -70,19 +93,20 @@ fn put_groups(
     granted: &[[u64; 4]; 64],
     juniors: &[u64; 64],
     xs: &[[u64; 2]; 32],
+    limits: &[u64; 64],
     n: usize,
 ) -> Cursor
-    requires { ⌜ Fitted h (now assigned) (values (now granted)) (now juniors) × (n ≤ 32) × (length (now xs) ≡ 32)
-        × Room (now out) from (groupWords (now assigned) (values (now granted)) (now juniors) (take n (map exclusionOf (now xs)))) ⌝ }
+    requires { ⌜ Fitted h (now assigned) (values (now granted)) (now juniors) (now limits) × (n ≤ 32) × (length (now xs) ≡ 32)
+        × Room (now out) from (groupWords (now assigned) (values (now granted)) (now juniors) (take n (map exclusionOf (now xs))) (now limits)) ⌝ }
     ensures { λ c. ⌜ buffer (now (out .exit)) c
-        ≡ puts (buffer (now (out .entry)) from) (groupWords (now (assigned .entry)) (values (now (granted .entry))) (now (juniors .entry)) (take n (map exclusionOf (now (xs .entry))))) ⌝ }
+        ≡ puts (buffer (now (out .entry)) from) (groupWords (now (assigned .entry)) (values (now (granted .entry))) (now (juniors .entry)) (take n (map exclusionOf (now (xs .entry)))) (now (limits .entry))) ⌝ }
 {
     let users = h.users as usize;
     let roles = h.roles as usize;
     let a = put_table(out, from, 2, assigned, users);
     let g = put_grants(out, a, granted, roles);
     let j = put_table(out, g, 4, juniors, roles);
-    put_exclusions(out, j, xs, n)
+    put_rest(out, j, xs, limits, n, roles)
 }
 
 // Writes the whole image at the front of the buffer.
@@ -93,20 +117,21 @@ fn put_image(
     granted: &[[u64; 4]; 64],
     juniors: &[u64; 64],
     xs: &[[u64; 2]; 32],
+    limits: &[u64; 64],
     n: usize,
 )
-    requires { ⌜ Fitted h (now assigned) (values (now granted)) (now juniors) × (n ≤ 32) × (length (now xs) ≡ 32)
-        × (4 * length (ended (wordsBy h (now assigned) (values (now granted)) (now juniors) (take n (map exclusionOf (now xs))))) ≤ length (now out)) ⌝ }
+    requires { ⌜ Fitted h (now assigned) (values (now granted)) (now juniors) (now limits) × (n ≤ 32) × (length (now xs) ≡ 32)
+        × (4 * length (ended (wordsBy h (now assigned) (values (now granted)) (now juniors) (take n (map exclusionOf (now xs))) (now limits))) ≤ length (now out)) ⌝ }
     ensures { λ _. ⌜ now (out .exit)
-        ≡ splice (now (out .entry)) 0 (imageBytes (ended (wordsBy h (now (assigned .entry)) (values (now (granted .entry))) (now (juniors .entry)) (take n (map exclusionOf (now (xs .entry))))))) ⌝ }
+        ≡ splice (now (out .entry)) 0 (imageBytes (ended (wordsBy h (now (assigned .entry)) (values (now (granted .entry))) (now (juniors .entry)) (take n (map exclusionOf (now (xs .entry)))) (now (limits .entry))))) ⌝ }
 {
     let start = Cursor { at: 0, sum: 0 };
     let from = put_word(out, start, head_word(h));
-    let end = put_groups(out, from, h, assigned, granted, juniors, xs, n);
+    let end = put_groups(out, from, h, assigned, granted, juniors, xs, limits, n);
     put_word(out, end, end_word(end.sum));
 }
 
-// The tidy image of the policy that a head, three tables and the first `count` exclusions make: 256 times the number of its words, which
+// The tidy image of the policy that a head, three tables, the first `count` exclusions and the limits make: 256 times the number of its words, which
 // stand at the front of the buffer; 19 for a buffer that is too small for them.
 pub fn tidy(
     h: Head,
@@ -114,19 +139,20 @@ pub fn tidy(
     granted: &[[u64; 4]; 64],
     juniors: &[u64; 64],
     xs: &[[u64; 2]; 32],
+    limits: &[u64; 64],
     count: usize,
     out: &mut [u8],
 ) -> u64
-    requires { ⌜ Fitted h (now assigned) (values (now granted)) (now juniors) × (count ≤ 32) × (length (now xs) ≡ 32) ⌝ }
-    ensures { λ r. ⌜ Writes (tidyBy (Checked.Accepted h) (policyBy h (now (assigned .entry)) (values (now (granted .entry))) (now (juniors .entry)) (now (xs .entry)) count) (now (out .entry)))
+    requires { ⌜ Fitted h (now assigned) (values (now granted)) (now juniors) (now limits) × (count ≤ 32) × (length (now xs) ≡ 32) ⌝ }
+    ensures { λ r. ⌜ Writes (tidyBy (Checked.Accepted h) (policyBy h (now (assigned .entry)) (values (now (granted .entry))) (now (juniors .entry)) (now (xs .entry)) count (now (limits .entry))) (now (out .entry)))
         r (now (out .exit)) ⌝ }
 {
     let mut sorted = [[0u64; 2]; 32];
     let n = sort(xs, count, &mut sorted);
-    let words = count_words(h, assigned, granted, juniors, &sorted, n);
+    let words = count_words(h, assigned, granted, juniors, &sorted, limits, n);
     if out.len() < 4 * words {
         return 19;
     }
-    put_image(out, h, assigned, granted, juniors, &sorted, n);
+    put_image(out, h, assigned, granted, juniors, &sorted, limits, n);
     256 * (words as u64)
 }

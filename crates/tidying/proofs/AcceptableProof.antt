@@ -19,7 +19,7 @@ use Rattle.model.specs.Policy.{entryAt, entriesFrom, entriesOf, exclusionsOf, p
 use Rattle.model.specs.Judgement.{judge}
 use Rattle.model.specs.Ranges.{Each, OneTo}
 use Rattle.model.specs.OwnWords.{wordsFrom}
-use Rattle.tidying.specs.Groups.{wordsBehind, entryOf, spread, Acceptable}
+use Rattle.tidying.specs.Groups.{wordsBehind, entryOf, spread, Acceptable, Parted, RightGroup}
 use Rattle.model.proofs.Bools.{and-l, and-r}
 use Rattle.model.proofs.Tables.{empty-length}
 use Rattle.model.proofs.Accepted.{head-tests, one-to}
@@ -29,6 +29,7 @@ use Rattle.tidying.proofs.ScanWords.{Scans, Passed, passed-of, words-of
 use Rattle.tidying.proofs.Roomy.{Room, room-of}
 use Rattle.tidying.proofs.GroupsFound.{Ahead, ahead}
 use Rattle.tidying.proofs.GroupsTaken.{groups-scan, groups-range}
+use Rattle.model.specs.declared.Entry.the-variants.{End}
 
 -- the entries of an image are what its words say
 entries-words : (s : List ℕ) (n place : ℕ) → entriesFrom s n place ≡ map entryOf (wordsFrom s n place)
@@ -54,6 +55,14 @@ some-word s e z =
     let n = length s in
     let b = leb-true 8 n (and-l (leb 8 n) (leb n 16384) (and-r (eqb (n % 4) 0) (between 8 n 16384) e)) in
     omega arith
+
+-- the entries of right groups are in range
+pub entries-range : (s : List ℕ) (h : Head) (parts : Parted s) → Each (RightGroup h) (parts .groups) → entryOf (parts .last) ≡ End
+    → Each (λ e. inRange h e ≡ true) (entriesOf s)
+entries-range s h parts right end =
+    subst (Each (λ e. inRange h e ≡ true)) (sym (entries-behind s))
+    (each-map (λ e. inRange h e ≡ true) entryOf (wordsBehind s)
+    (subst (Each (λ w. inRange h (entryOf w) ≡ true)) (sym (parts .words)) (groups-range h (parts .groups) (parts .last) right end)))
 
 module _ (s : List ℕ) (h : Head) where
   -- from the judgement to groups
@@ -97,10 +106,7 @@ module _ (s : List ℕ) (h : Head) where
   acceptable-room a =
       let n = subst (λ (k : Head). OneTo 64 (k .users) × OneTo 64 (k .roles) × OneTo 256 (k .permissions)) (a .numbers) (head-numbers (wordAt s 0) (a .head)) in
       room-of h (n .0 .1) (n .1 .1) (entriesOf s) emptyRows start empty-length
-      (subst (Each (λ e. inRange h e ≡ true)) (sym (entries-behind s))
-      (each-map (λ e. inRange h e ≡ true) entryOf (wordsBehind s)
-      (subst (Each (λ w. inRange h (entryOf w) ≡ true)) (sym (a .parts .words))
-      (groups-range h (a .parts .groups) (a .parts .last) (a .groups) (a .closed)))))
+      (entries-range s h (a .parts) (a .groups) (a .closed))
       (a .limits .few-roles)
       (subst (λ (n : ℕ). n ≤ 32) (sym (zero-add (length (exclusionsOf (entriesOf s))))) (a .limits .few-exclusions))
 

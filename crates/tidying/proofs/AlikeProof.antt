@@ -1,24 +1,27 @@
 -- Calls answer alike under two accepted images whose policies are the same, exclusions as a set.
 -- Assumes nothing.
 use mathlib.Core.Path.{_≡_, refl, sym, ap, ap₂, _∙_}
-use mathlib.Core.Bool.{Bool, true, false, not}
+use mathlib.Core.Bool.{Bool, true, false, not, _&&_}
 use mathlib.Core.List.{List, [], _∷_}
 use Prim.Native.Nat.{ℕ, _*_}
 use lib.Dec.{eqb, ltb}
 use lib.ListN.{length, getD}
 use Rattle.model.specs.declared.Head.{Head}
+use Rattle.model.specs.declared.Line.{Line}
 use Rattle.model.specs.declared.Checked.{Checked}
 use Rattle.model.specs.declared.Checked.the-variants.{Accepted}
-use Rattle.model.specs.Tests.{pick, any}
-use Rattle.model.specs.Policy.{Policy, Meaning, policyOf, meaning, Agree}
+use Rattle.model.specs.Tests.{pick, any, first}
+use Rattle.model.specs.Policy.{Policy, Meaning, policyOf, meaning, Agree, hasLimits, limited, tableOf}
 use Rattle.model.specs.Judgement.{judge}
-use Rattle.model.specs.Line.{lineSize}
-use Rattle.model.specs.Session.{Operation, isText, Result, refuse, rule}
-use Rattle.model.specs.Run.{Call, Event, lineAt, withLine, ruled, stepOn, stepBy, step, run}
+use Rattle.model.specs.Line.{lineSize, sound}
+use Rattle.model.specs.Session.{Operation, isText, Result, refuse, rule, isAsk}
+use Rattle.model.specs.Run.{Call, Event, lineAt, withLine, ruled, stepOn, stepBy, step, run, heldByOthers, holdingOf, lineOf, othersOf, told, unsoundOther}
 use Rattle.tidying.specs.Same.{SamePolicy, asksText, Alike}
 use Rattle.model.proofs.Judgements.{accepted-head}
-use Rattle.model.proofs.Listed.{or-false, rule-listed}
-use Rattle.model.proofs.Meanings.{agree-listed}
+use Rattle.model.proofs.Listed.{or-false, sound-listed}
+use Rattle.model.proofs.Meanings.{agree-listed, agree-rule}
+use Rattle.model.specs.Sets.{sumTo}
+use Rattle.model.specs.Limits.{Others, nobody}
 
 -- the same policy agrees for every user
 pub agree : (u : ℕ) (p q : Policy) → SamePolicy p q → Agree u p q
@@ -29,15 +32,41 @@ agree u p q s =
       grants = s .granted;
       seniors = s .juniors;
       exclusions = s .exclusions;
+      limits = s .limits;
     }
 
 -- what the session rules give by the same policy, for a call that is no clause text
-rule-same : (W u : ℕ) (p q : Policy) → SamePolicy p q → (bs : List ℕ) (op : Operation) → isText op ≡ false
-    → rule W (meaning p u) bs op ≡ rule W (meaning q u) bs op
-rule-same W u p q s bs op e =
-    rule-listed (meaning p u) [] W bs op e
-    ∙ ap (λ (m : Meaning). rule W m bs op) (agree-listed u p q (agree u p q s) [])
-    ∙ sym (rule-listed (meaning q u) [] W bs op e)
+rule-same : (W u : ℕ) (p q : Policy) → SamePolicy p q → (x : Others) (bs : List ℕ) (op : Operation) → isText op ≡ false
+    → rule W (meaning p u) x bs op ≡ rule W (meaning q u) x bs op
+rule-same W u p q s x bs op e = agree-rule u p q (agree u p q s) W x bs op e
+
+-- a line is sound by the same policy alike
+sound-same : (W u : ℕ) (p q : Policy) → SamePolicy p q → (l : Line) → sound W (meaning p u) l ≡ sound W (meaning q u) l
+sound-same W u p q s l =
+    sound-listed (meaning p u) [] W l ∙ ap (λ (m : Meaning). sound W m l) (agree-listed u p q (agree u p q s) []) ∙ sym (sound-listed (meaning q u) [] W l)
+
+-- what a call is told goes by the number of users, the limits and which lines are sound
+toldWith : ℕ → ℕ → List ℕ → (ℕ → Bool) → List ℕ → Call → Others
+toldWith W n limits whole ledger c =
+    elim (isAsk (c .operation) && any (λ t. not (eqb t 0)) limits) [
+      | true ↦
+          record {
+            held = λ r. pick (limited limits r) (sumTo (λ v. pick (eqb v (c .user)) 0 (holdingOf W ledger r v)) n) 0;
+            unsound = first (λ v. not (eqb v (c .user)) && not (whole v)) (tableOf n (λ v. v));
+          }
+      | false ↦ nobody
+    ]
+
+told-with : (W : ℕ) (p : Policy) (ledger : List ℕ) (c : Call)
+    → told W p ledger c ≡ toldWith W (p .head .users) (p .limits) (λ v. sound W (meaning p v) (lineOf W ledger v)) ledger c
+unfolding told toldWith hasLimits othersOf heldByOthers unsoundOther
+told-with W p ledger c = refl
+
+told-same : (W : ℕ) (p q : Policy) → SamePolicy p q → (ledger : List ℕ) (c : Call) → told W p ledger c ≡ told W q ledger c
+told-same W p q s ledger c =
+    told-with W p ledger c
+    ∙ (λ i. toldWith W (s .heads i .users) (s .limits i) (λ v. sound-same W v p q s (lineOf W ledger v) i) ledger c)
+    ∙ sym (told-with W q ledger c)
 
 -- a call goes by the head and by what the rules give
 stepWith : ℕ → Head → Result → List ℕ → Call → Event
@@ -47,16 +76,19 @@ stepWith W h r ledger c =
     (pick (not (ltb (c .user) (h .users))) (record { reply = refuse 10 0; ledger = ledger }) e)
 
 step-with : (W : ℕ) (p : Policy) (ledger : List ℕ) (c : Call)
-    → stepOn W p ledger c ≡ stepWith W (p .head) (rule W (meaning p (c .user)) (lineAt (lineSize W) (c .user) ledger) (c .operation)) ledger c
+    → stepOn W p ledger c
+    ≡ stepWith W (p .head) (rule W (meaning p (c .user)) (told W p ledger c) (lineAt (lineSize W) (c .user) ledger) (c .operation)) ledger c
 unfolding stepOn ruled stepWith
 step-with W p ledger c = refl
 
 pub same-step-on : (W : ℕ) (p q : Policy) → SamePolicy p q → (ledger : List ℕ) (c : Call) → isText (c .operation) ≡ false
     → stepOn W p ledger c ≡ stepOn W q ledger c
 same-step-on W p q s ledger c e =
+    let bs = lineAt (lineSize W) (c .user) ledger in
     step-with W p ledger c
     ∙ ap₂ (λ (h : Head) (r : Result). stepWith W h r ledger c) (s .heads)
-    (rule-same W (c .user) p q s (lineAt (lineSize W) (c .user) ledger) (c .operation) e)
+    (rule-same W (c .user) p q s (told W p ledger c) bs (c .operation) e
+    ∙ ap (λ (x : Others). rule W (meaning q (c .user)) x bs (c .operation)) (told-same W p q s ledger c))
     ∙ sym (step-with W q ledger c)
 
 module _ (s t : List ℕ) (h k : Head) (a : judge s ≡ Accepted h) (b : judge t ≡ Accepted k) (same : SamePolicy (policyOf s) (policyOf t)) where

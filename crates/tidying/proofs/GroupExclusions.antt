@@ -12,7 +12,7 @@ use lib.Seq.{take-at}
 use Rattle.model.specs.declared.Head.{Head}
 use Rattle.model.specs.declared.Exclusion.{Exclusion}
 use Rattle.model.specs.declared.Entry.{Entry}
-use Rattle.model.specs.declared.Entry.the-variants.{Assignment, Grant, Senior, Exclude, Member, End, Unknown}
+use Rattle.model.specs.declared.Entry.the-variants.{Assignment, Grant, Senior, Exclude, Member, End, Unknown, Limit}
 use Rattle.model.specs.Image.{field}
 use Rattle.model.specs.Policy.{fold, joining, withMembers, exclusionsOf}
 use Rattle.model.specs.Ranges.{Each}
@@ -28,6 +28,7 @@ exclusionIn (Grant r p) ms xs = xs
 exclusionIn (Senior a b) ms xs = xs
 exclusionIn (Exclude x m) ms xs = withMembers x (map entryOf ms) ∷ xs
 exclusionIn (Member r) ms xs = xs
+exclusionIn (Limit r t) ms xs = xs
 exclusionIn End ms xs = xs
 exclusionIn Unknown ms xs = xs
 
@@ -55,6 +56,7 @@ module _ (h : Head) where
       ap₂ {C = List Exclusion} (λ (l : List Entry) (xs : List Exclusion). withMembers x l ∷ xs)
       (take-at (map entryOf ms) es d (length-map ms entryOf ∙ n)) (members-skipped ms es m)
   group-exclusion (Member r) ms es l n m = absurd (true≢false (sym l))
+  group-exclusion (Limit r t) ms es l n m = members-skipped ms es m
   group-exclusion End ms es l n m = absurd (true≢false (sym l))
   group-exclusion Unknown ms es l n m = absurd (true≢false (sym l))
 
@@ -72,7 +74,7 @@ module _ (h : Head) where
 joined-step : (s : ℕ) → s < 2 ^ 64 → (w : ℕ) → joining s (entryOf w) < 2 ^ 64
 unfolding joining
 joined-step s l =
-    decoded (λ e. joining s e < 2 ^ 64) (λ w. (l, l, l, l, or-lt 64 s (2 ^ field w 22 6) l (pow-lt (mod-lt (w / 2 ^ 22) (pow-pos 6))), l, l))
+    decoded (λ e. joining s e < 2 ^ 64) (λ w. (l, l, l, l, or-lt 64 s (2 ^ field w 22 6) l (pow-lt (mod-lt (w / 2 ^ 22) (pow-pos 6))), l, l, l))
 
 -- a set of roles
 pub joined-below : (ms : List ℕ) (s : ℕ) → s < 2 ^ 64 → fold joining s (map entryOf ms) < 2 ^ 64
@@ -82,7 +84,7 @@ joined-below (w ∷ ms) s l = joined-below ms (joining s (entryOf w)) (joined-st
 
 -- an exclusion word has no member itself
 plain-word : (w : ℕ) → Plain (entryOf w)
-plain-word = decoded Plain (λ w. (tt, tt, tt, refl, tt, tt, tt))
+plain-word = decoded Plain (λ w. (tt, tt, tt, refl, tt, tt, tt, tt))
 
 pub bare-word : (w : ℕ) (x : Exclusion) (m : ℕ) → entryOf w ≡ Exclude x m → x .members ≡ 0
 bare-word w x m e = subst Plain e (plain-word w)

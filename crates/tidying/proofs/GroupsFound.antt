@@ -11,7 +11,7 @@ use Rattle.model.specs.declared.Head.{Head}
 use Rattle.model.specs.declared.Role.{Role}
 use Rattle.model.specs.declared.Word.{Word}
 use Rattle.model.specs.declared.Entry.{Entry}
-use Rattle.model.specs.declared.Entry.the-variants.{Assignment, Grant, Senior, Exclude, Member, End, Unknown}
+use Rattle.model.specs.declared.Entry.the-variants.{Assignment, Grant, Senior, Exclude, Member, End, Unknown, Limit}
 use Rattle.model.specs.declared.Scan.{Scan}
 use Rattle.model.specs.Sets.{has, with}
 use Rattle.model.specs.Image.{isKind, decode, wrongKind, inRange, repeats, assigning, next, start}
@@ -43,6 +43,7 @@ memberOr (Grant r p) d = d
 memberOr (Senior a b) d = d
 memberOr (Exclude x m) d = d
 memberOr (Member r) d = r .0
+memberOr (Limit r t) d = d
 memberOr End d = d
 memberOr Unknown d = d
 
@@ -54,7 +55,8 @@ member-field w =
     (λ _. pick-case P (isKind w 3) _ _ (λ _. refl)
     (λ _. pick-case P (isKind w 4) _ _ (λ _. refl)
     (λ _. pick-case P (isKind w 5) _ _ (λ _. refl)
-    (λ _. pick-case P (isKind w 6) _ _ (λ _. refl) (λ _. pick-case P (isKind w 15) _ _ (λ _. refl) (λ _. refl))))))
+    (λ _. pick-case P (isKind w 6) _ _ (λ _. refl)
+    (λ _. pick-case P (isKind w 7) _ _ (λ _. refl) (λ _. pick-case P (isKind w 15) _ _ (λ _. refl) (λ _. refl)))))))
 
 pub member-role : (w : ℕ) (r : Role) → entryOf w ≡ Member r → r .0 ≡ memberRole w
 unfolding memberOr
@@ -165,6 +167,7 @@ module _ (h : Head) (t : Scan) (w : ℕ) (ws : List ℕ) (spare : decode w .spar
       more : (d : ℕ) {n : ℕ} → (d ≡ 0 → ⊥) → n ≡ d - 1 → suc n ≡ d
       more zero z e = absurd (z refl)
       more (suc d) z e = omega arith
+  ahead-more (Limit r n) q k g f a = alone (Limit r n) q refl refl g f (turn-of false (t .due) (Limit r n) k) a
   ahead-more End q k g f a = absurd (true≢false k)
   ahead-more Unknown q k g f a = absurd (true≢false k)
 
@@ -176,6 +179,7 @@ module _ (h : Head) (t : Scan) (w : ℕ) (ws : List ℕ) (spare : decode w .spar
   ahead-last (Senior b c) q k = absurd (true≢false k)
   ahead-last (Exclude x m) q k = absurd (true≢false k)
   ahead-last (Member r) q k = absurd (true≢false k)
+  ahead-last (Limit r n) q k = absurd (true≢false k)
   ahead-last End q k =
       record {
         due = [];

@@ -11,7 +11,7 @@ use borrow.Author.Tests.{eq-eqb, ne-eqb, lt-ltb}
 use Rattle.model.specs.declared.Head.{Head}
 use Rattle.model.specs.declared.Word.{Word}
 use Rattle.model.specs.declared.Entry.{Entry}
-use Rattle.model.specs.declared.Entry.the-variants.{Assignment, Grant, Senior, Exclude, Member, End, Unknown}
+use Rattle.model.specs.declared.Entry.the-variants.{Assignment, Grant, Senior, Exclude, Member, End, Unknown, Limit}
 use Rattle.model.specs.declared.Scan.{Scan}
 use Rattle.model.specs.Sets.{has, with}
 use Rattle.model.specs.Image.{isKind, decode, wrongKind, inRange, repeats, assigning, next, start}
@@ -32,6 +32,7 @@ isEnd (Grant r p) = false
 isEnd (Senior a b) = false
 isEnd (Exclude x m) = false
 isEnd (Member r) = false
+isEnd (Limit r t) = false
 isEnd End = true
 isEnd Unknown = false
 
@@ -48,7 +49,8 @@ end-spare w =
     (λ _. pick-case P (isKind w 3) _ _ (λ _. no-end _ refl)
     (λ _. pick-case P (isKind w 4) _ _ (λ _. no-end _ refl)
     (λ _. pick-case P (isKind w 5) _ _ (λ _. no-end _ refl)
-    (λ _. pick-case P (isKind w 6) _ _ (λ _. no-end _ refl) (λ _. pick-case P (isKind w 15) _ _ (λ _ _. refl) (λ _ _. refl))))))
+    (λ _. pick-case P (isKind w 6) _ _ (λ _. no-end _ refl)
+    (λ _. pick-case P (isKind w 7) _ _ (λ _. no-end _ refl) (λ _. pick-case P (isKind w 15) _ _ (λ _ _. refl) (λ _ _. refl)))))))
 
 -- ---- the tests of a word, by what it says
 not-zero : (n : ℕ) → n ≡ 0 → not (eqb n 0) ≡ false
@@ -62,6 +64,7 @@ lead-kind due (Grant r p) l z = not-zero due z
 lead-kind due (Senior a b) l z = not-zero due z
 lead-kind due (Exclude x m) l z = not-zero due z
 lead-kind due (Member r) l z = absurd (true≢false (sym l))
+lead-kind due (Limit r t) l z = not-zero due z
 lead-kind due End l z = absurd (true≢false (sym l))
 lead-kind due Unknown l z = absurd (true≢false (sym l))
 
@@ -73,6 +76,7 @@ lead-fresh t (Grant r p) l f = refl
 lead-fresh t (Senior a b) l f = f
 lead-fresh t (Exclude x m) l f = refl
 lead-fresh t (Member r) l f = absurd (true≢false (sym l))
+lead-fresh t (Limit r n) l f = refl
 lead-fresh t End l f = refl
 lead-fresh t Unknown l f = refl
 
@@ -84,6 +88,7 @@ lead-due t (Grant r p) l z = z
 lead-due t (Senior a b) l z = z
 lead-due t (Exclude x m) l z = refl
 lead-due t (Member r) l z = absurd (true≢false (sym l))
+lead-due t (Limit r n) l z = z
 lead-due t End l z = z
 lead-due t Unknown l z = z
 
@@ -99,6 +104,7 @@ lead-members t (Grant r p) ms l n = no-members t ms n
 lead-members t (Senior a b) ms l n = no-members t ms n
 lead-members t (Exclude x m) ms l n = each-of (λ w. has 0 (memberRole w) ≡ false) (λ w. has-none (memberRole w)) ms
 lead-members t (Member r) ms l n = absurd (true≢false (sym l))
+lead-members t (Limit r k) ms l n = no-members t ms n
 lead-members t End ms l n = no-members t ms n
 lead-members t Unknown ms l n = no-members t ms n
 

@@ -13,6 +13,7 @@ pub mod WordLaws
 pub mod SortedLaws
 pub mod SameSetsProof
 pub mod TidyLists
+pub mod TidyLimits
 pub mod TidyOrderProof
 pub mod TidySize
 pub mod TidyExclusions

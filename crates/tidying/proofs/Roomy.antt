@@ -12,7 +12,7 @@ use lib.Seq.{getD-set-same}
 use borrow.Author.Tests.{ltb-true, leb-true, lt-leb, not-true}
 use Rattle.model.specs.declared.Head.{Head}
 use Rattle.model.specs.declared.Entry.{Entry}
-use Rattle.model.specs.declared.Entry.the-variants.{Assignment, Grant, Senior, Exclude, Member, End, Unknown}
+use Rattle.model.specs.declared.Entry.the-variants.{Assignment, Grant, Senior, Exclude, Member, End, Unknown, Limit}
 use Rattle.model.specs.declared.Scan.{Scan}
 use Rattle.model.specs.Sets.{has, with, countTo, count}
 use Rattle.model.specs.Image.{inRange, crowds, assigning, next}
@@ -42,6 +42,7 @@ row-grows rows (Grant r p) u = le-refl _
 row-grows rows (Senior a b) u = le-refl _
 row-grows rows (Exclude x m) u = le-refl _
 row-grows rows (Member r) u = le-refl _
+row-grows rows (Limit r n) u = le-refl _
 row-grows rows End u = le-refl _
 row-grows rows Unknown u = le-refl _
 
@@ -86,5 +87,6 @@ module _ (h : Head) (users : h .users ≤ 64) (roles : h .roles ≤ 64) where
     room-of es (assigning rows (Exclude y m)) (next t (Exclude y m)) (assigning-length rows (Exclude y m) ∙ n) (r .1) f (omega arith),
   )
   room-of (Member q ∷ es) rows t n r f x = (refl, room-of es (assigning rows (Member q)) (next t (Member q)) (assigning-length rows (Member q) ∙ n) (r .1) f x)
+  room-of (Limit q m ∷ es) rows t n r f x = (refl, room-of es (assigning rows (Limit q m)) t (assigning-length rows (Limit q m) ∙ n) (r .1) f x)
   room-of (End ∷ es) rows t n r f x = (refl, room-of es (assigning rows End) t (assigning-length rows End ∙ n) (r .1) f x)
   room-of (Unknown ∷ es) rows t n r f x = (refl, room-of es (assigning rows Unknown) t (assigning-length rows Unknown ∙ n) (r .1) f x)

@@ -36,19 +36,19 @@ assigning-below : (w : ℕ) (rows : List ℕ) → RowsBelow 64 rows → RowsBelo
 unfolding assigning
 assigning-below w rows b =
     decoded (λ e. RowsBelow 64 (assigning rows e))
-    (λ v. (put-below rows (field v 22 6) (field v 16 6) 64 b (mod-lt (v / 2 ^ 16) (pow-pos 6)), b, b, b, b, b, b)) w
+    (λ v. (put-below rows (field v 22 6) (field v 16 6) 64 b (mod-lt (v / 2 ^ 16) (pow-pos 6)), b, b, b, b, b, b, b)) w
 
 granting-below : (w : ℕ) (rows : List ℕ) → RowsBelow 256 rows → RowsBelow 256 (granting rows (entryOf w))
 unfolding granting
 granting-below w rows b =
     decoded (λ e. RowsBelow 256 (granting rows e))
-    (λ v. (b, put-below rows (field v 22 6) (field v 14 8) 256 b (mod-lt (v / 2 ^ 14) (pow-pos 8)), b, b, b, b, b)) w
+    (λ v. (b, put-below rows (field v 22 6) (field v 14 8) 256 b (mod-lt (v / 2 ^ 14) (pow-pos 8)), b, b, b, b, b, b)) w
 
 ordering-below : (w : ℕ) (rows : List ℕ) → RowsBelow 64 rows → RowsBelow 64 (ordering rows (entryOf w))
 unfolding ordering
 ordering-below w rows b =
     decoded (λ e. RowsBelow 64 (ordering rows e))
-    (λ v. (b, b, put-below rows (field v 22 6) (field v 16 6) 64 b (mod-lt (v / 2 ^ 16) (pow-pos 6)), b, b, b, b)) w
+    (λ v. (b, b, put-below rows (field v 22 6) (field v 16 6) 64 b (mod-lt (v / 2 ^ 16) (pow-pos 6)), b, b, b, b, b)) w
 
 fold-below : (n : ℕ) (step : List ℕ → Entry → List ℕ) → ((w : ℕ) (rows : List ℕ) → RowsBelow n rows → RowsBelow n (step rows (entryOf w)))
     → (ws : List ℕ) (rows : List ℕ) → RowsBelow n rows → RowsBelow n (fold step rows (map entryOf ws))
@@ -84,9 +84,9 @@ module _ (s t : List ℕ) where
       → ((u r : ℕ) → List·Memᴰ (Assignment (user u) (role r)) (entriesOf s) ↔ List·Memᴰ (Assignment (user u) (role r)) (entriesOf t))
       → ((r p : ℕ) → List·Memᴰ (Grant (role r) (permission p)) (entriesOf s) ↔ List·Memᴰ (Grant (role r) (permission p)) (entriesOf t))
       → ((r q : ℕ) → List·Memᴰ (Senior (role r) (role q)) (entriesOf s) ↔ List·Memᴰ (Senior (role r) (role q)) (entriesOf t))
-      → ((x : Exclusion) → excludes (policyOf s) x ≡ excludes (policyOf t) x) → SamePolicy (policyOf s) (policyOf t)
+      → ((x : Exclusion) → excludes (policyOf s) x ≡ excludes (policyOf t) x) → policyOf s .limits ≡ policyOf t .limits → SamePolicy (policyOf s) (policyOf t)
   unfolding policyOf
-  same-policy eh ea eg ej ex =
+  same-policy eh ea eg ej ex el =
       let f = read-off s in
       let g = read-off t in
       record {
@@ -101,4 +101,5 @@ module _ (s t : List ℕ) where
             table-same 64 ordering ordering-length ordering-below s t
             (λ u r. ((λ q. g .juniors u r .1 (ej u r .0 (f .juniors u r .0 q))), (λ q. f .juniors u r .1 (ej u r .1 (g .juniors u r .0 q)))));
         exclusions = ex;
+        limits = el;
       }

@@ -28,9 +28,10 @@ use Rattle.tidying.proofs.TidyCasesProof
 pub acceptable-is : (s : List ℕ) (h : Head) → (judge s ≡ Accepted h) ↔ Acceptable s h
 acceptable-is = AcceptableProof.acceptable-is
 
--- policies are the same exactly if their images have the same head and sets of assignments, grants, senior pairs and exclusions
-pub same-policies : (s t : List ℕ) → SamePolicy (policyOf s) (policyOf t) ↔ SameSets s t
-same-policies s t = (SameSetsProof.policy-sets s t, SameSetsProof.sets-policy s t)
+-- policies of accepted images are the same exactly if these have the same head, sets of assignments, grants, senior pairs and exclusions, and
+-- smallest limits
+pub same-policies : (s t : List ℕ) (h k : Head) → judge s ≡ Accepted h → judge t ≡ Accepted k → SamePolicy (policyOf s) (policyOf t) ↔ SameSets s t
+same-policies s t h k a b = (SameSetsProof.policy-sets s t h k a b, SameSetsProof.sets-policy s t h k a b)
 
 -- ---- the tidy image of an accepted image
 
@@ -38,9 +39,9 @@ same-policies s t = (SameSetsProof.policy-sets s t, SameSetsProof.sets-policy s 
 pub tidy-accepted : (s : List ℕ) (h : Head) → judge s ≡ Accepted h → judge (tidyOf s) ≡ Accepted h
 tidy-accepted = TidyImage.tidy-accepted
 
--- it has the same head and sets of assignments, grants, senior pairs and exclusions
+-- it has the same head, sets of assignments, grants, senior pairs and exclusions, and smallest limits
 pub tidy-same : (s : List ℕ) (h : Head) → judge s ≡ Accepted h → SameSets s (tidyOf s)
-tidy-same s h e = SameSetsProof.policy-sets s (tidyOf s) (TidyImage.tidy-same s h e)
+tidy-same s h e = SameSetsProof.policy-sets s (tidyOf s) h h e (TidyImage.tidy-accepted s h e) (TidyImage.tidy-same s h e)
 
 -- two accepted images share it exactly if those are the same
 pub shared : (s t : List ℕ) (h k : Head) → judge s ≡ Accepted h → judge t ≡ Accepted k → Shared s t

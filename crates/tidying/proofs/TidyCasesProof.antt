@@ -3,12 +3,13 @@
 use mathlib.Core.Path.{refl}
 use Rattle.model.specs.Policy.{kindNumber}
 use Rattle.tidying.specs.Groups.{spread}
-use Rattle.tidying.specs.Tidy.{membersTo, tableGroups, exclusionGroup, before, insert, sorted, tidyGroups, tidyWords, tidy, tidyOf, tidyBy, tidyCall}
+use Rattle.tidying.specs.Tidy.{membersTo, tableGroups, exclusionGroup, before, insert, sorted, tidyGroups, tidyWords, tidy, tidyOf, tidyBy, tidyCall, limitGroups, limitedRows}
 use Rattle.tidying.specs.TidyCases.{jumbled, shuffled, neat, sevens, refusing, TidyCases}
 use Rattle.model.proofs.Computing.{computing}
+use Rattle.model.specs.Words.{limitWord}
 
 pub tidy-cases : TidyCases
-unfolding computing kindNumber spread membersTo tableGroups exclusionGroup before insert sorted tidyGroups tidyWords tidy tidyOf tidyBy tidyCall jumbled shuffled neat sevens refusing
+unfolding computing kindNumber spread membersTo tableGroups exclusionGroup before insert sorted limitWord limitedRows limitGroups tidyGroups tidyWords tidy tidyOf tidyBy tidyCall jumbled shuffled neat sevens refusing
 tidy-cases =
     record {
       accepted = refl;

@@ -3,7 +3,7 @@
 use mathlib.Core.Path.{_≡_, refl, sym, ap, ap₂, _∙_, subst}
 use mathlib.Core.Logic.{inl, inr}
 use mathlib.Core.Bool.{true}
-use mathlib.Core.List.{List, [], _∷_, map, List·Memᴰ, Memᴰ·map}
+use mathlib.Core.List.{List, [], _∷_, map, List·Memᴰ, Memᴰ·map, _++_}
 use Prim.Native.Nat.{ℕ, suc, _^_, _≤_, _<_}
 use native.Mathlib.Nat.{lt-of-lt-of-le}
 use native.Mathlib.Omega.{arith}
@@ -24,7 +24,7 @@ use Rattle.model.specs.Image.{role, says, decode, inRange, repeats, start}
 use Rattle.model.specs.Words.{exclusionWord, memberWord}
 use Rattle.model.specs.Policy.{fold, joining, withMembers}
 use Rattle.model.specs.Ranges.{Each, ExclusionInRange}
-use Rattle.tidying.specs.Groups.{entryOf, memberRole, spread, leads, dueBehind, Distinct, RightMember, RightGroup}
+use Rattle.tidying.specs.Groups.{entryOf, memberRole, spread, leads, dueBehind, Distinct, RightMember, RightGroup, Group}
 use Rattle.tidying.specs.Tidy.{membersTo, exclusionGroup}
 use Rattle.model.proofs.Bools.{both, bool-ext, not-both}
 use Rattle.model.proofs.SetLaws.{same-members}
@@ -153,13 +153,13 @@ module _ (h : Head) (small : h .roles ≤ 64) (x : Exclusion) (r : ExclusionInRa
             (members-each (λ j. memberWord j < 2 ^ 32) 64 (x .members) (λ j l e. unfold memberWord in omega arith)),
       )
 
--- ---- the groups of exclusions in range
-pub groups-read : (h : Head) → h .roles ≤ 64 → (xs : List Exclusion) → Each (ExclusionInRange (h .roles)) xs
-    → exclusionsIn (map exclusionGroup xs) ≡ xs
+-- ---- the groups of exclusions in range, before groups that bring none
+pub groups-read : (h : Head) → h .roles ≤ 64 → (ks : List Group) → exclusionsIn ks ≡ [] → (xs : List Exclusion)
+    → Each (ExclusionInRange (h .roles)) xs → exclusionsIn (map exclusionGroup xs ++ ks) ≡ xs
 unfolding exclusionsIn
-groups-read h small [] r = refl
-groups-read h small (x ∷ xs) r =
-    group-read h small x (r .0) (exclusionsIn (map exclusionGroup xs)) ∙ ap (λ (l : List Exclusion). x ∷ l) (groups-read h small xs (r .1))
+groups-read h small ks e [] r = e
+groups-read h small ks e (x ∷ xs) r =
+    group-read h small x (r .0) (exclusionsIn (map exclusionGroup xs ++ ks)) ∙ ap (λ (l : List Exclusion). x ∷ l) (groups-read h small ks e xs (r .1))
 
 -- how many words an exclusion takes
 abbrev pub wordsFor : Exclusion → ℕ

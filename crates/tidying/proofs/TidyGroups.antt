@@ -3,30 +3,31 @@
 use mathlib.Core.Path.{_≡_, refl, sym, ap, _∙_, subst}
 use mathlib.Core.Bool.{true, false}
 use mathlib.Core.List.{List, [], _∷_, _++_, map, List·Memᴰ}
-use Prim.Native.Nat.{ℕ, _^_, _<_}
+use Prim.Native.Nat.{ℕ, _^_, _<_, _≤_}
 use native.Mathlib.Nat.{zero-add, lt-of-lt-of-le}
 use native.Mathlib.Omega.{arith}
 use lib.Dec.{eqb}
 use lib.ListN.{getD}
-use borrow.Author.Tests.{lt-ltb}
+use borrow.Author.Tests.{lt-ltb, le-leb}
 use Rattle.model.specs.declared.Exclusion.{Exclusion}
 use Rattle.model.specs.declared.Word.{Word}
 use Rattle.model.specs.declared.Entry.{Entry}
-use Rattle.model.specs.declared.Entry.the-variants.{Assignment, Grant, Senior, Exclude, Member, End, Unknown}
+use Rattle.model.specs.declared.Entry.the-variants.{Assignment, Grant, Senior, Exclude, Member, End, Unknown, Limit}
 use Rattle.model.specs.Sets.{has}
 use Rattle.model.specs.Image.{user, role, permission, says, decode, inRange, repeats, start}
-use Rattle.model.specs.Words.{headWord, assignWord, grantWord, seniorWord, endWord}
-use Rattle.model.specs.Policy.{Policy}
+use Rattle.model.specs.Words.{headWord, assignWord, grantWord, seniorWord, endWord, limitWord}
+use Rattle.model.specs.Policy.{Policy, limited}
 use Rattle.model.specs.Ranges.{Each, ExclusionInRange, InRange}
 use Rattle.tidying.specs.Groups.{entryOf, Group, spread, leads, dueBehind, RightMember, RightGroup}
-use Rattle.tidying.specs.Tidy.{single, tableGroups, exclusionGroup, sorted, tidyGroups}
+use Rattle.tidying.specs.Tidy.{single, tableGroups, exclusionGroup, sorted, tidyGroups, limitGroups, limitedRows}
 use Rattle.model.proofs.Bools.{both}
 use Rattle.tidying.proofs.Eachs.{each-by, each-two, each-append, each-map}
 use Rattle.tidying.proofs.GroupExclusions.{exclusionIn, exclusionsIn}
-use Rattle.tidying.proofs.WordLaws.{decode-assignment, decode-grant, decode-senior, decode-end}
+use Rattle.tidying.proofs.WordLaws.{decode-assignment, decode-grant, decode-senior, decode-end, decode-limit}
 use Rattle.tidying.proofs.SortedLaws.{each-sorted}
 use Rattle.tidying.proofs.TidyLists.{table-each, table-mem, spread-each}
 use Rattle.tidying.proofs.TidyExclusions.{group-entry, group-right, group-low, groups-read}
+use Rattle.tidying.proofs.TidyLimits.{row-limited}
 
 -- ---- what is known of each word and each group
 
@@ -37,6 +38,7 @@ Backed p (Grant r m) = has (getD (p .granted) (r .0) 0) (m .0) ≡ true
 Backed p (Senior a b) = has (getD (p .juniors) (a .0) 0) (b .0) ≡ true
 Backed p (Exclude x m) = Unit {0}
 Backed p (Member r) = Unit {0}
+Backed p (Limit r t) = (limited (p .limits) (r .0) ≡ true) × (getD (p .limits) (r .0) 0 ≡ t)
 Backed p End = Unit {0}
 Backed p Unknown = Unit {0}
 
@@ -57,6 +59,11 @@ lones-skipped : (gs ks : List Group) → Each Lone gs → exclusionsIn (gs ++ ks
 unfolding exclusionsIn
 lones-skipped [] ks l = refl
 lones-skipped (g ∷ gs) ks l = l .0 (exclusionsIn (gs ++ ks)) ∙ lones-skipped gs ks (l .1)
+
+lones-none : (gs : List Group) → Each Lone gs → exclusionsIn gs ≡ []
+unfolding exclusionsIn
+lones-none [] l = refl
+lones-none (g ∷ gs) l = l .0 (exclusionsIn gs) ∙ lones-none gs (l .1)
 
 -- a word that stands alone, and what it says
 pub record TidyWord (p : Policy) (w : ℕ) (e : Entry) : Type 0 where
@@ -162,6 +169,36 @@ module _ (p : Policy) (rng : InRange p) (apart : (a b : ℕ) → has (getD (p .j
         },
       )
 
+  limit-right : (r t : ℕ) → r < p .head .roles → 2 ≤ t → t ≤ 256 → inRange (p .head) (Limit (role r) t) ≡ true
+  unfolding inRange
+  limit-right r t a b c = both _ _ (lt-ltb r (p .head .roles) a) (both _ _ (le-leb 2 t b) (le-leb t 256 c))
+
+  limit-low : (r t : ℕ) → r < 64 → t ≤ 256 → limitWord r t < 2 ^ 32
+  unfolding limitWord
+  limit-low r t a b = omega arith
+
+  pub limit-word : (r j : ℕ) → has (getD (limitedRows (p .limits)) r 0) j ≡ true
+      → (j < 1) × TidyWord p (limitWord r (getD (p .limits) r 0)) (Limit (role r) (getD (p .limits) r 0))
+  limit-word r j e =
+      let b = row-limited (p .limits) r j e in
+      let k = rng .limits r (b .1) in
+      let t = getD (p .limits) r 0 in
+      let lr : r < 64 = lt-of-lt-of-le (k .0) (rng .roles .1) in
+      let low : 2 ≤ t = k .1 in
+      let high : t ≤ 256 = k .2 in (
+        b .0,
+        record {
+          decodes = decode-limit r t lr (omega arith);
+          leading = unfold leads in refl;
+          whole = unfold dueBehind in refl;
+          range = limit-right r t (k .0) low high;
+          apart = unfold repeats in refl;
+          backed = (b .1, refl);
+          low = limit-low r t lr high;
+          lone = λ zs. unfold exclusionIn in refl;
+        },
+      )
+
   -- the exclusions
   ranged : Each (ExclusionInRange (p .head .roles)) (sorted (p .exclusions))
   ranged = each-sorted (ExclusionInRange (p .head .roles)) (p .exclusions) (rng .exclusions)
@@ -186,7 +223,7 @@ module _ (p : Policy) (rng : InRange p) (apart : (a b : ℕ) → has (getD (p .j
           }
 
   -- ---- all groups
-  -- the three tables' groups
+  -- the tables' groups
   tables-tidy : (gs : List Group) → Each (λ g. TidyGroup p g × Lone g) gs → (ks : List Group) → Each (TidyGroup p) ks → Each (TidyGroup p) (gs ++ ks)
   tables-tidy gs e ks f = each-append (TidyGroup p) gs ks (each-by (λ g. TidyGroup p g × Lone g) (TidyGroup p) (λ g r. r .0) gs e) f
 
@@ -202,14 +239,22 @@ module _ (p : Policy) (rng : InRange p) (apart : (a b : ℕ) → has (getD (p .j
   junior-tidy : Each (λ g. TidyGroup p g × Lone g) (tableGroups seniorWord 64 0 (p .juniors))
   junior-tidy = table-tidy p seniorWord (λ a b. Senior (role a) (role b)) 64 (p .juniors) junior-word
 
+  limit-tidy : Each (λ g. TidyGroup p g × Lone g) (limitGroups (p .limits))
+  unfolding limitGroups
+  limit-tidy =
+      table-tidy p (λ r j. limitWord r (getD (p .limits) r 0)) (λ r j. Limit (role r) (getD (p .limits) r 0)) 1 (limitedRows (p .limits)) limit-word
+
   pub groups-tidy : Each (TidyGroup p) (tidyGroups p)
   unfolding tidyGroups
   groups-tidy =
-      let x = map exclusionGroup (sorted (p .exclusions)) in
+      let w = limitGroups (p .limits) in
+      let v = map exclusionGroup (sorted (p .exclusions)) in
+      let x = v ++ w in
       let j = tableGroups seniorWord 64 0 (p .juniors) in
       let g = tableGroups grantWord 256 0 (p .granted) in
       tables-tidy (tableGroups assignWord 64 0 (p .assigned)) assigned-tidy (g ++ (j ++ x))
-      (tables-tidy g granted-tidy (j ++ x) (tables-tidy j junior-tidy x exclusion-tidy))
+      (tables-tidy g granted-tidy (j ++ x) (tables-tidy j junior-tidy x
+      (each-append (TidyGroup p) v w exclusion-tidy (each-by (λ g. TidyGroup p g × Lone g) (TidyGroup p) (λ g r. r .0) w limit-tidy))))
 
   pub groups-right : Each (RightGroup (p .head)) (tidyGroups p)
   groups-right = each-by (TidyGroup p) (RightGroup (p .head)) (λ g r. r .right) (tidyGroups p) groups-tidy
@@ -218,11 +263,15 @@ module _ (p : Policy) (rng : InRange p) (apart : (a b : ℕ) → has (getD (p .j
   pub groups-exclusions : exclusionsIn (tidyGroups p) ≡ sorted (p .exclusions)
   unfolding tidyGroups
   groups-exclusions =
-      let x = map exclusionGroup (sorted (p .exclusions)) in
+      let w = limitGroups (p .limits) in
+      let v = map exclusionGroup (sorted (p .exclusions)) in
+      let x = v ++ w in
       let j = tableGroups seniorWord 64 0 (p .juniors) in
       let g = tableGroups grantWord 256 0 (p .granted) in
       tables-lone (tableGroups assignWord 64 0 (p .assigned)) assigned-tidy (g ++ (j ++ x)) ∙ tables-lone g granted-tidy (j ++ x)
-      ∙ tables-lone j junior-tidy x ∙ groups-read (p .head) (rng .roles .1) (sorted (p .exclusions)) ranged
+      ∙ tables-lone j junior-tidy x
+      ∙ groups-read (p .head) (rng .roles .1) w (lones-none w (each-by (λ g. TidyGroup p g × Lone g) Lone (λ g r. r .1) w limit-tidy))
+      (sorted (p .exclusions)) ranged
 
   -- ---- the words
   pub first-low : headWord (p .head .users) (p .head .roles) (p .head .permissions) < 2 ^ 32

@@ -5,7 +5,7 @@ use mathlib.Core.Logic.{_↔_}
 use mathlib.Core.Bool.{true, false}
 use mathlib.Core.List.{List, [], _∷_, _++_, map, List·Memᴰ, Memᴰ·map, Memᴰ·append-left, Memᴰ·append-right}
 use Prim.Native.Nat.{ℕ, zero, suc, _+_, _-_, _*_, _/_, _%_, _^_, _≤_, _<_}
-use native.Mathlib.Nat.{le-trans}
+use native.Mathlib.Nat.{le-trans, le-refl}
 use native.Mathlib.Omega.{arith}
 use lib.Dec.{eqb, leb}
 use lib.ListN.{length, getD, length-append}
@@ -13,25 +13,25 @@ use borrow.Author.Tests.{eq-eqb, leb-true, le-leb}
 use Rattle.model.specs.declared.Head.{Head}
 use Rattle.model.specs.declared.Exclusion.{Exclusion}
 use Rattle.model.specs.declared.Entry.{Entry}
-use Rattle.model.specs.declared.Entry.the-variants.{Assignment, Grant, Senior, End}
+use Rattle.model.specs.declared.Entry.the-variants.{Assignment, Grant, Senior, End, Limit}
 use Rattle.model.specs.declared.Checked.the-variants.{Accepted}
 use Rattle.model.specs.Tests.{any, between}
 use Rattle.model.specs.Sets.{has}
 use Rattle.model.specs.Image.{wordAt, behindHead, user, role, permission, says, repeats, headOf, headRight, lengthRight, emptyRows, start, assigning}
-use Rattle.model.specs.Words.{headWord, assignWord, grantWord, seniorWord, sumOf, endWord, ended, imageBytes}
-use Rattle.model.specs.Policy.{Policy, granting, ordering, fold, entriesOf, exclusionsOf, policyOf, sameExclusion, excludes}
+use Rattle.model.specs.Words.{headWord, assignWord, grantWord, seniorWord, sumOf, endWord, ended, imageBytes, limitWord}
+use Rattle.model.specs.Policy.{Policy, granting, ordering, fold, entriesOf, exclusionsOf, policyOf, sameExclusion, excludes, limited, limiting}
 use Rattle.model.specs.Judgement.{judge}
 use Rattle.model.specs.Ranges.{Each, InRange}
 use Rattle.model.specs.OwnWords.{wordsFrom}
 use Rattle.tidying.specs.Groups.{wordsBehind, entryOf, Group, spread, RightMember, RightGroup, Acceptable}
 use Rattle.tidying.specs.Same.{SamePolicy}
-use Rattle.tidying.specs.Tidy.{single, tableGroups, sorted, tidyGroups, tidyWords, tidy, tidyOf, TidyWords}
+use Rattle.tidying.specs.Tidy.{single, tableGroups, sorted, tidyGroups, tidyWords, tidy, tidyOf, TidyWords, exclusionGroup, limitGroups, limitedRows}
 use Rattle.model.proofs.Bools.{both, and-r, bool-ext}
 use Rattle.model.proofs.UnionLaws.{has-none}
 use Rattle.model.proofs.Tables.{read-off}
-use Rattle.model.proofs.Judgements.{accepted-head, accepted-in-range}
+use Rattle.model.proofs.Judgements.{accepted-head, accepted-in-range, words-pass}
 use Rattle.tidying.proofs.Eachs.{each-by, each-append, each-map, each-mem}
-use Rattle.tidying.proofs.AcceptableProof.{entries-behind, acceptable-of, accepted-of}
+use Rattle.tidying.proofs.AcceptableProof.{entries-behind, acceptable-of, accepted-of, entries-range}
 use Rattle.tidying.proofs.GroupExclusions.{exclusions-in}
 use Rattle.tidying.proofs.SameTables.{same-policy}
 use Rattle.tidying.proofs.SameLimits.{limits-same}
@@ -39,7 +39,10 @@ use Rattle.tidying.proofs.WordLaws.{head-back, head-right, bytes-length
 use Rattle.tidying.proofs.SortedLaws.{sorted-mem, any-mem, length-sorted}
 use Rattle.tidying.proofs.TidyLists.{spread-each, spread-mem}
 use Rattle.tidying.proofs.TidySize.{tidy-size}
-use Rattle.tidying.proofs.TidyGroups.{Backed, Fit, TidyWord, word-says, table-written, assigned-word, granted-word, junior-word, groups-right, groups-exclusions, first-low, end-says, words-fit}
+use Rattle.tidying.proofs.TidyGroups.{Backed, Fit, TidyWord, word-says, table-written, assigned-word, granted-word, junior-word, groups-right, groups-exclusions, first-low, end-says, words-fit, limit-word}
+use Rattle.model.specs.Read.{LimitsRead}
+use Rattle.limits.proofs.LimitTable.{Matched, limits-matched, limits-read}
+use Rattle.tidying.proofs.TidyLimits.{limited-row}
 
 -- ---- its bytes are whole words
 pub tidy-words : (p : Policy) → TidyWords p
@@ -195,6 +198,39 @@ module _ (s : List ℕ) (h : Head) (accepted : judge s ≡ Accepted h) where
     λ m. read-off s .juniors a b .0 (backed (Senior (role a) (role b)) m),
   )
 
+  limit-written : (r : ℕ) → limited (policyOf s .limits) r ≡ true → List·Memᴰ (Limit (role r) (getD (policyOf s .limits) r 0)) (entriesOf image)
+  unfolding groups tidyGroups limitGroups p
+  limit-written r e =
+      let word = limit-word p rng p-apart in
+      let i = limited-row (p .limits) r e in
+      written (limitWord r (getD (p .limits) r 0)) (Limit (role r) (getD (p .limits) r 0)) (word r 0 i .1)
+      (Memᴰ·append-right (tableGroups assignWord 64 0 (p .assigned))
+      (Memᴰ·append-right (tableGroups grantWord 256 0 (p .granted))
+      (Memᴰ·append-right (tableGroups seniorWord 64 0 (p .juniors))
+      (Memᴰ·append-right (map exclusionGroup (sorted (p .exclusions)))
+      (table-written p (λ r j. limitWord r (getD (p .limits) r 0)) (λ r j. Limit (role r) (getD (p .limits) r 0)) 1 (limitedRows (p .limits)) word r 0 i)))))
+
+  -- a role's smallest limit stands in both, and the tidy image has no other
+  limits-said : policyOf s .limits ≡ policyOf image .limits
+  unfolding policyOf
+  limits-said =
+      limits-matched h (p .head) (entriesOf s) (entriesOf image) (entries-range s h (found .parts) (found .groups) (found .closed))
+      (entries-range image (p .head) (record { groups = groups; last = last; words = unfold behind in image-behind }) all-right last-end) there back
+    where
+      read : LimitsRead s
+      read = limits-read s h (words-pass s h accepted)
+
+      there : Matched (entriesOf s) (entriesOf image)
+      there r n m =
+          let e = read .is-limited r .1 (n, m) in
+          let w = read .is-limit r (getD (policyOf s .limits) r 0) e .0 refl in
+          (getD (policyOf s .limits) r 0, limit-written r e, w .least n m)
+
+      back : Matched (entriesOf image) (entriesOf s)
+      back r n m =
+          let b : Backed p (Limit (role r) n) = backed (Limit (role r) n) m in
+          (n, unfold p in (read .is-limit r n (b .0) .0 (b .1) .said), le-refl n)
+
   image-exclusions : policyOf image .exclusions ≡ sorted (p .exclusions)
   unfolding policyOf behind groups
   image-exclusions =
@@ -221,7 +257,7 @@ module _ (s : List ℕ) (h : Head) (accepted : judge s ≡ Accepted h) where
   image-head = sym (ap headOf image-first ∙ first-head)
 
   image-same : SamePolicy (policyOf s) (policyOf image)
-  image-same = same-policy s image image-head assigned-said granted-said juniors-said exclusions-said
+  image-same = same-policy s image image-head assigned-said granted-said juniors-said exclusions-said limits-said
 
   -- ---- its size
   image-length : length image ≡ 4 * (2 + length (spread groups))
@@ -239,7 +275,7 @@ module _ (s : List ℕ) (h : Head) (accepted : judge s ≡ Accepted h) where
   groups-short =
       let e = entries-behind s ∙ ap (map entryOf) (found .parts .words) in
       tidy-size h p (found .parts .groups) (found .parts .last) (found .groups) (found .closed) (ap (fold assigning emptyRows) e)
-      (ap (fold granting emptyRows) e) (ap (fold ordering emptyRows) e)
+      (ap (fold granting emptyRows) e) (ap (fold ordering emptyRows) e) (ap (fold limiting emptyRows) e)
       (ap exclusionsOf e ∙ exclusions-in h (found .parts .groups) (found .parts .last) (found .groups) (found .closed))
 
   image-short : length image ≤ length s

@@ -11,7 +11,7 @@ use Rattle.model.specs.Policy.{Policy, policyOf, excludes}
 use Rattle.model.specs.Judgement.{judge}
 use Rattle.tidying.specs.Groups.{spread}
 use Rattle.tidying.specs.Same.{SamePolicy, Alike}
-use Rattle.tidying.specs.Tidy.{tableGroups, exclusionGroup, tidyGroups, tidyWords, tidy, tidyOf, Shared}
+use Rattle.tidying.specs.Tidy.{tableGroups, exclusionGroup, tidyGroups, tidyWords, tidy, tidyOf, Shared, limitGroups}
 use Rattle.tidying.proofs.AlikeProof.{same-alike}
 use Rattle.tidying.proofs.SameSetsProof.{sets-policy, policy-sets, same-back, same-then}
 use Rattle.tidying.proofs.SortedLaws.{sorted-same}
@@ -22,11 +22,13 @@ pub same-tidy : (p q : Policy) → SamePolicy p q → tidy p ≡ tidy q
 unfolding tidy tidyWords tidyGroups excludes
 same-tidy p q e =
     let x = sorted-same (p .exclusions) (q .exclusions) (e .exclusions) in
-    let word : Head → List ℕ → List ℕ → List ℕ → List Exclusion → List ℕ =
-    λ h a g j xs.
+    let word : Head → List ℕ → List ℕ → List ℕ → List Exclusion → List ℕ → List ℕ =
+    λ h a g j xs ls.
     headWord (h .users) (h .roles) (h .permissions)
-    ∷ spread (tableGroups assignWord 64 0 a ++ (tableGroups grantWord 256 0 g ++ (tableGroups seniorWord 64 0 j ++ map exclusionGroup xs))) in
-    ap (λ (l : List ℕ). imageBytes (ended l)) (λ i. word (e .heads i) (e .assigned i) (e .granted i) (e .juniors i) (x i))
+    ∷ spread
+    (tableGroups assignWord 64 0 a
+    ++ (tableGroups grantWord 256 0 g ++ (tableGroups seniorWord 64 0 j ++ (map exclusionGroup xs ++ limitGroups ls)))) in
+    ap (λ (l : List ℕ). imageBytes (ended l)) (λ i. word (e .heads i) (e .assigned i) (e .granted i) (e .juniors i) (x i) (e .limits i))
 
 -- ---- tidying again, and calls
 module _ (s : List ℕ) (h : Head) (e : judge s ≡ Accepted h) where
@@ -41,8 +43,8 @@ module _ (s : List ℕ) (h : Head) (e : judge s ≡ Accepted h) where
 pub shared : (s t : List ℕ) (h k : Head) → judge s ≡ Accepted h → judge t ≡ Accepted k → Shared s t
 shared s t h k a b = (
   λ e.
-      policy-sets s t
+      policy-sets s t h k a b
       (same-then (policyOf s) (policyOf (tidyOf s)) (policyOf t) (tidy-same s h a)
       (subst (λ (l : List ℕ). SamePolicy (policyOf l) (policyOf t)) (sym e) (same-back (policyOf t) (policyOf (tidyOf t)) (tidy-same t k b)))),
-  λ e. unfold tidyOf in same-tidy (policyOf s) (policyOf t) (sets-policy s t e),
+  λ e. unfold tidyOf in same-tidy (policyOf s) (policyOf t) (sets-policy s t h k a b e),
 )

@@ -14,11 +14,11 @@ use Rattle.model.specs.declared.Head.{Head}
 use Rattle.model.specs.declared.Kind.{Kind}
 use Rattle.model.specs.declared.Kind.the-variants.{SsDmer, MsDmer, SsHmer, MsHmer}
 use Rattle.model.specs.declared.Word.{Word}
-use Rattle.model.specs.declared.Entry.the-variants.{Assignment, Grant, Senior, Exclude, Member, End, Unknown}
+use Rattle.model.specs.declared.Entry.the-variants.{Assignment, Grant, Senior, Exclude, Member, End, Unknown, Limit}
 use Rattle.model.specs.Tests.{pick, between}
 use Rattle.model.specs.Bytes.{bytesOf}
 use Rattle.model.specs.Image.{wordAt, behindHead, field, isKind, user, role, permission, kindOf, says, decode, headOf, headRight}
-use Rattle.model.specs.Words.{headWord, assignWord, grantWord, seniorWord, exclusionWord, memberWord, endWord, imageBytes}
+use Rattle.model.specs.Words.{headWord, assignWord, grantWord, seniorWord, exclusionWord, memberWord, endWord, imageBytes, limitWord}
 use Rattle.model.specs.Policy.{kindNumber}
 use Rattle.model.specs.Ranges.{Each, OneTo}
 use Rattle.model.specs.OwnWords.{wordsFrom}
@@ -34,7 +34,8 @@ decodeBy k w =
     (pick (eqb k 5)
     (says (Exclude (record { kind = kindOf (field w 26 2); limit = field w 19 7; members = 0 }) (field w 12 7)) (w % 2 ^ 12))
     (pick (eqb k 6) (says (Member (role (field w 22 6))) (w % 2 ^ 22))
-    (pick (eqb k 15) (says End 0) (says Unknown 0))))))
+    (pick (eqb k 7) (says (Limit (role (field w 22 6)) (field w 13 9)) (w % 2 ^ 13))
+    (pick (eqb k 15) (says End 0) (says Unknown 0)))))))
 
 decode-by : (w k : ℕ) → field w 28 4 ≡ k → decode w ≡ decodeBy k w
 unfolding decode decodeBy
@@ -99,6 +100,16 @@ decode-exclusion k n m a b =
     let z : w % 2 ^ 12 ≡ 0 = omega arith in
     let q : kindOf (field w 26 2) ≡ k = ap kindOf v ∙ kind-back k in
     decode-by w 5 t ∙ (λ i. says (Exclude (record { kind = q i; limit = x i; members = 0 }) (y i)) (z i))
+
+pub decode-limit : (r t : ℕ) → r < 64 → t < 512 → decode (limitWord r t) ≡ says (Limit (role r) t) 0
+unfolding decodeBy pick limitWord
+decode-limit r t a b =
+    let w = limitWord r t in
+    let k : field w 28 4 ≡ 7 = omega arith in
+    let x : field w 22 6 ≡ r = omega arith in
+    let y : field w 13 9 ≡ t = omega arith in
+    let z : w % 2 ^ 13 ≡ 0 = omega arith in
+    decode-by w 7 k ∙ (λ i. says (Limit (role (x i)) (y i)) (z i))
 
 pub decode-member : (r : ℕ) → r < 64 → decode (memberWord r) ≡ says (Member (role r)) 0
 unfolding decodeBy pick memberWord

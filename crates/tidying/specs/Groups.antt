@@ -7,7 +7,7 @@ use Prim.Native.Nat.{ℕ, zero, suc, _+_, _%_, _^_, _≤_, _<_}
 use lib.ListN.{getD, length}
 use Rattle.model.specs.declared.Head.{Head}
 use Rattle.model.specs.declared.Entry.{Entry}
-use Rattle.model.specs.declared.Entry.the-variants.{Assignment, Grant, Senior, Exclude, Member, End, Unknown}
+use Rattle.model.specs.declared.Entry.the-variants.{Assignment, Grant, Senior, Exclude, Member, End, Unknown, Limit}
 use Rattle.model.specs.Sets.{count}
 use Rattle.model.specs.Image.{wordAt, behindHead, role, field, decode, inRange, repeats, headOf, headRight, lengthRight, start}
 use Rattle.model.specs.Words.{sumOf}
@@ -31,7 +31,7 @@ memberRole w = field w 22 6
 
 -- ---- groups
 
--- a whole entry: an assignment, a grant or a senior word alone, or an exclusion word with the member words behind it
+-- a whole entry: an assignment, a grant, a senior or a limit word alone, or an exclusion word with the member words behind it
 pub record Group : Type 0 where
   pub word : ℕ
   pub members : List ℕ
@@ -48,6 +48,7 @@ leads (Grant r p) = true
 leads (Senior a b) = true
 leads (Exclude x m) = true
 leads (Member r) = false
+leads (Limit r t) = true
 leads End = false
 leads Unknown = false
 
@@ -58,6 +59,7 @@ dueBehind (Grant r p) = 0
 dueBehind (Senior a b) = 0
 dueBehind (Exclude x m) = m
 dueBehind (Member r) = 0
+dueBehind (Limit r t) = 0
 dueBehind End = 0
 dueBehind Unknown = 0
 

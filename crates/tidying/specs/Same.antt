@@ -13,23 +13,26 @@ use Rattle.model.specs.Judgement.{judge}
 use Rattle.model.specs.Tests.{any}
 use Rattle.model.specs.Session.{isText}
 use Rattle.model.specs.Run.{Call, step, run}
-use Rattle.model.specs.Read.{Said, Excluded}
+use Rattle.model.specs.Read.{Said, Excluded, Smallest}
 
--- the images have the same head and the same sets of assignments, grants, senior pairs and exclusions
+-- the images have the same head, the same sets of assignments, grants, senior pairs and exclusions, and the same smallest limit of each
+-- role
 pub record SameSets (s t : List ℕ) : Type 0 where
   pub heads : headOf (wordAt s 0) ≡ headOf (wordAt t 0)
   pub assignments : (u r : ℕ) → Said s (Assignment (user u) (role r)) ↔ Said t (Assignment (user u) (role r))
   pub grants : (r p : ℕ) → Said s (Grant (role r) (permission p)) ↔ Said t (Grant (role r) (permission p))
   pub seniors : (a b : ℕ) → Said s (Senior (role a) (role b)) ↔ Said t (Senior (role a) (role b))
   pub exclusions : (x : Exclusion) → Excluded (entriesOf s) x ↔ Excluded (entriesOf t) x
+  pub limits : (r n : ℕ) → Smallest (entriesOf s) r n ↔ Smallest (entriesOf t) r n
 
--- the same head and tables, whose rows are sets, and the same exclusions as a set
+-- the same head and tables, whose rows are sets, the same exclusions as a set, and the same limits
 pub record SamePolicy (p q : Policy) : Type 0 where
   pub heads : p .head ≡ q .head
   pub assigned : p .assigned ≡ q .assigned
   pub granted : p .granted ≡ q .granted
   pub juniors : p .juniors ≡ q .juniors
   pub exclusions : (x : Exclusion) → excludes p x ≡ excludes q x
+  pub limits : p .limits ≡ q .limits
 
 -- the call is a clause text, which follows image order
 unfoldable pub asksText : Call → Bool

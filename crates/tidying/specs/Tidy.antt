@@ -1,22 +1,23 @@
--- The tidy image of a policy: head, assignments, grants, seniors, exclusions, each sort ascending by its fields and without repeats.
+-- The tidy image of a policy: head, assignments, grants, seniors, exclusions, limits, each sort ascending by its fields and
+-- without repeats, a limit for each role that has one.
 -- Assumes nothing.
 use mathlib.Core.Path.{_≡_}
 use mathlib.Core.Logic.{_↔_}
-use mathlib.Core.Bool.{Bool, true, false}
+use mathlib.Core.Bool.{Bool, true, false, not}
 use mathlib.Core.List.{List, [], _∷_, _++_, map}
 use Prim.Native.Nat.{ℕ, zero, suc, _+_, _*_, _/_, _≤_, _<_}
-use lib.Dec.{ltb}
+use lib.Dec.{ltb, eqb}
 use lib.ListN.{length, getD, take, drop}
 use Rattle.model.specs.declared.Exclusion.{Exclusion}
 use Rattle.model.specs.declared.Checked.{Checked}
 use Rattle.model.specs.declared.Checked.the-variants.{Accepted, Refused}
 use Rattle.model.specs.Tests.{pick}
-use Rattle.model.specs.Sets.{has, count}
-use Rattle.model.specs.Words.{headWord, assignWord, grantWord, seniorWord, exclusionWord, memberWord, ended, imageBytes}
+use Rattle.model.specs.Sets.{has, count, one}
+use Rattle.model.specs.Words.{headWord, assignWord, grantWord, seniorWord, exclusionWord, memberWord, limitWord, ended, imageBytes}
 use Rattle.model.specs.Policy.{Policy, policyOf, kindNumber}
 use Rattle.model.specs.Judgement.{judge}
 use Rattle.model.specs.Choice.{earlier}
-use Rattle.model.specs.Ranges.{Each}
+use Rattle.model.specs.Ranges.{Each, LimitsInRange}
 use Rattle.tidying.specs.Groups.{Group, spread}
 use Rattle.tidying.specs.Same.{SameSets}
 
@@ -56,10 +57,19 @@ unfoldable pub sorted : List Exclusion → List Exclusion
 sorted [] = []
 sorted (x ∷ xs) = insert x (sorted xs)
 
+-- the roles that have a limit, as a table of one column
+unfoldable pub limitedRows : List ℕ → List ℕ
+limitedRows limits = map (λ t. one (not (eqb t 0))) limits
+
+-- a word for each of them, with its limit
+unfoldable pub limitGroups : List ℕ → List Group
+limitGroups limits = tableGroups (λ r j. limitWord r (getD limits r 0)) 1 0 (limitedRows limits)
+
 unfoldable pub tidyGroups : Policy → List Group
 tidyGroups p =
     tableGroups assignWord 64 0 (p .assigned)
-    ++ (tableGroups grantWord 256 0 (p .granted) ++ (tableGroups seniorWord 64 0 (p .juniors) ++ map exclusionGroup (sorted (p .exclusions))))
+    ++ (tableGroups grantWord 256 0 (p .granted)
+    ++ (tableGroups seniorWord 64 0 (p .juniors) ++ (map exclusionGroup (sorted (p .exclusions)) ++ limitGroups (p .limits))))
 
 -- ---- the image
 
@@ -105,15 +115,17 @@ Ascending R [] = Unit {0}
 Ascending R (x ∷ xs) = Each (R x) xs × Ascending R xs
 
 -- ascending, and so nothing repeated: words of one kind as numbers, which is by their fields; exclusions by kind, limit and member set;
--- the member words of each exclusion
+-- the member words of each exclusion; limit words in range
 pub record TidyOrder (p : Policy) : Type 0 where
   pub assignments : Ascending _<_ (spread (tableGroups assignWord 64 0 (p .assigned)))
   pub grants : Ascending _<_ (spread (tableGroups grantWord 256 0 (p .granted)))
   pub seniors : Ascending _<_ (spread (tableGroups seniorWord 64 0 (p .juniors)))
   pub exclusions : Ascending (λ x y. before x y ≡ true) (sorted (p .exclusions))
   pub members : (x : Exclusion) → Ascending _<_ (exclusionGroup x .members)
+  pub limits : LimitsInRange (p .head .roles) (p .limits) → Ascending _<_ (spread (limitGroups (p .limits)))
 
--- two accepted images share their tidy image exactly if head and sets of assignments, grants, senior pairs and exclusions are the same
+-- two accepted images share their tidy image exactly if head, sets of assignments, grants, senior pairs and exclusions, and smallest
+-- limits are the same
 abbrev pub Shared : List ℕ → List ℕ → Type 0
 Shared s t = (tidyOf s ≡ tidyOf t) ↔ SameSets s t
 

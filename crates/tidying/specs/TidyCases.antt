@@ -9,27 +9,28 @@ use Rattle.model.specs.Words.{imageBytes}
 use Rattle.model.specs.Judgement.{judge}
 use Rattle.tidying.specs.Tidy.{tidyOf, Written, tidyCall}
 
--- two users, four roles, four permissions; an assignment, a grant and an exclusion stand twice
+-- two users, four roles, four permissions; an assignment, a grant and an exclusion stand twice, and role 1 has two limits
 unfoldable pub jumbled : List ℕ
 jumbled =
-    0x10410080 ∷ 0x40420000 ∷ 0x30400000 ∷ 0x54183000 ∷ 0x60800000 ∷ 0x60000000 ∷ 0x60400000 ∷ 0x20400000 ∷ 0x3000C000 ∷ 0x20010000
-    ∷ 0x54102000 ∷ 0x60C00000 ∷ 0x60400000 ∷ 0x20400000 ∷ 0x54103000 ∷ 0x60400000 ∷ 0x60000000 ∷ 0x60800000 ∷ 0x54102000 ∷ 0x60400000
-    ∷ 0x60C00000 ∷ 0x50183000 ∷ 0x60C00000 ∷ 0x60800000 ∷ 0x60000000 ∷ 0x40030000 ∷ 0x30400000 ∷ 0xF9576F80 ∷ []
+    0x10410080 ∷ 0x70406000 ∷ 0x40420000 ∷ 0x30400000 ∷ 0x54183000 ∷ 0x60800000 ∷ 0x60000000 ∷ 0x60400000 ∷ 0x20400000 ∷ 0x3000C000
+    ∷ 0x70200000 ∷ 0x20010000 ∷ 0x54102000 ∷ 0x60C00000 ∷ 0x60400000 ∷ 0x20400000 ∷ 0x54103000 ∷ 0x60400000 ∷ 0x60000000 ∷ 0x60800000
+    ∷ 0x54102000 ∷ 0x60400000 ∷ 0x60C00000 ∷ 0x50183000 ∷ 0x60C00000 ∷ 0x60800000 ∷ 0x60000000 ∷ 0x40030000 ∷ 0x30400000 ∷ 0x70404000
+    ∷ 0xF8B6CF80 ∷ []
 
 -- the same entries in another order, the exclusion twice
 unfoldable pub shuffled : List ℕ
 shuffled =
-    0x10410080 ∷ 0x50183000 ∷ 0x60000000 ∷ 0x60C00000 ∷ 0x60800000 ∷ 0x20400000 ∷ 0x20010000 ∷ 0x54102000 ∷ 0x60C00000 ∷ 0x60400000
-    ∷ 0x54103000 ∷ 0x60800000 ∷ 0x60400000 ∷ 0x60000000 ∷ 0x40030000 ∷ 0x40420000 ∷ 0x30400000 ∷ 0x3000C000 ∷ 0x54102000 ∷ 0x60C00000
-    ∷ 0x60400000 ∷ 0x54183000 ∷ 0x60000000 ∷ 0x60400000 ∷ 0x60800000 ∷ 0xF9D76F80 ∷ []
+    0x10410080 ∷ 0x70404000 ∷ 0x50183000 ∷ 0x60000000 ∷ 0x60C00000 ∷ 0x60800000 ∷ 0x20400000 ∷ 0x20010000 ∷ 0x54102000 ∷ 0x60C00000
+    ∷ 0x60400000 ∷ 0x54103000 ∷ 0x60800000 ∷ 0x60400000 ∷ 0x60000000 ∷ 0x40030000 ∷ 0x40420000 ∷ 0x30400000 ∷ 0x3000C000 ∷ 0x54102000
+    ∷ 0x60C00000 ∷ 0x60400000 ∷ 0x54183000 ∷ 0x60000000 ∷ 0x60400000 ∷ 0x60800000 ∷ 0x70200000 ∷ 0x70406000 ∷ 0xF936CF80 ∷ []
 
 -- assignments by user, grants by role, seniors, then exclusions: one of kind 0, though its limit is 3; of kind 1 with limit 2 the members
--- 0, 1, 2 (set 7) before 1, 3 (set 10), though they are more; with limit 3 the set 7 again
+-- 0, 1, 2 (set 7) before 1, 3 (set 10), though they are more; with limit 3 the set 7 again; then the limits, 256 of role 0 and 2 of role 1
 unfoldable pub neat : List ℕ
 neat =
     0x10410080 ∷ 0x20010000 ∷ 0x20400000 ∷ 0x3000C000 ∷ 0x30400000 ∷ 0x40030000 ∷ 0x40420000 ∷ 0x50183000 ∷ 0x60000000 ∷ 0x60800000
     ∷ 0x60C00000 ∷ 0x54103000 ∷ 0x60000000 ∷ 0x60400000 ∷ 0x60800000 ∷ 0x54102000 ∷ 0x60400000 ∷ 0x60C00000 ∷ 0x54183000 ∷ 0x60000000
-    ∷ 0x60400000 ∷ 0x60800000 ∷ 0xFEE78F80 ∷ []
+    ∷ 0x60400000 ∷ 0x60800000 ∷ 0x70200000 ∷ 0x70404000 ∷ 0xFE874F80 ∷ []
 
 -- a buffer of n bytes before the call
 unfoldable pub sevens : ℕ → List ℕ
@@ -44,10 +45,10 @@ pub record TidyCases : Type 0 where
   pub jumbled-tidy : tidyOf (imageBytes jumbled) ≡ imageBytes neat
   pub shuffled-tidy : tidyOf (imageBytes shuffled) ≡ imageBytes neat
   pub neat-tidy : tidyOf (imageBytes neat) ≡ imageBytes neat
-  -- a buffer of the tidy image's 92 bytes, and one with three more
-  pub exact : tidyCall (imageBytes jumbled) (sevens 92) ≡ record { number = 0; extra = 23; out = imageBytes neat }
-  pub longer : tidyCall (imageBytes jumbled) (sevens 95) ≡ record { number = 0; extra = 23; out = imageBytes neat ++ sevens 3 }
+  -- a buffer of the tidy image's 100 bytes, and one with three more
+  pub exact : tidyCall (imageBytes jumbled) (sevens 100) ≡ record { number = 0; extra = 25; out = imageBytes neat }
+  pub longer : tidyCall (imageBytes jumbled) (sevens 103) ≡ record { number = 0; extra = 25; out = imageBytes neat ++ sevens 3 }
   -- one byte less is refused, after the image's own refusal
-  pub short : tidyCall (imageBytes jumbled) (sevens 91) ≡ refusing 19 0 91
+  pub short : tidyCall (imageBytes jumbled) (sevens 99) ≡ refusing 19 0 99
   pub bad : tidyCall (take 4 (imageBytes jumbled)) (sevens 0) ≡ refusing 1 0 0
   pub open-ended : tidyCall (imageBytes (take 3 jumbled)) (sevens 8) ≡ refusing 3 2 8

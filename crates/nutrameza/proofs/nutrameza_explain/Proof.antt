@@ -17,7 +17,7 @@ returns : tie.Need-returns
 returns c =
     let g = c .before .enum-told .given .1 in
     let k = c .before .before .before .read .ensures .0 in
-    let a = c .before .before .before .before .before .before .before .before .before .before .args in
+    let a = c .before .before .before .before .before .before .before .before .before .before .before .args in
     returned-judged SESSIONS (a .image .now) (a .ledger .now) (explainBy (a .user) (a .session) (a .permission)) _ _ _ (sym k ∙ g)
     (c .refusal-of .ensures ∙ ap checkNumber g)
 
@@ -32,11 +32,11 @@ returns-2 : tie.Need-returns-2
 returns-2 c =
     let g = c .before .before .before .before .before .before .c .given .1 in
     let k = c .before .before .before .before .before .before .before .before .read .ensures in
-    let a = c .before .before .before .before .before .before .before .before .before .before .before .before .before .before .before .args in
+    let a = c .before .before .before .before .before .before .before .before .before .before .before .before .before .before .before .before .args in
     let j = sym (k .0) ∙ g in
     let t = k .1 _ g in
     returned-accepted SESSIONS (a .image .now) (a .ledger .now) (explainBy (a .user) (a .session) (a .permission)) _ _ j
-    (c .explain-session .ensures (policyOf (a .image .now)) (known-of (a .image .now) _ _ _ _ _ _ j t) (t .granted-is) (t .below-is))
+    (c .explain-session .ensures (policyOf (a .image .now)) (known-of (a .image .now) _ _ _ _ _ _ _ j t) (t .granted-is) (t .below-is))
 
 pub nutrameza-explain-spec : {M : Type 1} → statement M
 nutrameza-explain-spec =

@@ -17,7 +17,7 @@ returns : tie.Need-returns
 returns c =
     let g = c .before .enum-told .given .1 in
     let k = c .before .before .before .read .ensures .0 in
-    let a = c .before .before .before .before .before .before .before .before .before .before .args in
+    let a = c .before .before .before .before .before .before .before .before .before .before .before .args in
     let e = gives-judged SESSIONS (a .image .now) (a .ledger .now) (openBy (a .user)) _ _ _ (sym k ∙ g) (c .refusal-of .ensures ∙ ap checkNumber g) in
     (e .number, e .bytes)
 
@@ -32,10 +32,10 @@ returns-2 c =
     let o = c .before .before in
     let g = o .before .before .before .before .before .c .given .1 in
     let k = o .before .before .before .before .before .before .before .read .ensures in
-    let a = o .before .before .before .before .before .before .before .before .before .before .before .before .before .before .args in
+    let a = o .before .before .before .before .before .before .before .before .before .before .before .before .before .before .before .args in
     let j = sym (k .0) ∙ g in
     let e = gives-accepted SESSIONS (a .image .now) (a .ledger .now) (openBy (a .user)) _ _ _ j
-    (o .open-session .ensures (policyOf (a .image .now)) (known-of (a .image .now) _ _ _ _ _ _ j (k .1 _ g))) in
+    (o .open-session .ensures (policyOf (a .image .now)) (known-of (a .image .now) _ _ _ _ _ _ _ j (k .1 _ g))) in
     (e .number, e .bytes)
 
 pub nutrameza-open-spec : {M : Type 1} → statement M

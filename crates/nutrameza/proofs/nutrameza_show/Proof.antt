@@ -18,7 +18,7 @@ returns : tie.Need-returns
 returns c =
     let g = c .before .enum-told .given .1 in
     let k = c .before .before .before .read .ensures .0 in
-    let a = c .before .before .before .before .before .before .before .before .before .before .before .args in
+    let a = c .before .before .before .before .before .before .before .before .before .before .before .before .args in
     let e = shows-judged SESSIONS (a .image .now) (a .ledger .now) (showBy (a .user) (a .session) (length (a .answer .now))) _ _ _ (a .answer .now)
     (sym k ∙ g) (c .refusal-of .ensures ∙ ap checkNumber g) in
     (e .number, e .buffer)
@@ -34,11 +34,11 @@ returns-2 c =
     let o = c .before .before in
     let g = o .before .before .before .before .before .before .before .c .given .1 in
     let k = o .before .before .before .before .before .before .before .before .before .read .ensures in
-    let a = o .before .before .before .before .before .before .before .before .before .before .before .before .before .before .before .before .before .args in
+    let a = o .before .before .before .before .before .before .before .before .before .before .before .before .before .before .before .before .before .before .args in
     let j = sym (k .0) ∙ g in
     let t = k .1 _ g in
     let e = shows-accepted SESSIONS (a .image .now) (a .ledger .now) (showBy (a .user) (a .session) (length (a .answer .now))) _ _ _ _ j
-    (o .show-session .ensures (policyOf (a .image .now)) (known-of (a .image .now) _ _ _ _ _ _ j t) (t .granted-is) (t .below-is)) in
+    (o .show-session .ensures (policyOf (a .image .now)) (known-of (a .image .now) _ _ _ _ _ _ _ j t) (t .granted-is) (t .below-is)) in
     (e .number, e .buffer)
 
 pub nutrameza-show-spec : {M : Type 1} → statement M

@@ -19,7 +19,7 @@ returns : tie.Need-returns
 returns c =
     let g = c .before .enum-told .given .1 in
     let k = c .before .before .before .read .ensures .0 in
-    let a = c .before .before .before .before .before .before .before .before .before .before .args in
+    let a = c .before .before .before .before .before .before .before .before .before .before .before .args in
     let e = table-refused (a .image .now) (a .table .now) _ _ _ (sym k ∙ g) (c .refusal-of .ensures ∙ ap checkNumber g) in
     (e .number, e .bytes)
 
@@ -33,7 +33,7 @@ returns-2 c =
     let o = c .before .before in
     let m = o .before .before .before .before .before in
     let k = m .before .before .read .ensures in
-    let a = m .before .before .before .before .before .before .before .before .before .args in
+    let a = m .before .before .before .before .before .before .before .before .before .before .args in
     let g = m .c .given .1 in
     let j = sym (k .0) ∙ g in
     let t = k .1 _ g in

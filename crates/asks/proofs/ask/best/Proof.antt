@@ -1,18 +1,18 @@
 -- `asks::ask::best` meets its contract: the reduced exclusions leave room exactly where every exclusion is met.
 -- Assumes nothing.
 use borrow.Author.Needs.{needs}
-use Rattle.model.specs.Policy.{meaning}
 use Rattle.rows.specs.Rows.{exclusionsIn}
+use Rattle.asks.specs.Asks.{leftTo}
 use Rattle.asks.proofs.Rows.{given-of}
 use Rattle.asks.proofs.ask.best.Statement.{statement}
 use Rattle.asks.proofs.ask.best.Tie as tie
 
 returns : tie.Need-returns
 unfolding exclusionsIn
-returns c p u g =
+returns c p u x g =
     let d = c .before .before .before .before .before .before .before .reduce .ensures in
     let a = c .before .before .before .before .before .before .before .before .args in
-    c .solve .ensures (meaning p u) (a .l) (a .k) (given-of p u (a .authorized) (exclusionsIn (a .xs .now) (a .count)) (a .l) (a .k) _ _ _ _ (d .0) (d .1) g)
+    c .solve .ensures (leftTo p u x (a .l) (a .k)) (a .l) (a .k) (given-of p u x (a .authorized) (exclusionsIn (a .xs .now) (a .count)) (a .l) (a .k) _ _ _ _ (d .0) (d .1) g)
 
 pub best-spec : {M : Type 1} → statement M
 best-spec = tie.close (tie.spec (λ c κs. search needs) (λ c κs. search needs) returns)

@@ -1,11 +1,11 @@
 -- `asks::request::ask_refusal` meets its contract: each return names the refusals that come first.
 -- Assumes nothing.
+use Rattle.model.specs.Run.{lineOf}
 use mathlib.Core.Path.{sym, ap, _∙_}
 use borrow.Author.Needs.{needs}
 use Rattle.model.specs.declared.Head.{Head}
 use Rattle.model.specs.declared.Line.{Line}
 use Rattle.model.specs.Line.{SESSIONS}
-use Rattle.calls.specs.Calls.{lineOf}
 use Rattle.rows.specs.Rows.{exclusionsIn}
 use Rattle.asks.specs.Asks.{sessionRefusal, queryRefusal, askRefusal}
 use Rattle.calls.proofs.FirstSteps.{room-for}

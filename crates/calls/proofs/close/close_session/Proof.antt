@@ -1,25 +1,25 @@
 -- `calls::close::close_session` meets its contract: each return names the tests that led there.
 -- Assumes nothing.
-use mathlib.Core.Path.{sym, ap, _∙_}
+use mathlib.Core.Path.{refl, sym, ap, _∙_}
 use borrow.Author.Needs.{needs}
 use borrow.Author.Tests.{not-true, not-false}
 use Rattle.model.specs.declared.Line.{Line}
 use Rattle.model.specs.Line.{SESSIONS, lineSize, isOpen, closing, writeLine}
-use Rattle.model.specs.Run.{closeBy, withLine}
+use Rattle.model.specs.Session.{isAsk}
+use Rattle.model.specs.Run.{closeBy, withLine, lineOf}
 use Rattle.rows.specs.Rows.{exclusionsIn}
-use Rattle.calls.specs.Calls.{lineOf}
-use Rattle.calls.proofs.FirstSteps.{gives-refusal, stopped, ready-for, room-for}
+use Rattle.calls.proofs.FirstSteps.{gives-refusal, untold, stopped, ready-for, room-for}
 use Rattle.calls.proofs.Closes.{close12, close13, close0}
 use Rattle.calls.proofs.close.close_session.Statement.{statement}
 use Rattle.calls.proofs.close.close_session.Tie as tie
 
 returns : tie.Need-returns
-unfolding closeBy
+unfolding closeBy isAsk
 returns c p h =
     let f = c .before in
     let a = f .before .before .before .args in
     gives-refusal _ _ _
-    (stopped SESSIONS p (a .ledger .now) (closeBy (a .window .user) (a .window .session)) (f .first-refusal .result) (f .first-refusal .ensures p h) (c .if1 .taken))
+    (stopped SESSIONS p (a .ledger .now) (closeBy (a .window .user) (a .window .session)) (untold SESSIONS p (a .ledger .now) (closeBy (a .window .user) (a .window .session)) refl) (f .first-refusal .result) (f .first-refusal .ensures p h) (c .if1 .taken))
 
 returns-2 : tie.Need-returns-2
 returns-2 c p h =

@@ -1,28 +1,28 @@
 -- `calls::explain::explain_session` meets its contract: each return names the tests that led there.
 -- Assumes nothing.
-use mathlib.Core.Path.{sym, ap, _∙_}
+use mathlib.Core.Path.{refl, sym, ap, _∙_}
 use borrow.Author.Needs.{needs}
 use borrow.Author.Tests.{not-true, not-false}
 use Rattle.model.specs.declared.Line.{Line}
 use Rattle.model.specs.Policy.{granter}
 use Rattle.model.specs.Line.{SESSIONS, emptySession, sessionAt, isOpen}
-use Rattle.model.specs.Session.{explanation}
-use Rattle.model.specs.Run.{explainBy}
+use Rattle.model.specs.Session.{isAsk, explanation}
+use Rattle.model.specs.Run.{explainBy, lineOf}
 use Rattle.rows.specs.Rows.{exclusionsIn}
 use Rattle.tables.specs.Told.{told}
-use Rattle.calls.specs.Calls.{lineOf}
-use Rattle.calls.proofs.FirstSteps.{stopped, ready-for, room-for}
+use Rattle.calls.proofs.FirstSteps.{untold, stopped, ready-for, room-for}
 use Rattle.calls.proofs.Explained.{returns-refusal, explain12, explain13, explain16, explain0, set-explains}
 use Rattle.calls.proofs.explain.explain_session.Statement.{statement}
 use Rattle.calls.proofs.explain.explain_session.Tie as tie
 
 returns : tie.Need-returns
-unfolding explainBy
+unfolding explainBy isAsk
 returns c p h eg ej =
     let f = c .before in
     let a = f .before .before .args in
     returns-refusal _ _ (a .ledger .now)
-    (stopped SESSIONS p (a .ledger .now) (explainBy (a .window .user) (a .window .session) (a .permission)) (f .first-refusal .result)
+    (stopped SESSIONS p (a .ledger .now) (explainBy (a .window .user) (a .window .session) (a .permission))
+    (untold SESSIONS p (a .ledger .now) (explainBy (a .window .user) (a .window .session) (a .permission)) refl) (f .first-refusal .result)
     (f .first-refusal .ensures p h) (c .if1 .taken))
 
 returns-2 : tie.Need-returns-2

@@ -8,8 +8,8 @@ use borrow.Author.Tests.{not-true, not-false}
 use Rattle.model.specs.declared.Head.{Head}
 use Rattle.model.specs.Policy.{meaning}
 use Rattle.model.specs.Line.{SESSIONS, lineSize, sound}
+use Rattle.model.specs.Run.{lineOf}
 use Rattle.rows.specs.Rows.{exclusionsIn}
-use Rattle.calls.specs.Calls.{lineOf}
 use Rattle.calls.proofs.FirstSteps.{first9, first10, first11, first0, held}
 use Rattle.calls.proofs.first.first_refusal.Statement.{statement}
 use Rattle.calls.proofs.first.first_refusal.Tie as tie

@@ -1,6 +1,6 @@
 -- `calls::open::open_session` meets its contract: each return names the tests that led there.
 -- Assumes nothing.
-use mathlib.Core.Path.{sym, ap, ap₂, _∙_}
+use mathlib.Core.Path.{refl, sym, ap, ap₂, _∙_}
 use Prim.Native.Nat.{ℕ, _*_}
 use native.Mathlib.Omega.{arith}
 use borrow.Author.Needs.{needs}
@@ -8,20 +8,21 @@ use Rattle.model.specs.declared.Line.{Line}
 use Rattle.model.specs.Sets.{count}
 use Rattle.model.specs.Policy.{meaning}
 use Rattle.model.specs.Line.{SESSIONS, lineSize, lowestClosed, opening, writeLine}
-use Rattle.model.specs.Run.{openBy, withLine}
+use Rattle.model.specs.Session.{isAsk}
+use Rattle.model.specs.Run.{openBy, withLine, lineOf}
 use Rattle.rows.specs.Rows.{exclusionsIn}
-use Rattle.calls.specs.Calls.{policyBy, lineOf}
-use Rattle.calls.proofs.FirstSteps.{gives-refusal, stopped, ready-for, ready-by, room-for}
+use Rattle.calls.specs.Calls.{policyBy}
+use Rattle.calls.proofs.FirstSteps.{gives-refusal, untold, stopped, ready-for, ready-by, room-for}
 use Rattle.calls.proofs.Opens.{open-bits, open14, may-open, open0}
 use Rattle.calls.proofs.open.open_session.Statement.{statement}
 use Rattle.calls.proofs.open.open_session.Tie as tie
 
 returns : tie.Need-returns
-unfolding openBy
+unfolding openBy isAsk
 returns c p h =
     let f = c .before in
     let a = f .before .before .before .args in
-    gives-refusal _ _ _ (stopped SESSIONS p (a .ledger .now) (openBy (a .user)) (f .first-refusal .result) (f .first-refusal .ensures p h) (c .if1 .taken))
+    gives-refusal _ _ _ (stopped SESSIONS p (a .ledger .now) (openBy (a .user)) (untold SESSIONS p (a .ledger .now) (openBy (a .user)) refl) (f .first-refusal .result) (f .first-refusal .ensures p h) (c .if1 .taken))
 
 line-of-requires : tie.Need-line-of-requires
 line-of-requires c κs =

@@ -1,6 +1,6 @@
 -- `calls::show::show_session` meets its contract: each return names the tests that led there.
 -- Assumes nothing.
-use mathlib.Core.Path.{sym, ap, ap₂, _∙_}
+use mathlib.Core.Path.{refl, sym, ap, ap₂, _∙_}
 use mathlib.Core.List.{_++_}
 use Prim.Native.Nat.{ℕ}
 use lib.ListN.{length}
@@ -11,21 +11,22 @@ use Rattle.model.specs.Bytes.{bytesOf}
 use Rattle.model.specs.Policy.{meaning}
 use Rattle.model.specs.Line.{SESSIONS, emptySession, sessionAt, isOpen}
 use Rattle.model.specs.Choice.{carriedBy}
-use Rattle.model.specs.Run.{showBy}
+use Rattle.model.specs.Session.{isAsk}
+use Rattle.model.specs.Run.{showBy, lineOf}
 use Rattle.rows.specs.Rows.{exclusionsIn}
-use Rattle.calls.specs.Calls.{lineOf}
-use Rattle.calls.proofs.FirstSteps.{shows-refusal, stopped, ready-for, room-for}
+use Rattle.calls.proofs.FirstSteps.{shows-refusal, untold, stopped, ready-for, room-for}
 use Rattle.calls.proofs.Shown.{show12, show13, show19, show0, set-carries}
 use Rattle.calls.proofs.show.show_session.Statement.{statement}
 use Rattle.calls.proofs.show.show_session.Tie as tie
 
 returns : tie.Need-returns
-unfolding showBy
+unfolding showBy isAsk
 returns c p h eg ej =
     let f = c .before in
     let a = f .before .before .before .args in
     shows-refusal _ _ (a .ledger .now) (a .answer .now)
-    (stopped SESSIONS p (a .ledger .now) (showBy (a .window .user) (a .window .session) (length (a .answer .now))) (f .first-refusal .result)
+    (stopped SESSIONS p (a .ledger .now) (showBy (a .window .user) (a .window .session) (length (a .answer .now)))
+    (untold SESSIONS p (a .ledger .now) (showBy (a .window .user) (a .window .session) (length (a .answer .now))) refl) (f .first-refusal .result)
     (f .first-refusal .ensures p h) (c .if1 .taken))
 
 returns-2 : tie.Need-returns-2

@@ -47,5 +47,9 @@ returns-7 : tie.Need-returns-7
 unfolding next Small Due
 returns-7 c = rw (c .enum-told5 .given .1)
 
+returns-8 : tie.Need-returns-8
+unfolding next Small Due
+returns-8 c = rw (c .enum-told6 .given .1)
+
 pub next-spec : {M : Type 1} → statement M
-next-spec = tie.close (tie.spec (λ c. search needs) add-t6 (λ c. search needs) (λ c. search needs) sub-t8 with-requires (λ c. search needs) (λ c. search needs) (λ c. search needs) (λ c. search needs) (λ c. search needs) returns returns-2 returns-3 returns-4 returns-5 returns-6 returns-7)
+next-spec = tie.close (tie.spec (λ c. search needs) add-t6 (λ c. search needs) (λ c. search needs) sub-t8 with-requires (λ c. search needs) (λ c. search needs) (λ c. search needs) (λ c. search needs) (λ c. search needs) (λ c. search needs) returns returns-2 returns-3 returns-4 returns-5 returns-6 returns-7 returns-8)

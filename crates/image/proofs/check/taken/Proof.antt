@@ -61,16 +61,23 @@ returns-6 c =
     (c .spared3 .ensures ∙ ap (sparing (k .before .args .w .spare)) (c .before .member-fault .ensures (k .before .args .assigned .now))) (λ z. refl) (λ z. refl)
 
 returns-7 : tie.Need-returns-7
-unfolding assigning ordering entryFault inRange repeats crowds pick
+unfolding assigning ordering
 returns-7 c =
-    let k = c .before .before .before .before in
-    took _ (c .before .enum-told .given .1) (sym (k .wrong-kind .ensures) ∙ c .before .before .before .if1 .left) (c .spared4 .ensures) (λ z. refl) (λ z. refl)
+    let k = c .before .before .before .before .before .before in
+    took _ (c .before .before .before .e6 .given .1) (sym (k .wrong-kind .ensures) ∙ c .before .before .before .before .before .if1 .left)
+    (c .spared4 .ensures ∙ ap (sparing (k .before .args .w .spare)) (c .before .limit-fault .ensures (k .before .args .assigned .now) (k .before .args .t))) (λ z. refl) (λ z. refl)
 
 returns-8 : tie.Need-returns-8
 unfolding assigning ordering entryFault inRange repeats crowds pick
 returns-8 c =
     let k = c .before .before .before .before in
-    took _ (c .before .enum-told2 .given .1) (sym (k .wrong-kind .ensures) ∙ c .before .before .before .if1 .left) (c .spared5 .ensures) (λ z. refl) (λ z. refl)
+    took _ (c .before .enum-told .given .1) (sym (k .wrong-kind .ensures) ∙ c .before .before .before .if1 .left) (c .spared5 .ensures) (λ z. refl) (λ z. refl)
+
+returns-9 : tie.Need-returns-9
+unfolding assigning ordering entryFault inRange repeats crowds pick
+returns-9 c =
+    let k = c .before .before .before .before in
+    took _ (c .before .enum-told2 .given .1) (sym (k .wrong-kind .ensures) ∙ c .before .before .before .if1 .left) (c .spared6 .ensures) (λ z. refl) (λ z. refl)
 
 pub taken-spec : {M : Type 1} → statement M
 taken-spec =
@@ -93,6 +100,9 @@ taken-spec =
     (λ c κs. search needs)
     (λ c. search needs)
     (λ c κs. search needs)
+    (λ c κs. search needs)
+    (λ c. search needs)
+    (λ c κs. search needs)
     (λ c. search needs)
     (λ c κs. search needs)
     returns-2
@@ -101,4 +111,5 @@ taken-spec =
     returns-5
     returns-6
     returns-7
-    returns-8)
+    returns-8
+    returns-9)

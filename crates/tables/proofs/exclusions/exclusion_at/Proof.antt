@@ -71,6 +71,15 @@ returns-7 c =
     ∙ exclusion-of (a .image .now) (a .words) (a .place) (d .before .word-at .result) (d .decode .result) _ (d .before .word-at .ensures) (d .decode .ensures .0)
     (c .before .enum-told6 .given .1)
 
+returns-8 : tie.Need-returns-8
+unfolding exclusionBy
+returns-8 c =
+    let d = c .before .before .before in
+    let a = d .before .before .before .args in
+    c .nothing7 .ensures
+    ∙ exclusion-of (a .image .now) (a .words) (a .place) (d .before .word-at .result) (d .decode .result) _ (d .before .word-at .ensures) (d .decode .ensures .0)
+    (c .before .enum-told7 .given .1)
+
 pub exclusion-at-spec : {M : Type 1} → statement M
 exclusion-at-spec =
     tie.close
@@ -94,10 +103,13 @@ exclusion-at-spec =
     (λ c κs. search needs)
     (λ c. search needs)
     (λ c κs. search needs)
+    (λ c. search needs)
+    (λ c κs. search needs)
     returns
     returns-2
     returns-3
     returns-4
     returns-5
     returns-6
-    returns-7)
+    returns-7
+    returns-8)

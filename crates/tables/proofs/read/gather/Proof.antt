@@ -27,14 +27,14 @@ returns-3 c = (
 
 returns-4 : tie.Need-returns-4
 returns-4 c =
-    let h = c .before .before .before .before .before in
+    let h = c .before .before .before .before .before .before in
     let w = h .before .before .before in
     let a = w .before .before .before .before .before in
     let s = a .args .image .now in
     let j = right-head s (w .before .before .before .if1 .left) (w .before .before .if2 .left) (w .before .if3 .left)
     (ap headRight (sym (w .word-at .ensures)) ∙ sym (h .before .before .head-right .ensures) ∙ h .before .if4 .taken) in (
       simp (h .head-of .ensures, w .word-at .ensures, a .pre .0 .assigned-none) at (c .read-words .ensures .0) ∙ sym j,
-      λ g e. tables-of s _ _ _ _ _ _ _ _ (a .pre .0) (c .read-words .ensures .1 g e),
+      λ g e. tables-of s _ _ _ _ _ _ _ _ _ _ (a .pre .0) (c .read-words .ensures .1 g e),
     )
 
 returns-5 : tie.Need-returns-5

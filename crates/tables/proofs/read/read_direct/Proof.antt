@@ -15,7 +15,7 @@ returns c =
     let g = c .before .before .before .before .before .gather .ensures in
     let j = c .judged .ensures in (
       read-judged _ _ (g .0) _ _ (λ h e. (g .1 h e .assigned-is, g .1 h e .juniors-is)) _ _ _ j,
-      direct-judged _ _ (g .0) _ _ (λ h e. (g .1 h e .assigned-is, g .1 h e .juniors-is)) _ _ _ j _ _ _ (g .1),
+      direct-judged _ _ (g .0) _ _ (λ h e. (g .1 h e .assigned-is, g .1 h e .juniors-is)) _ _ _ j _ _ _ _ (g .1),
     )
 
 pub read-direct-spec : {M : Type 1} → statement M

@@ -11,7 +11,7 @@ use Rattle.sets.specs.Words.{values}
 use Rattle.model.specs.declared.Scan.{Scan}
 use Rattle.model.specs.declared.Checked.the-variants.{Refused}
 use Rattle.model.specs.Image.{wordAt, assigning, scan, start}
-use Rattle.model.specs.Policy.{entriesFrom, fold, granting, ordering}
+use Rattle.model.specs.Policy.{entriesFrom, fold, granting, ordering, limiting}
 use Rattle.tables.specs.Tables.{exclusionAt}
 use Rattle.image.proofs.Turns.{due-of, stops, goes, sum-right, sum-wrong, fold-next}
 use Rattle.image.proofs.Judged.{never}
@@ -21,25 +21,26 @@ use Rattle.tables.proofs.read.read_words.Statement.{statement}
 use Rattle.tables.proofs.read.read_words.Tie as tie
 
 abbrev Inv-loop : tie.InvT-loop
-Inv-loop image words h first assigned₀ granted₀ juniors₀ xs places₀ t₀ sum₀ end place₀ assigned granted juniors places t sum place =
+Inv-loop image words h first assigned₀ granted₀ juniors₀ limits₀ xs places₀ t₀ sum₀ end place₀ assigned granted juniors limits places t sum place =
     (1 ≤ place) × (place ≤ words - 1) × (scan image h (words - place) place assigned t sum ≡ scan image h (words - 1) 1 assigned₀ start first)
     × (t .exclusions ≤ 32) × (length places ≡ 32) × ((j : ℕ) → getD places j 0 < words)
     × (fold assigning assigned (entriesFrom image (words - place) place) ≡ fold assigning assigned₀ (entriesFrom image (words - 1) 1))
     × (fold granting (values granted) (entriesFrom image (words - place) place) ≡ fold granting (values granted₀) (entriesFrom image (words - 1) 1))
     × (fold ordering juniors (entriesFrom image (words - place) place) ≡ fold ordering juniors₀ (entriesFrom image (words - 1) 1))
+    × (fold limiting limits (entriesFrom image (words - place) place) ≡ fold limiting limits₀ (entriesFrom image (words - 1) 1))
     × (take (t .exclusions) places ++ placesFrom image (words - place) place ≡ placesFrom image (words - 1) 1)
 
 abbrev μ-loop : tie.MeasureT-loop
-μ-loop image words h first assigned₀ granted₀ juniors₀ xs places₀ t₀ sum₀ end place₀ assigned granted juniors places t sum place = words - place
+μ-loop image words h first assigned₀ granted₀ juniors₀ limits₀ xs places₀ t₀ sum₀ end place₀ assigned granted juniors limits places t sum place = words - place
 
 loop-holds : tie.Need-loop-holds Inv-loop μ-loop
 unfolding start
-loop-holds c = (omega arith, omega arith, refl, omega arith, refl, none-noted 32 (c .before .args .words) (omega (arith, c .before .pre .1)), refl, refl, refl, refl)
+loop-holds c = (omega arith, omega arith, refl, omega arith, refl, none-noted 32 (c .before .args .words) (omega (arith, c .before .pre .1)), refl, refl, refl, refl, refl)
 
 returns : tie.Need-returns Inv-loop μ-loop
 returns c =
     let f = c .before .before in
-    let d = f .before .before .before .before .before in
+    let d = f .before .before .before .before .before .before in
     let w = d .before in
     let l = w .before .before in
     let a = l .before .before .args in (
@@ -55,14 +56,14 @@ returns c =
 next-requires : tie.Need-next-requires Inv-loop μ-loop
 next-requires c κs =
     let f = c .before in
-    let d = f .before .before .before .before .before in
+    let d = f .before .before .before .before .before .before in
     let l = d .before .before .before in
     (d .decode .ensures .1, due-of (l .before .before .args .h) (l .loop .assigned) (l .loop .t) _ (d .decode .result) (f .step .result) (f .step .ensures .faulty) (c .if1 .left))
 
 loop-again : tie.Need-loop-again Inv-loop μ-loop
 loop-again c =
     let f = c .before .before .before in
-    let d = f .before .before .before .before .before in
+    let d = f .before .before .before .before .before .before in
     let w = d .before in
     let l = w .before .before in
     let a = l .before .before .args in
@@ -92,9 +93,12 @@ loop-again c =
       fold-next ordering (a .image .now) (a .words) (l .loop .place) (l .loop .juniors) (w .word-at .result) (d .decode .result) _ lt (w .word-at .ensures)
           (d .decode .ensures .0) (f .step .ensures .juniors-is z)
           ∙ l .loop .inv .8,
+      fold-next limiting (a .image .now) (a .words) (l .loop .place) (l .loop .limits) (w .word-at .result) (d .decode .result) _ lt (w .word-at .ensures)
+          (d .decode .ensures .0) (f .step .ensures .limits-is z)
+          ∙ l .loop .inv .9,
       places-next (a .image .now) (a .words) (l .loop .place) (l .loop .t) (l .loop .places) (w .word-at .result) (d .decode .result) _ _ lt (l .loop .inv .4)
           (w .word-at .ensures) (d .decode .ensures .0) due (c .before .next .ensures) noted
-          ∙ l .loop .inv .9,
+          ∙ l .loop .inv .10,
     )
 
 -- where the loop ends is the place of the last word
@@ -147,7 +151,7 @@ exclusions-at-requires c κs =
     (a .pre .0, a .pre .2, l .loop .inv .3, l .loop .inv .4, l .loop .inv .5, a .pre .3)
 
 returns-4 : tie.Need-returns-4 Inv-loop μ-loop
-unfolding assigning granting ordering
+unfolding assigning granting ordering limiting
 returns-4 c =
     let x = c .exclusions-at in
     let u = c .before .before .before .before .before in
@@ -170,10 +174,11 @@ returns-4 c =
         assigned-is = fold-last s (a .words) (l .loop .place) _ _ p ew ed ee assigning (l .loop .assigned) refl ∙ l .loop .inv .6;
         granted-is = fold-last s (a .words) (l .loop .place) _ _ p ew ed ee granting (values (l .loop .granted)) refl ∙ l .loop .inv .7;
         juniors-is = fold-last s (a .words) (l .loop .place) _ _ p ew ed ee ordering (l .loop .juniors) refl ∙ l .loop .inv .8;
+        limits-is = fold-last s (a .words) (l .loop .place) _ _ p ew ed ee limiting (l .loop .limits) refl ∙ l .loop .inv .9;
         exclusions-are =
             x .ensures .0
             ∙ ap (map (exclusionAt s (a .words)))
-            (places-last s (a .words) (l .loop .place) _ _ p ew ed ee (a .h) (l .loop .assigned) (l .loop .t) (f .end-fault .result) ef z (l .loop .places) (l .loop .inv .4) ∙ l .loop .inv .9)
+            (places-last s (a .words) (l .loop .place) _ _ p ew ed ee (a .h) (l .loop .assigned) (l .loop .t) (f .end-fault .result) ef z (l .loop .places) (l .loop .inv .4) ∙ l .loop .inv .10)
             ∙ sym (exclusions-placed s (a .words) (a .words - 1) 1 (omega (arith, l .before .before .pre .1)));
         few = l .loop .inv .3;
         full = x .ensures .1;

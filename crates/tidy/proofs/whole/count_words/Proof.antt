@@ -8,10 +8,13 @@ use Rattle.tidy.proofs.whole.count_words.Tie as tie
 
 returns : tie.Need-returns
 returns c =
-    let j = c .before in
+    let x = c .before in
+    let j = x .before in
     let g = j .before in
-    let a = g .before in
-    (omega arith, words-count _ _ _ _ _ _ _ _ _ (a .count-table .ensures .1) (g .count-grants .ensures .1) (j .count-table2 .ensures .1) (c .count-exclusions .ensures .1))
+    let a = g .before in (
+      omega arith,
+      words-count _ _ _ _ _ _ _ _ _ _ _ (a .count-table .ensures .1) (g .count-grants .ensures .1) (j .count-table2 .ensures .1) (x .count-exclusions .ensures .1) (c .count-limits .ensures .1),
+    )
 
 pub count-words-spec : {M : Type 1} → statement M
-count-words-spec = tie.close (tie.spec (λ c. search needs) (λ c. search needs) (λ c κs. search needs) (λ c κs. search needs) (λ c κs. search needs) (λ c κs. search needs) (λ c. search needs) (λ c. search needs) (λ c. search needs) (λ c. search needs) returns)
+count-words-spec = tie.close (tie.spec (λ c. search needs) (λ c. search needs) (λ c κs. search needs) (λ c κs. search needs) (λ c κs. search needs) (λ c κs. search needs) (λ c κs. search needs) (λ c. search needs) (λ c. search needs) (λ c. search needs) (λ c. search needs) (λ c. search needs) returns)

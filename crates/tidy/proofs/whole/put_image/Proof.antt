@@ -6,14 +6,14 @@ use Rattle.tidy.proofs.whole.put_image.Statement.{statement}
 use Rattle.tidy.proofs.whole.put_image.Tie as tie
 
 put-word-requires : tie.Need-put-word-requires
-put-word-requires c κs = let a = c .before .before .before in room-head _ _ _ _ _ (a .args .out .now) (a .pre .3)
+put-word-requires c κs = let a = c .before .before .before in room-head _ _ _ _ _ _ (a .args .out .now) (a .pre .3)
 
 put-groups-requires : tie.Need-put-groups-requires
 put-groups-requires c κs =
     let p = c .before .before .before in
     let w = p .before in
     let a = w .before .before .before in
-    (a .pre .0, a .pre .1, a .pre .2, room-groups _ _ _ _ _ _ (a .pre .3) (w .head-word .ensures) (p .put-word .ensures))
+    (a .pre .0, a .pre .1, a .pre .2, room-groups _ _ _ _ _ _ _ (a .pre .3) (w .head-word .ensures) (p .put-word .ensures))
 
 put-word-requires-2 : tie.Need-put-word-requires-2
 put-word-requires-2 c κs =
@@ -21,7 +21,7 @@ put-word-requires-2 c κs =
     let p = g .before .before .before .before in
     let w = p .before in
     let a = w .before .before .before in
-    room-end _ _ _ _ _ _ (a .pre .3) (w .head-word .ensures) (p .put-word .ensures) (g .put-groups .ensures)
+    room-end _ _ _ _ _ _ _ (a .pre .3) (w .head-word .ensures) (p .put-word .ensures) (g .put-groups .ensures)
 
 returns : tie.Need-returns
 returns c =
@@ -31,7 +31,7 @@ returns c =
     let p = g .before .before .before .before in
     let w = p .before in
     let a = w .before .before .before in
-    image-put _ _ _ _ _ _ (a .pre .3) (w .head-word .ensures) (p .put-word .ensures) (g .put-groups .ensures) (e .end-word .ensures) (r .put-word2 .ensures)
+    image-put _ _ _ _ _ _ _ (a .pre .3) (w .head-word .ensures) (p .put-word .ensures) (g .put-groups .ensures) (e .end-word .ensures) (r .put-word2 .ensures)
 
 pub put-image-spec : {M : Type 1} → statement M
 put-image-spec = tie.close (tie.spec (λ c κs. search needs) put-word-requires put-groups-requires (λ c κs. search needs) put-word-requires-2 (λ c. search needs) returns)

@@ -9,7 +9,7 @@ returns : tie.Need-returns
 returns c =
     let w = c .before in
     let s = w .before .before in
-    writes-19 _ _ _ _ _ _ _ (s .sort .ensures .0) _ (w .count-words .ensures .1) _ (c .if1 .taken)
+    writes-19 _ _ _ _ _ _ _ _ (s .sort .ensures .0) _ (w .count-words .ensures .1) _ (c .if1 .taken)
 
 returns-2 : tie.Need-returns-2
 returns-2 c =
@@ -17,7 +17,7 @@ returns-2 c =
     let i = p .before .before .before in
     let w = i .before in
     let s = w .before .before in
-    writes-done _ _ _ _ _ _ _ (s .sort .ensures .0) _ (w .count-words .ensures .1) _ _ (i .if1 .left) (p .put-image .ensures)
+    writes-done _ _ _ _ _ _ _ _ (s .sort .ensures .0) _ (w .count-words .ensures .1) _ _ (i .if1 .left) (p .put-image .ensures)
 
 pub tidy-spec : {M : Type 1} → statement M
 tidy-spec = tie.close (tie.spec (λ c κs. search needs) (λ c κs. search needs) (λ c. search needs) returns (λ c κs. search needs) (λ c. search needs) (λ c. search needs) returns-2)

@@ -1,0 +1,6 @@
+-- The laws of limits on roles, and the theorems over them.
+pub mod LimitTable
+pub mod OneLine
+pub mod CardProof
+pub mod ElevenProof
+pub mod Theorems

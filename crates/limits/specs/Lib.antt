@@ -1,0 +1,3 @@
+-- What is claimed of the limits on roles: they are kept, and what 11 says under them.
+pub mod Card
+pub mod Eleven

@@ -1,0 +1,29 @@
+-- `others::held::without` meets its contract: session k is emptied, or none is.
+-- Assumes nothing.
+use mathlib.Core.Path.{_≡_, sym, ap, _∙_}
+use mathlib.Core.Bool.{Bool}
+use native.Mathlib.Omega.{arith}
+use lib.ListN.{length}
+use borrow.Author.Needs.{needs}
+use Rattle.model.specs.Tests.{pick}
+use Rattle.model.specs.Line.{SESSIONS, holding, others}
+use Rattle.others.proofs.Holding.{holding-emptied}
+use Rattle.others.proofs.held.without.Statement.{statement}
+use Rattle.others.proofs.held.without.Tie as tie
+
+returns : tie.Need-returns
+unfolding pick
+returns c r =
+    let a = c .before .args in
+    let n : length (a .sessions) ≡ SESSIONS = search needs in
+    holding-emptied r (a .sessions) (a .k) (omega arith)
+    ∙ ap (λ (b : Bool). pick b (holding r (others (a .k) (a .sessions))) (holding r (a .sessions))) (sym (c .if1 .taken))
+
+returns-2 : tie.Need-returns-2
+unfolding pick
+returns-2 c r =
+    let a = c .before .args in
+    ap (λ (b : Bool). pick b (holding r (others (a .k) (a .sessions))) (holding r (a .sessions))) (sym (c .if1 .left))
+
+pub without-spec : {M : Type 1} → statement M
+without-spec = tie.close (tie.spec (λ c. search needs) (λ c. search needs) returns returns-2)

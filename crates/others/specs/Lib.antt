@@ -1,0 +1,3 @@
+-- What the functions here count, and what they tell an ask.
+pub mod Counted
+pub mod Lines

@@ -1,0 +1,77 @@
+// Whether every line is sound, as an ask under a policy with limits goes by.
+ghost use mathlib.Core.Path.{_≡_};
+ghost use Prim.Native.Nat.{_*_, _≤_, _<_};
+ghost use lib.ListN.{length};
+ghost use Rattle.model.specs.Policy.{Policy};
+ghost use Rattle.model.specs.Line.{SESSIONS, lineSize};
+ghost use Rattle.rows.specs.Rows.{exclusionsIn};
+ghost use Rattle.calls.specs.Calls.{Known};
+ghost use Rattle.others.specs.Lines.{blamed as blamedFor, linesRefusal, othersRefusal};
+use crate::left::has_limits;
+use calls::first::roles_of;
+use calls::given::Rules;
+use ledger::bytes::LINE;
+use ledger::bytes::line_of;
+use ledger::sound::sound;
+
+// 11 for the line of user v; the extra is that user plus 1, where it is not the asker.
+fn blamed(user: u64, v: usize) -> u64
+    requires { ⌜ v < 64 ⌝ }
+    ensures { λ r. ⌜ r ≡ blamedFor user v ⌝ }
+{
+    if v as u64 == user {
+        return 11;
+    }
+    11 + 256 * (v as u64 + 1)
+}
+
+// The refusal for the lowest line that is not sound, else 0.
+fn lines_refusal(
+    ledger: &[u8],
+    rules: Rules,
+    authorized: &[u64; 64],
+    xs: &[[u64; 2]; 32],
+    user: u64,
+) -> u64
+    requires { ⌜ (rules .head .users ≤ 64) × (rules .count ≤ 32) × (length (now xs) ≡ 32) × (length (now ledger) ≡ lineSize SESSIONS * rules .head .users) ⌝ }
+    ensures { λ r. ⌜ ((p : Policy) → Known (rules .head) (now (authorized .entry)) (exclusionsIn (now (xs .entry)) (rules .count)) p
+        → r ≡ linesRefusal SESSIONS p (now (ledger .entry)) user 0 (rules .head .users)) ⌝ }
+{
+    let head = rules.head;
+    let users = head.users as usize;
+    for v in 0..users {
+        let l = line_of(ledger, v);
+        let own = roles_of(authorized, v);
+        if !sound(l, head.roles, own, xs, rules.count) {
+            return blamed(user, v);
+        }
+    }
+    0
+}
+
+// What a line that is not sound refuses an ask with, where some role has a limit; 0 where none has, and where 9 or 10 refuses the ask.
+pub fn refusal(
+    ledger: &[u8],
+    rules: Rules,
+    authorized: &[u64; 64],
+    limits: &[u64; 64],
+    xs: &[[u64; 2]; 32],
+    user: u64,
+) -> u64
+    requires { ⌜ (rules .head .users ≤ 64) × (rules .count ≤ 32) × (length (now xs) ≡ 32) × (length (now limits) ≡ 64) ⌝ }
+    ensures { λ r. ⌜ ((p : Policy) → Known (rules .head) (now (authorized .entry)) (exclusionsIn (now (xs .entry)) (rules .count)) p
+        → p .limits ≡ now (limits .entry) → r ≡ othersRefusal SESSIONS p (now (ledger .entry)) user) ⌝ }
+{
+    if !has_limits(limits) {
+        return 0;
+    }
+    let head = rules.head;
+    let users = head.users as usize;
+    if ledger.len() != LINE * users {
+        return 0;
+    }
+    if users as u64 <= user {
+        return 0;
+    }
+    lines_refusal(ledger, rules, authorized, xs, user)
+}
