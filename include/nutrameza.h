@@ -25,6 +25,7 @@ extern "C" {
 #define NUTRAMEZA_MAX_IMAGE_BYTES 16384
 #define NUTRAMEZA_MAX_EXCLUSIONS 32
 #define NUTRAMEZA_MAX_USER_ROLES 16
+#define NUTRAMEZA_MAX_LIMIT 256
 
 /* Sessions of a user (01: windows), numbered from 0. */
 #define NUTRAMEZA_SESSIONS 8
@@ -55,13 +56,15 @@ enum nutrameza_number {
     NUTRAMEZA_HEAD = 2,        /* image: first word not a head, a number outside its range, spare bits */
     NUTRAMEZA_KIND = 3,        /* image: a word of a kind that may not stand there */
     NUTRAMEZA_SPARE = 4,       /* image: spare bits set */
-    NUTRAMEZA_RANGE = 5,       /* image: a number not below U, R or P; an exclusion's m above R, n below 2 or above m */
+    NUTRAMEZA_RANGE = 5,       /* image: a number not below U, R or P; an exclusion's m above R, n below 2 or above m; a
+                                * limit's t below 2 or above 256 */
     NUTRAMEZA_REPEAT = 6,      /* image: a member already in this exclusion; senior equal to junior */
     NUTRAMEZA_CROWD = 7,       /* image: a 17th different role for a user; a 33rd exclusion */
     NUTRAMEZA_BALANCE = 8,     /* image: low 28 bits of the sum not zero */
     NUTRAMEZA_LEDGER = 9,      /* ledger: byte count not 144 times U; to be widened: not 80 times U */
     NUTRAMEZA_PERSON = 10,     /* user not below U */
-    NUTRAMEZA_LINE = 11,       /* this user's line not sound; of a move: a user's line not sound */
+    NUTRAMEZA_LINE = 11,       /* this user's line not sound; of a move, and of an ask or clause text under a policy with
+                                * limits: a user's line not sound */
     NUTRAMEZA_SESSION = 12,    /* session above 7 */
     NUTRAMEZA_CLOSED = 13,     /* session not open */
     NUTRAMEZA_FULL = 14,       /* all eight sessions open */
@@ -91,7 +94,8 @@ enum nutrameza_exclusion_kind {
 
 /* A call returns its number plus 256 times its extra: the place of the refused word for 1 to 8 (the head is
  * place 0), the lowest role on a loop for 22, the lowest user who may activate more than 16 roles for 23, the user for
- * 24 and for 11 of a move, the session that a done open took, the length of the chain that a done loop call gave, 64
+ * 24 and for 11 of a move, for 11 of an ask or clause text 1 more than the lowest user whose line is not sound where
+ * that is not the asker, the session that a done open took, the length of the chain that a done loop call gave, 64
  * times a role plus its granting role of a done explain, the number of words that a done tidy wrote, the length of a
  * clause text, else 0. */
 static inline unsigned nutrameza_number_of(uint64_t returned) { return (unsigned)(returned % 256); }
@@ -105,6 +109,12 @@ static inline unsigned nutrameza_explained_role(uint64_t returned)
 static inline unsigned nutrameza_granting_role(uint64_t returned)
 {
     return (unsigned)(nutrameza_extra_of(returned) % NUTRAMEZA_MAX_ROLES);
+}
+
+/* Whose line an ask or a clause text by a user was refused for by 11: the user's own, or another's. */
+static inline uint64_t nutrameza_unsound_user(uint64_t returned, uint64_t user)
+{
+    return nutrameza_extra_of(returned) == 0 ? user : nutrameza_extra_of(returned) - 1;
 }
 
 /* The register's word for an answer number; "unknown" for one that no call gives. */
@@ -200,6 +210,15 @@ static inline uint32_t nutrameza_member_word(uint32_t role)
     return UINT32_C(6) << 28 | role << 22;
 }
 
+/* Fewer than t sessions, over all users, may hold the role (001: CARD); of several for a role the smallest t counts. The
+ * check accepts a t of 2 to 256. */
+static inline uint32_t nutrameza_limit_word(uint32_t role, uint32_t t)
+{
+    if (role > 63 || t > 511)
+        return 0;
+    return UINT32_C(7) << 28 | role << 22 | t << 13;
+}
+
 /* The end: it balances the words before it. */
 static inline uint32_t nutrameza_end_word(const uint32_t *words, size_t count)
 {
@@ -233,10 +252,11 @@ uint64_t nutrameza_check(const uint8_t *image, size_t image_len);
 uint64_t nutrameza_loop(const uint8_t *image, size_t image_len, uint8_t *chain, size_t chain_len);
 
 /* Tidy writes the tidy image, the one that all images of the same meaning share: head, assignments, grants, seniors,
- * exclusions, each group ascending by its fields, nothing repeated; exclusions by kind, n, then the number of the
- * member set (role r counts 2 to the power r), members ascending; the end word that balances them. It stands in front of
- * the buffer, no byte behind it changes, and the extra is the number of its words: never more than the image has, so that
- * a buffer of image_len bytes is enough. Refusals 1 to 8, 22, 23, and 19 if the buffer is smaller than the tidy image. */
+ * exclusions, limits, each group ascending by its fields, nothing repeated; exclusions by kind, n, then the number of the
+ * member set (role r counts 2 to the power r), members ascending; of a role's limits the smallest; the end word that
+ * balances them. It stands in front of the buffer, no byte behind it changes, and the extra is the number of its words:
+ * never more than the image has, so that a buffer of image_len bytes is enough. Refusals 1 to 8, 22, 23, and 19 if the
+ * buffer is smaller than the tidy image. */
 uint64_t nutrameza_tidy(const uint8_t *image, size_t image_len, uint8_t *out, size_t out_len);
 
 /* Table fills 2,048 bytes with the closed grant table, who carries what after seniority: 32 bytes for each of 64 roles,
@@ -276,7 +296,10 @@ uint64_t nutrameza_close(const uint8_t *image, size_t image_len, uint8_t *ledger
 
 /* Ask replaces the session's active roles by the best set that carries all of the lower bound and nothing outside
  * the upper, and fills the answer: 8 bytes of roles, 32 of what they carry. Permission p is bit p mod 8 of byte
- * p div 8. Refusals 1 to 8, 22, 23, 9 to 13 and 15 to 20. */
+ * p div 8. Refusals 1 to 8, 22, 23, 9 to 13 and 15 to 20.
+ *
+ * Under a policy with limits it looks at all lines, and so does a clause text: a role is barred where t - 1 or more
+ * sessions other than this one hold it, over all users, and 11 refuses the call if any line is not sound. */
 uint64_t nutrameza_ask(const uint8_t *image, size_t image_len, uint8_t *ledger, size_t ledger_len, uint64_t user,
                        uint64_t session, const uint8_t *lower, size_t lower_len, const uint8_t *upper, size_t upper_len,
                        uint64_t permission_aim, uint64_t role_aim, uint8_t *answer, size_t answer_len);
@@ -311,9 +334,10 @@ uint64_t nutrameza_narrow(const uint8_t *image, size_t image_len, const uint8_t 
                           uint8_t *new_ledger, size_t new_ledger_len);
 
 /* Clauses writes an ask as weighted clauses for a PMaxSAT program, in the classic DIMACS form with a 'p wcnf' line, into
- * the first bytes of a buffer: the extra is how many. docs/CLAUSES.md has the rule for the text. The numbers and bounds are
- * those of ask. It changes no ledger byte and no byte of the buffer behind the text. Refusals 1 to 8, 22, 23, 9 to 13, 15 to
- * 18, and 19 if the text is longer than the buffer; never 20, since an ask without an admissible role set has a text too. */
+ * the first bytes of a buffer: the extra is how many. docs/CLAUSES.md has the rule for the text, in which a barred role
+ * is none of the user's. The numbers and bounds are those of ask. It changes no ledger byte and no byte of the buffer
+ * behind the text. Refusals 1 to 8, 22, 23, 9 to 13, 15 to 18, and 19 if the text is longer than the buffer; never 20,
+ * since an ask without an admissible role set has a text too. */
 uint64_t nutrameza_clauses(const uint8_t *image, size_t image_len, const uint8_t *ledger, size_t ledger_len,
                            uint64_t user, uint64_t session, const uint8_t *lower, size_t lower_len, const uint8_t *upper,
                            size_t upper_len, uint64_t permission_aim, uint64_t role_aim, uint8_t *out, size_t out_len);

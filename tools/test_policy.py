@@ -77,7 +77,7 @@ def random_policy(dice):
     counts = [dice.choice([1, 2, 64]), dice.choice([1, 2, 5, 64]), dice.choice([1, 3, 256])]
     entries, roles_of, exclusions, rank = [], {}, 0, dice.sample(range(64), 64)
     for _ in range(dice.choice([0, 1, 40])):
-        kind = dice.randrange(2, 6)
+        kind = dice.choice([2, 3, 4, 5, 7])
         user, role, other, permission = (dice.randrange(counts[k]) for k in (0, 1, 1, 2))
         if kind == policy.ASSIGNMENT and len(roles_of.setdefault(user, set()) | {role}) <= 16:
             roles_of[user].add(role)
@@ -90,6 +90,8 @@ def random_policy(dice):
             members = dice.sample(range(counts[1]), dice.randrange(2, counts[1] + 1))
             entries.append((kind, dice.randrange(4), dice.randrange(2, len(members) + 1), members))
             exclusions += 1
+        elif kind == policy.LIMIT:
+            entries.append((kind, role, dice.choice([2, 3, dice.randrange(2, 257), 256])))
     return policy.Policy(counts, entries)
 
 
@@ -113,6 +115,9 @@ class Building(unittest.TestCase):
     def test_the_four_kinds_have_the_numbers_0_to_3(self):
         for number, kind in enumerate(["ss-dmer", "ms-dmer", "ss-hmer", "ms-hmer"]):
             self.assertEqual(words_of(START + f"exclude {kind} 2 Clerk Nurse")[0] >> 26 & 3, number)
+
+    def test_a_limit_carries_the_role_and_t(self):
+        self.assertEqual(words_of(START + "limit Clerk 2\nlimit Doctor 256\nlimit Clerk 017"), [0x70804000, 0x70200000, 0x70822000])
 
     def test_a_repeated_line_is_written_again(self):
         self.assertEqual(len(words_of(START + "assign ANNA Doctor\nassign ANNA Doctor")), 2)
@@ -199,6 +204,21 @@ class Errors(unittest.TestCase):
         self.is_told("exclude ss-dmer 2 Doctor Nurse\nexclude ss-dmer 1 Nurse Clerk\nexclude ss-dmer 2 Nurse Clerk",
                      "t:5: n is 1, which bars its roles from everyone (did you mean 2?)")
 
+    def test_refuses_a_limit_outside_2_to_256_and_one_without_a_number(self):
+        for t in ["0", "257", "512", "999"]:
+            self.refuses(f"limit Doctor {t}", "it is 2 to 256")
+        for t in ["+2", "-2", "2.0", "two", "0x2", "1000", "²", "Nurse"]:
+            self.refuses(f"limit Doctor {t}", "a number from 2 to 256")
+        for t in ["1", "01"]:
+            self.refuses(f"limit Doctor {t}", "t is 1, which bars the role from everyone", "(did you mean 2?)")
+
+    def test_refuses_a_limit_of_another_form(self):
+        for line in ["limit", "limit Doctor"]:
+            self.refuses(line, "too few words: limit ROLE T")
+        self.refuses("limit Doctor Nurse 2", "too many words: limit ROLE T")
+        self.refuses("limit Doctr 2", "unknown role Doctr (did you mean Doctor?)")
+        self.refuses("limit Read 2", "unknown role Read (there is a permission of that name)")
+
     def test_refuses_an_exclusion_of_one_role(self):
         for n in ["0", "2", "3"]:
             self.refuses(f"exclude ss-dmer {n} Doctor", "1 member; an exclusion has at least 2")
@@ -258,7 +278,7 @@ class Checking(unittest.TestCase):
             self.assertIsNone(refusal_of(image(policy.encode(1, *counts))))
 
     def test_refuses_unknown_kinds_by_3(self):
-        for kind in [0, 1, *range(7, 15)]:
+        for kind in [0, 1, *range(8, 15)]:
             self.refuses((3, 1), kind << 28)
 
     def test_refuses_members_out_of_place_by_3(self):
@@ -293,6 +313,21 @@ class Checking(unittest.TestCase):
             number = 4 if spare else 5 if n < 2 or n > m else 7 if before == 32 else None
             told = number and (number, 1 + 3 * before)
             self.assertEqual(refusal_of(image(self.HEAD, *self.EXCLUSION * before, *exclusion)), told, (n, m, spare, before))
+
+    def test_accepts_a_limit_from_2_to_256_of_a_role_that_is_there_and_refuses_others_by_5_after_spare_bits(self):
+        for role, t in itertools.product([0, 2, 3, 63], [0, 1, 2, 3, 255, 256, 257, 511]):
+            told = None if role < 3 and 2 <= t <= 256 else (5, 1)
+            self.assertEqual(refusal_of(image(self.HEAD, policy.encode(7, role, t))), told, (role, t))
+            for spare in (1, 1 << 12):
+                self.assertEqual(refusal_of(image(self.HEAD, policy.encode(7, role, t) | spare)), (4, 1), (role, t))
+
+    def test_refuses_a_limit_where_a_member_is_due_and_as_the_last_word_by_3(self):
+        limit = policy.encode(7, 0, 2)
+        for place in (1, 2):
+            words = [*self.EXCLUSION[:place], limit, *self.EXCLUSION[place:]]
+            self.assertEqual(refusal_of(image(self.HEAD, *words)), (3, 1 + place))
+        self.assertEqual(refusal_of(policy.to_bytes([self.HEAD, limit])), (3, 1))
+        self.assertIsNone(refusal_of(image(self.HEAD, limit, *self.EXCLUSION, limit, limit)))
 
     def test_an_image_of_one_role_has_no_exclusion(self):
         for n, m in itertools.product(range(3), range(3)):
@@ -371,10 +406,10 @@ class Checking(unittest.TestCase):
         self.assertEqual(refusal_of(image(*words, policy.encode(4, 15, 63))), (23, 0))
 
     def test_the_earliest_bad_word_decides_then_the_lower_number(self):
-        self.refuses((5, 1), 0x20030000, 0x70000000)
+        self.refuses((5, 1), 0x20030000, 0x80000000)
         self.refuses((4, 1), 0x20030001)
         self.refuses((3, 2), self.EXCLUSION[0], 0x20030001)
-        self.assertEqual(refusal_of(policy.to_bytes([self.HEAD, 0x70000000, 0xF0000001])), (3, 1))
+        self.assertEqual(refusal_of(policy.to_bytes([self.HEAD, 0x80000000, 0xF0000001])), (3, 1))
 
 
 class Listing(unittest.TestCase):
@@ -398,6 +433,13 @@ class Listing(unittest.TestCase):
             words = random_policy(random.Random(seed)).words()
             self.assertIsNone(refusal_of(policy.to_bytes(words)), f"seed {seed}")
             self.assertEqual(self.again(words), words, f"seed {seed}")
+
+    def test_limits_of_one_role_stand_in_lines_of_their_own(self):
+        words = policy.to_words(image(*A[:12], 0x70006000, 0x70004000, 0x70004000))
+        said = policy.read(words)
+        text = policy.listing(said, policy.plain_names(said.counts))
+        self.assertTrue(text.endswith("\nlimit role0 3\nlimit role0 2\nlimit role0 2\n"), text)
+        self.assertEqual(self.again(words), words)
 
     def test_long_entries_are_broken_and_keep_their_order(self):
         words = policy.to_words(image(policy.encode(1, 1, 1, 256), *(policy.encode(3, 0, 255 - p) for p in range(256))))
@@ -437,6 +479,11 @@ class Tidying(unittest.TestCase):
         exclusion = [0x50102000, 0x60000000, 0x60400000]
         words = [*exclusion, 0x40420000, 0x40010000, 0x30804000, 0x30408000, 0x30404000, 0x20420000, 0x20400000, 0x20020000]
         self.assertEqual(self.tidy(*words), [*words[:2:-1], *exclusion])
+
+    def test_limits_stand_behind_the_exclusions_by_role_each_once_with_its_smallest_t(self):
+        exclusion = [0x50102000, 0x60000000, 0x60400000]
+        self.assertEqual(self.tidy(0x70804000, 0x70008000, 0x70806000, *exclusion, 0x70200000, 0x70806000, 0x30000000),
+                         [0x30000000, *exclusion, 0x70008000, 0x70804000])
 
     def test_nothing_is_repeated(self):
         words = [0x20000000, 0x30000000, 0x40010000, 0x50102000, 0x60000000, 0x60400000]
@@ -587,6 +634,14 @@ class Commands(unittest.TestCase):
         told = ("- assign ANNA Data_Manager\n+ senior Doctor Data_Manager\n- exclude ms-dmer 2 Doctor Data_Manager\n"
                 "+ exclude ms-hmer 2 Doctor Data_Manager\n")
         self.assertEqual(self.run_tool("same", first, second, WARD), (1, told, ""))
+
+    def test_same_counts_the_smallest_limit_of_each_role(self):
+        first = self.path("a", image(*A[:12], 0x70006000, 0x70400000 | 9 << 13, 0x70008000))
+        second = self.path("b", image(A[0], 0x70400000 | 9 << 13, *A[1:12], 0x70006000))
+        self.assertEqual(self.run_tool("same", first, second), (0, "the same\n", ""))
+        third = self.path("c", image(*A[:12], 0x70006000, 0x70004000))
+        told = "+ limit Doctor 2\n- limit Doctor 3\n- limit Data_Manager 9\n"
+        self.assertEqual(self.run_tool("same", first, third, WARD), (1, told, ""))
 
     def test_same_tells_heads_that_differ(self):
         first, second = self.path("a", policy.to_bytes(A)), self.path("b", image(policy.encode(1, 1, 3, 5), *A[1:12], 0x20020000))

@@ -1,6 +1,6 @@
 //! The check on the largest image; open, close, show and explain on a small and on the largest one; check, open, explain, ask and
-//! short ask over a deep hierarchy; open, show and ask of a user with one role over fifteen; the loop call; both moves; the tidy call;
-//! the grant table, turned and turned back.
+//! short ask over a deep hierarchy; open, show and ask of a user with one role over fifteen; asks with and without limits among 64
+//! users; the loop call; both moves; the tidy call; the grant table, turned and turned back.
 
 use crate::{plain, timing};
 use nutrameza_tests::gen::{policy, Rng};
@@ -411,5 +411,50 @@ pub fn moves() {
             let name = if way == Move::Widen { "widen" } else { "narrow" };
             timing::row(&format!("{name}, {size}"), &mut kit, &mut plain);
         }
+    }
+}
+
+/// The image with its last entries before the end replaced by limits of the roles from 0 on, so many, which bar none.
+#[cfg(feature = "asks")]
+fn limited(image: &[u8], limits: u32) -> Vec<u8> {
+    let mut list = words::from_bytes(image);
+    let end = list.len() - 1;
+    for role in 0..limits {
+        list[end - 1 - role as usize] = words::limit(role, 256);
+    }
+    words::rebalance(&mut list);
+    words::bytes(&list)
+}
+
+/// Times asks of the last of 64 users who all have two sessions with active roles, without limits and with them.
+#[cfg(feature = "asks")]
+pub fn limits() {
+    let mut few = words::from_bytes(&over_fifteen());
+    let end = few.len() - 1;
+    // repeats, which say nothing, for the limits to stand in their place
+    few.splice(end..end, vec![words::grant(0, 1); 16]);
+    words::rebalance(&mut few);
+    let (few, large) = (words::bytes(&few), largest(true));
+    let images = [
+        ("64 users, 161 words", few.clone()),
+        ("64 users, 161 words, 16 limits", limited(&few, 16)),
+        ("64 users, 4,096 words", large.clone()),
+        ("64 users, 4,096 words, 64 limits", limited(&large, 64)),
+    ];
+    for (size, image) in images {
+        let ledger = ledger(&image, 64, LINE);
+        let line = std::array::from_fn(|place| ledger[63 * LINE + place]);
+        let desk = || Desk { image: image.clone(), ledger: ledger.clone(), line, user: 63, answer: [0; 40] };
+        let (mut first, mut second) = (desk(), desk());
+        let (by_kit, by_plain) = (first.do_by(Call::Ask, true), second.do_by(Call::Ask, false));
+        assert_eq!((by_kit, &first.ledger, first.answer), (by_plain, &second.ledger, second.answer), "{size}");
+        assert!([0, 20].contains(&by_kit), "{size}: {by_kit}");
+        let mut kit = || {
+            black_box(first.do_by(Call::Ask, true));
+        };
+        let mut plain = || {
+            black_box(second.do_by(Call::Ask, false));
+        };
+        timing::row(&format!("ask, {size}"), &mut kit, &mut plain);
     }
 }

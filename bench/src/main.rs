@@ -31,6 +31,8 @@ fn main() {
     #[cfg(feature = "calls")]
     jobs::moves();
     #[cfg(feature = "asks")]
+    jobs::limits();
+    #[cfg(feature = "asks")]
     families::asks();
     #[cfg(feature = "asks")]
     texts::texts();

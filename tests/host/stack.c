@@ -1,6 +1,6 @@
 /* Long and deep asks, their clause texts, the longest moves and the calls over the image alone, on a thread whose stack is 64 KiB: users
-   of 16 roles, 64 roles in 16 chains of seniors, 256 permissions, 32 exclusions; asks and their texts in every window under each pair of
-   aims, and the ledger of all 64 users carried back and over. Prints 'done' if every call is answered as it should be. */
+   of 16 roles, 64 roles in 16 chains of seniors, 256 permissions, 32 exclusions, a limit for each role; asks and their texts in every window
+   under each pair of aims, and the ledger of all 64 users carried back and over. Prints 'done' if every call is answered as it should be. */
 #define _POSIX_C_SOURCE 200809L
 #include <pthread.h>
 #include <stdio.h>
@@ -40,6 +40,9 @@ static void make_image(void) {
         for (uint32_t role = 0; role < 64; role++) {
             words[n++] = nutrameza_member_word(role);
         }
+    }
+    for (uint32_t role = 0; role < 64; role++) {
+        words[n++] = nutrameza_limit_word(role, NUTRAMEZA_MAX_LIMIT);
     }
     words[n] = nutrameza_end_word(words, n);
     n++;

@@ -38,6 +38,11 @@ static void test_words(void) {
     same("exclusion, m", nutrameza_exclusion_word(NUTRAMEZA_SS_HMER, 1, 128), 0);
     same("member", nutrameza_member_word(63), 0x6FC00000u);
     same("member, role", nutrameza_member_word(64), 0);
+    same("limit", nutrameza_limit_word(1, 2), 0x70404000u);
+    same("limit, largest", nutrameza_limit_word(63, NUTRAMEZA_MAX_LIMIT), 0x7FE00000u);
+    same("limit, fields full", nutrameza_limit_word(63, 511), 0x7FFFE000u);
+    same("limit, role", nutrameza_limit_word(64, 2), 0);
+    same("limit, t", nutrameza_limit_word(0, 512), 0);
     same("end of nothing", nutrameza_end_word(NULL, 0), 0xF0000000u);
 }
 
@@ -61,6 +66,9 @@ static void test_returned_values(void) {
     same("word of 25", (uint64_t)strcmp(nutrameza_word_of(25), "unknown"), 0);
     same("number of a move's refusal", nutrameza_number_of(24u + 256u * 63u), NUTRAMEZA_UPPER_SESSIONS);
     same("user of a move's refusal", nutrameza_extra_of(24u + 256u * 63u), 63);
+    same("unsound line of the asker", nutrameza_unsound_user(11u, 5), 5);
+    same("unsound line of the first user", nutrameza_unsound_user(11u + 256u, 5), 0);
+    same("unsound line of the last user", nutrameza_unsound_user(11u + 256u * 64u, 5), 63);
 }
 
 /* A line is 16 bytes and 16 for each session. */

@@ -1,6 +1,8 @@
-//! The ward examples of 01: image A and its variants, 003's three roles, a few more, and bounds as one hex number.
+//! The ward examples of 01: image A and its variants, 003's three roles, a few more, image A for two users with limits, and bounds as
+//! one hex number.
 
 use crate::solver::calls::{Call, Reply};
+use crate::solver::line::LINE;
 use crate::words;
 
 /// Image A of 01, from 000's running example, word for word.
@@ -19,6 +21,14 @@ pub fn image_a_with(kind: u32, limit: u32) -> Vec<u8> {
     image[9] = words::exclusion_head(kind, limit, 2);
     words::rebalance(&mut image);
     words::bytes(&image)
+}
+
+/// Image A for two users who both have both roles, with limits: each a role and its t.
+pub fn image_limited(limits: &[(u32, u32)]) -> Vec<u8> {
+    let mut image = vec![words::head(2, 2, 5), words::assignment(1, 0), words::assignment(1, 1)];
+    image.extend(&A[1..12]);
+    image.extend(limits.iter().map(|(role, limit)| words::limit(*role, *limit)));
+    words::bytes(&words::closed(image))
 }
 
 /// 003's three roles, carrying {0,2}, {1,3} and {1,2}, no exclusion.
@@ -166,4 +176,163 @@ pub fn cases() -> Vec<Case> {
         cases.push(case(name, image, calls, expected));
     }
     cases
+}
+
+/// An example of two users: calls on a ledger and what they answer, under image A for two with limits.
+pub struct LimitCase {
+    pub name: &'static str,
+    pub image: Vec<u8>,
+    pub ledger: Vec<u8>,
+    pub calls: Vec<Call>,
+    pub expected: Vec<Seen>,
+}
+
+/// Roles of image A.
+const DOCTOR: u32 = 0;
+const DATA_MANAGER: u32 = 1;
+
+/// The second user's call of the same arguments.
+fn of_second(call: Call) -> Call {
+    match call {
+        Call::Open { .. } => Call::Open { user: 1 },
+        Call::Ask { session, lower, upper, objectives, room, .. } => {
+            Call::Ask { user: 1, session, lower, upper, objectives, room }
+        }
+        call => panic!("{call:?} is no open and no ask"),
+    }
+}
+
+fn doctor(session: u64) -> Call {
+    ask(session, 0x3, 0x1f, (1, 1))
+}
+
+fn manager(session: u64) -> Call {
+    ask(session, 0x12, 0x1f, (1, 1))
+}
+
+/// The clause text of an ask, in a buffer of this length.
+fn text(session: u64, room: usize) -> Call {
+    Call::Clauses { user: 0, session, lower: bound(0x2), upper: bound(0xf), objectives: (1, 1), room }
+}
+
+/// A line in which Doctor is active in the first sessions, so many of them.
+pub fn doctors_in(sessions: usize) -> Vec<u8> {
+    let mut line = vec![0; LINE];
+    (line[0], line[8]) = (((1u32 << sessions) - 1) as u8, 1);
+    for session in 0..sessions {
+        (line[16 + 16 * session], line[24 + 16 * session]) = (1, 1);
+    }
+    line
+}
+
+/// What 02 says of limits, worked out by hand.
+pub fn limit_cases() -> Vec<LimitCase> {
+    let (opened, none) = ((0, 0, 0, 0), (20, 0, 0, 0));
+    let (prescribes, manages) = ((0, 0, 1, 0xf), (0, 0, 2, 0x12));
+    let (zero, damaged) = (vec![0; LINE], vec![0xff; LINE]);
+    let refused = |extra| (11, extra, 0, 0);
+    let case = |name, limits: &[(u32, u32)], lines: [&Vec<u8>; 2], calls: Vec<Call>, expected: Vec<Seen>| LimitCase {
+        name,
+        image: image_limited(limits),
+        ledger: lines.map(|line| line.clone()).concat(),
+        calls,
+        expected,
+    };
+    let both_ask = || vec![open(), doctor(0), of_second(open()), of_second(doctor(0))];
+    vec![
+        case(
+            "the second of two users is refused a role with t 2 until the first closes, and given a set without it",
+            &[(DOCTOR, 2)],
+            [&zero, &zero],
+            [both_ask(), vec![of_second(manager(0)), close(0), of_second(doctor(0))]].concat(),
+            vec![opened, prescribes, opened, none, manages, opened, prescribes],
+        ),
+        case(
+            "the user's own other sessions count and the replaced roles do not",
+            &[(DOCTOR, 2)],
+            [&zero, &zero],
+            vec![open(), doctor(0), doctor(0), open(), doctor(1)],
+            vec![opened, prescribes, prescribes, (0, 1, 0, 0), none],
+        ),
+        case(
+            "t of 3 lets two sessions hold the role, and each role has its own limit",
+            &[(DOCTOR, 3), (DATA_MANAGER, 2)],
+            [&zero, &zero],
+            vec![open(), doctor(0), open(), doctor(1), of_second(open()), of_second(doctor(0)), of_second(manager(0))],
+            vec![opened, prescribes, (0, 1, 0, 0), prescribes, opened, none, manages],
+        ),
+        case(
+            "of several limits the smallest counts, the smaller one first",
+            &[(DOCTOR, 2), (DOCTOR, 3)],
+            [&zero, &zero],
+            both_ask(),
+            vec![opened, prescribes, opened, none],
+        ),
+        case(
+            "of several limits the smallest counts, the smaller one last",
+            &[(DOCTOR, 3), (DOCTOR, 2)],
+            [&zero, &zero],
+            both_ask(),
+            vec![opened, prescribes, opened, none],
+        ),
+        case(
+            "a history does not count",
+            &[(DOCTOR, 2)],
+            [&zero, &zero],
+            vec![open(), doctor(0), ask(0, 0x10, 0x1f, (1, 1)), of_second(open()), of_second(doctor(0))],
+            vec![opened, prescribes, manages, opened, prescribes],
+        ),
+        case(
+            "a damaged line of a higher user is named to asks and clause texts, before 12, and no other call looks at it",
+            &[(DOCTOR, 2)],
+            [&zero, &damaged],
+            vec![
+                open(),
+                short(0, 0x3, 0x1f),
+                ask(8, 0, 0, (3, 3)),
+                text(0, 0),
+                show(0),
+                explain(0, 4),
+                close(0),
+                of_second(open()),
+                of_second(doctor(0)),
+            ],
+            vec![opened, refused(2), refused(2), refused(2), opened, none, opened, refused(0), refused(0)],
+        ),
+        case(
+            "of a lower user, and the user's own",
+            &[(DOCTOR, 2)],
+            [&damaged, &zero],
+            vec![of_second(open()), of_second(doctor(0)), doctor(0)],
+            vec![opened, refused(1), refused(0)],
+        ),
+        case(
+            "of two damaged lines the lower one is told",
+            &[(DATA_MANAGER, 256)],
+            [&damaged, &damaged],
+            vec![of_second(doctor(0)), doctor(0), of_second(open()), text(0, 0)],
+            vec![refused(1), refused(0), refused(0), refused(0)],
+        ),
+        case(
+            "a clause text bars the role too, by one line more than fits",
+            &[(DATA_MANAGER, 2)],
+            [&zero, &zero],
+            vec![of_second(open()), of_second(manager(0)), open(), text(0, 258)],
+            vec![opened, manages, opened, (19, 0, 0, 0)],
+        ),
+        case(
+            "a line over a limit is sound, asks for other roles go on, and the limit holds again from below it",
+            &[(DOCTOR, 2)],
+            [&doctors_in(2), &zero],
+            vec![show(0), doctor(0), of_second(open()), of_second(doctor(0)), of_second(manager(0)), close(1), doctor(0)],
+            vec![prescribes, none, opened, none, manages, opened, prescribes],
+        ),
+        case(
+            "without a limit nobody looks at another line",
+            &[],
+            [&zero, &damaged],
+            vec![open(), doctor(0), short(0, 0x12, 0x1f), of_second(doctor(0))],
+            vec![opened, prescribes, manages, refused(0)],
+        ),
+    ]
 }

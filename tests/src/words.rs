@@ -35,6 +35,11 @@ pub fn exclusion(kind: u32, limit: u32, members: &[u32]) -> Vec<u32> {
     words
 }
 
+/// A limit (001: CARD): fewer than `limit` (02: t) sessions, over all users, may hold the role.
+pub fn limit(role: u32, limit: u32) -> u32 {
+    (7 << 28) + (role << 22) + (limit << 13)
+}
+
 /// The end word that balances these words.
 pub fn end(words: &[u32]) -> u32 {
     let sum = words.iter().fold(0u32, |sum, word| sum.wrapping_add(*word));

@@ -75,7 +75,7 @@ fn refuses_every_head_outside_its_ranges() {
 
 #[test]
 fn refuses_kinds_that_may_not_stand_after_the_head() {
-    for kind in [0u32, 1, 6, 7, 8, 9, 10, 11, 12, 13, 14, 15] {
+    for kind in [0u32, 1, 6, 8, 9, 10, 11, 12, 13, 14, 15] {
         assert_eq!(answer(a_with(&[kind << 28])), (3, 12), "kind {kind}");
     }
 }
@@ -91,8 +91,8 @@ fn refuses_a_missing_member_and_a_missing_end() {
 
 #[test]
 fn refuses_each_spare_bit() {
-    let mut list = a_with(&[words::senior(0, 1)]);
-    for (place, bits) in [(1, 16), (3, 14), (9, 12), (10, 22), (12, 16)] {
+    let mut list = a_with(&[words::senior(0, 1), words::limit(1, 2)]);
+    for (place, bits) in [(1, 16), (3, 14), (9, 12), (10, 22), (12, 16), (13, 13)] {
         for bit in 0..bits {
             list[place] ^= 1 << bit;
             assert_eq!(answer(list.clone()), (4, place as u64));
@@ -114,6 +114,8 @@ fn refuses_numbers_at_or_above_the_heads() {
         words::exclusion_head(0, 2, 3),
         words::exclusion_head(0, 0, 2),
         words::exclusion_head(0, 2, 1),
+        words::limit(2, 2),
+        words::limit(63, 256),
     ];
     for word in wrong {
         assert_eq!(answer(a_with(&[word])), (5, 12), "{word:08X}");
@@ -151,6 +153,46 @@ fn refuses_a_limit_of_one_as_one_of_none_after_spare_bits_and_before_a_thirty_th
             }
         }
     }
+}
+
+#[test]
+fn accepts_a_roles_limit_from_2_to_256_and_no_other() {
+    for (role, limit) in (0..3).flat_map(|role| (0..512).map(move |limit| (role, limit))) {
+        let passes = role < 2 && (2..=256).contains(&limit);
+        assert_eq!(answer(a_with(&[words::limit(role, limit)])), if passes { (0, 0) } else { (5, 12) }, "{role} below {limit}");
+    }
+}
+
+#[test]
+fn a_limit_may_stand_in_every_place_but_the_first_the_last_and_those_of_members() {
+    for place in 0..=ward::A.len() {
+        let mut list = ward::A.to_vec();
+        list.insert(place, words::limit(1, 2));
+        let expected = match place {
+            0 => (2, 0),
+            10..=11 | 13 => (3, if place == 13 { 12 } else { place as u64 }),
+            _ => (0, 0),
+        };
+        assert_eq!(answer(list), expected, "place {place}");
+    }
+}
+
+#[test]
+fn a_limit_as_the_last_word_or_where_a_member_is_due_is_refused_before_its_spare_bits_and_those_before_its_numbers() {
+    let last = |word| answer([&ward::A[..12], &[word]].concat());
+    let due = |word| answer([&ward::A[..10], &[word], &ward::A[10..]].concat());
+    for word in [words::limit(1, 2), words::limit(2, 1) + 1] {
+        assert_eq!((last(word), due(word)), ((3, 12), (3, 10)));
+    }
+    for word in [words::limit(2, 2), words::limit(0, 1), words::limit(63, 511)] {
+        assert_eq!((answer(a_with(&[word])), answer(a_with(&[word + (1 << 12)]))), ((5, 12), (4, 12)));
+    }
+}
+
+#[test]
+fn limits_repeat_without_end_and_count_towards_the_words_alone() {
+    assert_eq!(answer(large_with((0..4094).map(|n| words::limit(n % 64, 2 + n % 255)))), (0, 0));
+    assert_eq!(answer(large_with((0..4095).map(|n| words::limit(n % 64, 2)))), (1, 0));
 }
 
 #[test]

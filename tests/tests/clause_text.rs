@@ -9,7 +9,7 @@ use nutrameza_tests::solver::choice::Request;
 use nutrameza_tests::solver::clauses::clauses;
 use nutrameza_tests::solver::image::judge;
 use nutrameza_tests::solver::line::{Line, LINE};
-use nutrameza_tests::solver::policy::{Kind, Policy};
+use nutrameza_tests::solver::policy::{Kind, Policy, Roles};
 use nutrameza_tests::solver::wcnf::read;
 use nutrameza_tests::{ward, words};
 
@@ -23,7 +23,7 @@ fn listed() -> Vec<&'static str> {
 fn text(image: &[u8], line: &Line, lower: u64, upper: u64, objectives: (u64, u64)) -> String {
     let policy = judge(image).expect("the image is accepted");
     let (lower, upper) = (read_permissions(&ward::bound(lower)), read_permissions(&ward::bound(upper)));
-    let request = Request { policy: &policy, user: 0, line, session: 0, lower, upper, objectives };
+    let request = Request { policy: &policy, user: 0, line, session: 0, barred: Roles::new(), lower, upper, objectives };
     String::from_utf8(clauses(&request).text()).expect("the text is ASCII")
 }
 
@@ -152,8 +152,9 @@ fn says_what_is_admissible_and_what_is_best() {
         if (0..256).any(|permission| (permission >= policy.permissions || !upper[permission]) && lower[permission]) {
             return;
         }
-        let objectives = (rng.below(3), rng.below(3));
-        let request = Request { policy: &policy, user, line: &line, session, lower, upper, objectives };
+        let (objectives, barring) = ((rng.below(3), rng.below(3)), rng.one_in(3));
+        let barred: Roles = (0..policy.roles).filter(|_| barring && rng.one_in(3)).collect();
+        let request = Request { policy: &policy, user, line: &line, session, barred, lower, upper, objectives };
         let written = clauses(&request);
         for (exclusion, count) in policy.exclusions.iter().zip(&written.of_exclusions) {
             assert!(*count <= 2 * exclusion.members.len() * exclusion.limit);
@@ -166,7 +167,8 @@ fn says_what_is_admissible_and_what_is_best() {
         }
         let meant = meant(&written.text(), &request).unwrap_or_else(|text| panic!("{text}: {request:?} under {image:02x?}"));
         tally.see(if meant.admissible > 0 { "some set" } else { "no set" });
+        tally.see(if barring { "barred roles" } else { "no barred roles" });
         tally.see(&format!("aims {} {}", objectives.0, objectives.1));
     });
-    tally.expect(500, &["some set", "no set", "kind 0", "kind 1", "kind 2", "kind 3"]);
+    tally.expect(500, &["some set", "no set", "kind 0", "kind 1", "kind 2", "kind 3", "barred roles", "no barred roles"]);
 }

@@ -5,7 +5,7 @@ use nutrameza_tests::compare::{play, say, spread, step, Played, Run};
 use nutrameza_tests::gen::{call, damage, ledger, policy, Rng};
 use nutrameza_tests::kit::{self, Empty};
 use nutrameza_tests::meaning::meant;
-use nutrameza_tests::solver::calls::{self, read_permissions, Call};
+use nutrameza_tests::solver::calls::{self, barred, read_permissions, Call};
 use nutrameza_tests::solver::choice::Request;
 use nutrameza_tests::solver::clauses::clauses;
 use nutrameza_tests::solver::image::judge;
@@ -253,10 +253,11 @@ fn a_repeated_exclusion_is_counted_again_and_in_the_order_of_the_image() {
 }
 
 /// The request that a clause text answers, of a call that passes the tests.
-fn request<'a>(policy: &'a Policy, line: &'a Line, call: &Call) -> Request<'a> {
+fn request<'a>(policy: &'a Policy, ledger: &[u8], line: &'a Line, call: &Call) -> Request<'a> {
     let Call::Clauses { user, session, lower, upper, objectives, .. } = call else { panic!("{call:?} is no clause text") };
     let (lower, upper) = (read_permissions(lower), read_permissions(upper));
-    Request { policy, user: *user as usize, line, session: *session as usize, lower, upper, objectives: *objectives }
+    let (user, session, barred) = (*user as usize, *session as usize, barred(policy, LINE, ledger, call));
+    Request { policy, user, line, session, barred, lower, upper, objectives: *objectives }
 }
 
 /// The line of the user that a call names.
@@ -271,6 +272,7 @@ fn says_what_is_admissible_and_what_is_best() {
             0 => policy::policy(rng, policy::TINY),
             1 => policy::policy(rng, policy::Size { roles_of_a_user: 6, exclusions: 4, ..policy::MIDDLE }),
             2 => policy::overlapping(rng),
+            3 => policy::limited(rng),
             _ => policy::policy(rng, policy::SMALL),
         };
         let image = words::bytes(&draft.words());
@@ -280,7 +282,7 @@ fn says_what_is_admissible_and_what_is_best() {
             let call = call::clauses(rng, &policy, &ledger);
             let Some(text) = text_of(&image, &ledger, &call) else { continue };
             let line = line_of(&ledger, &call);
-            let request = request(&policy, &line, &call);
+            let request = request(&policy, &ledger, &line, &call);
             let meant =
                 meant(&text, &request).unwrap_or_else(|text| panic!("{text}: {call:?} under {image:02x?} on {ledger:02x?}"));
             tally.see("texts");
@@ -359,7 +361,7 @@ fn writes_the_texts_of_policies_of_every_size() {
             _ => "100,000 bytes and more",
         });
         let line = line_of(&ledger, &call);
-        for (exclusion, count) in policy.exclusions.iter().zip(clauses(&request(policy, &line, &call)).of_exclusions) {
+        for (exclusion, count) in policy.exclusions.iter().zip(clauses(&request(policy, &ledger, &line, &call)).of_exclusions) {
             assert!(count <= 4 * exclusion.members.len() * exclusion.limit);
         }
         for room in [length - 1, length, length + rng.place(100)] {
@@ -527,7 +529,7 @@ fn clasp_finds_the_same_least_weight_where_it_is_installed() {
         let call = call::clauses(rng, &policy, &ledger);
         let Some(text) = text_of(&image, &ledger, &call) else { return };
         let line = line_of(&ledger, &call);
-        let meant = meant(&text, &request(&policy, &line, &call)).expect("the text says what it is to say");
+        let meant = meant(&text, &request(&policy, &ledger, &line, &call)).expect("the text says what it is to say");
         assert_eq!(clasp(&text), Some(meant.least));
         tally.see(if meant.least.is_some() { "some set" } else { "no set" });
     });

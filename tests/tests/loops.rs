@@ -130,7 +130,7 @@ fn refused_with_a_loop() -> Vec<(u64, Vec<u8>)> {
     words::rebalance(&mut head);
     cases.push((2, words::bytes(&head)));
     for at in [1, looped.len() - 1] {
-        cases.push((3, with(at, &[7 << 28])));
+        cases.push((3, with(at, &[8 << 28])));
         cases.push((4, with(at, &[words::senior(0, 1) + 1])));
         cases.push((5, with(at, &[words::senior(0, 20)])));
         cases.push((6, with(at, &[words::senior(5, 5)])));

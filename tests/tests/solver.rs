@@ -1,11 +1,12 @@
-//! The separate solver by itself: the ward examples of 01, loops and moves worked out by hand, so that what the kit is held against is
-//! held against the paper.
+//! The separate solver by itself: the ward examples of 01, loops, moves and limits worked out by hand, so that what the kit is held
+//! against is held against the papers.
 
 use nutrameza_tests::solver::calls::{play, Call, Reply};
 use nutrameza_tests::solver::image::{judge, Refused};
 use nutrameza_tests::solver::line::LINE;
 use nutrameza_tests::solver::loops::find;
 use nutrameza_tests::solver::moves::{carry, Carried, Move};
+use nutrameza_tests::solver::tidy::write;
 use nutrameza_tests::ward::{self, Case};
 use nutrameza_tests::words;
 
@@ -179,6 +180,71 @@ fn a_move_tells_the_lowest_user_in_the_way() {
     assert_eq!(told([&sound, &unsound, &upper]), (11, 1));
     assert_eq!(told([&sound, &upper, &unsound]), (24, 1));
     assert_eq!(told([&sound, &sound, &upper]), (24, 2));
+}
+
+#[test]
+fn answers_every_example_of_limits_as_the_change_request_says() {
+    for case in ward::limit_cases() {
+        let (judged, mut ledger) = (judge(&case.image), case.ledger.clone());
+        let seen: Vec<_> = case.calls.iter().map(|call| ward::seen(&play(&judged, &mut ledger, call))).collect();
+        assert_eq!(seen, case.expected, "{}", case.name);
+    }
+}
+
+/// The judgement of image A with a word put in at a place.
+fn with_limit(place: usize, word: u32) -> Option<Refused> {
+    let mut list = ward::A.to_vec();
+    list.insert(place, word);
+    words::rebalance(&mut list);
+    judge(&words::bytes(&list)).err()
+}
+
+#[test]
+fn refuses_a_limit_by_3_4_and_5_in_this_order() {
+    let refused = |number, extra| Some(Refused { number, extra });
+    for (role, limit) in [(0, 2), (1, 256), (1, 17)] {
+        assert_eq!(with_limit(3, words::limit(role, limit)), None);
+    }
+    for (role, limit) in [(0, 0), (0, 1), (0, 257), (0, 511), (2, 2), (63, 256)] {
+        assert_eq!(with_limit(3, words::limit(role, limit)), refused(5, 3));
+        assert_eq!(with_limit(3, words::limit(role, limit) + 1), refused(4, 3));
+        assert_eq!(with_limit(3, words::limit(role, limit) + (1 << 12)), refused(4, 3));
+        assert_eq!(with_limit(10, words::limit(role, limit) + 1), refused(3, 10));
+    }
+    assert_eq!((with_limit(9, words::limit(0, 2)), with_limit(12, words::limit(0, 2))), (None, None));
+    assert_eq!(with_limit(11, words::limit(0, 2)), refused(3, 11));
+    let mut last = ward::A.to_vec();
+    last[12] = words::limit(0, 2);
+    words::rebalance(&mut last);
+    assert_eq!(judge(&words::bytes(&last)).err(), refused(3, 12));
+}
+
+#[test]
+fn a_role_has_the_smallest_of_its_limits_and_the_tidy_image_has_that_one_behind_the_exclusions() {
+    let image = |limits| ward::image_limited(limits);
+    let policy = judge(&image(&[(1, 9), (0, 256), (1, 3), (1, 4)])).expect("it is accepted");
+    assert_eq!(policy.limits.into_iter().collect::<Vec<_>>(), [(0, 256), (1, 3)]);
+    let tidy = write(&image(&[(1, 9), (0, 256), (1, 3), (1, 4)]), 100);
+    assert_eq!((tidy.number, tidy.extra, &tidy.image), (0, 17, &write(&image(&[(0, 256), (1, 3)]), 100).image));
+    let list = words::from_bytes(&tidy.image.expect("it is written"));
+    assert_eq!(list[11..16], [0x54102000, 0x60000000, 0x60400000, words::limit(0, 256), words::limit(1, 3)]);
+}
+
+#[test]
+fn the_clause_text_bars_a_role_by_the_clause_of_a_role_that_is_not_the_users() {
+    let (judged, mut ledger) = (judge(&ward::image_limited(&[(1, 2)])), [vec![0; LINE], ward::doctors_in(0)].concat());
+    let manager = |user| Call::ShortAsk { user, session: 0, lower: ward::bound(0x12), upper: ward::bound(0x1f), room: 40 };
+    let text =
+        Call::Clauses { user: 0, session: 0, lower: ward::bound(0x2), upper: ward::bound(0xf), objectives: (1, 1), room: 1000 };
+    let mut text_after = |calls: &[Call]| {
+        calls.iter().for_each(|call| assert_eq!(play(&judged, &mut ledger, call).number, 0));
+        String::from_utf8(play(&judged, &mut ledger, &text).answer.expect("there is a text")).expect("it is ASCII")
+    };
+    let free = text_after(&[Call::Open { user: 0 }, Call::Open { user: 1 }]);
+    let own = text_after(&[manager(0)]);
+    let barred = text_after(&[Call::Close { user: 0, session: 0 }, Call::Open { user: 0 }, manager(1)]);
+    assert_eq!(free, own);
+    assert_eq!(barred, free.replace("p wcnf 11 26 18\n", "p wcnf 11 27 18\n18 -2 0\n"));
 }
 
 #[test]

@@ -98,7 +98,7 @@ fn a_head_and_an_end_are_tidy() {
 }
 
 #[test]
-fn writes_assignments_then_grants_then_seniors_then_exclusions_each_ascending() {
+fn writes_assignments_then_grants_then_seniors_then_exclusions_then_limits_each_ascending() {
     let ordered = [
         vec![words::assignment(0, 9)],
         vec![words::assignment(1, 2)],
@@ -115,6 +115,9 @@ fn writes_assignments_then_grants_then_seniors_then_exclusions_each_ascending() 
         vec![words::senior(63, 1)],
         words::exclusion(1, 2, &[4, 7]),
         words::exclusion(3, 2, &[0, 1]),
+        vec![words::limit(0, 256)],
+        vec![words::limit(5, 3)],
+        vec![words::limit(63, 2)],
     ];
     let image = words::bytes(&with(&ordered).words());
     assert_eq!(tidied(&image), image);
@@ -146,8 +149,29 @@ fn keeps_each_repeated_exclusion_once_up_to_thirty_two() {
 
 #[test]
 fn repeats_of_every_sort_of_entry_go() {
-    let list = [vec![words::assignment(3, 4)], vec![words::grant(4, 200)], vec![words::senior(4, 3)], exclusions().remove(1)];
+    let list = [
+        vec![words::assignment(3, 4)],
+        vec![words::grant(4, 200)],
+        vec![words::senior(4, 3)],
+        exclusions().remove(1),
+        vec![words::limit(4, 9)],
+    ];
     assert_eq!(entries(&tidy_of(&with(&vec![list.clone(); 20].concat()))), list);
+}
+
+#[test]
+fn keeps_of_several_limits_of_a_role_the_smallest() {
+    let limits = |limits: &[(u32, u32)]| limits.iter().map(|(role, limit)| vec![words::limit(*role, *limit)]).collect::<Vec<_>>();
+    let smallest = limits(&[(0, 4), (7, 2), (63, 256)]);
+    for list in [
+        &[(7, 2), (0, 4), (63, 256), (7, 256), (0, 255)],
+        &[(63, 256), (63, 256), (7, 3), (7, 2), (0, 4)],
+        &[(0, 256), (7, 3), (0, 5), (0, 4), (7, 2)],
+    ] {
+        let mut list = limits(list);
+        list.push(vec![words::limit(63, 256)]);
+        assert_eq!(entries(&tidy_of(&with(&list))), smallest);
+    }
 }
 
 #[test]
@@ -212,10 +236,11 @@ fn refused() -> Vec<(u64, Vec<u8>)> {
         (1, ward::image_a()[..51].to_vec()),
         (1, Vec::new()),
         (2, words::bytes(&head)),
-        (3, a_with(&[7 << 28])),
+        (3, a_with(&[8 << 28])),
         (4, a_with(&[words::senior(0, 1) + 1])),
         (5, a_with(&[words::senior(0, 2)])),
         (5, ward::image_a_with(1, 1)),
+        (5, a_with(&[words::limit(0, 1)])),
         (6, a_with(&[words::senior(1, 1)])),
         (7, ward::roles_of_one_user(17)),
         (8, words::bytes(&unbalanced)),
@@ -281,16 +306,17 @@ fn shuffled_repeated_and_doubled_entries_give_one_tidy_image_and_tidying_it_chan
     tally.expect(100, &["without repeats"]);
 }
 
-/// Two policies say the same: head and sets of assignments, grants, senior pairs and exclusions.
+/// Two policies say the same: head, sets of assignments, grants, senior pairs and exclusions, and each role's smallest limit.
 fn same(one: &Policy, other: &Policy) -> bool {
     let head = |policy: &Policy| (policy.users, policy.roles, policy.permissions);
     let exclusions = |policy: &Policy| policy.exclusions.iter().cloned().collect::<BTreeSet<Exclusion>>();
     head(one) == head(other)
         && (&one.assigned, &one.granted, &one.juniors) == (&other.assigned, &other.granted, &other.juniors)
         && exclusions(one) == exclusions(other)
+        && one.limits == other.limits
 }
 
-/// An entry with one thing about it changed: a number, for an exclusion kind, limit or members.
+/// An entry of a tidy image with one thing about it changed: a number, for an exclusion kind, limit or members.
 fn changed(rng: &mut Rng, draft: &Draft, entry: &[u32]) -> Vec<u32> {
     let (role, other) = (rng.below(draft.roles.into()) as u32, rng.below(draft.roles.into()) as u32);
     let (first, second) = (entry[0] >> 22 & 63, entry[0] >> 16 & 63);
@@ -301,6 +327,8 @@ fn changed(rng: &mut Rng, draft: &Draft, entry: &[u32]) -> Vec<u32> {
         (3, false) => vec![words::grant(first, rng.below(draft.permissions.into()) as u32)],
         (4, true) => vec![words::senior(role, second)],
         (4, false) => vec![words::senior(first, role)],
+        (7, true) => vec![words::limit(role, entry[0] >> 13 & 511)],
+        (7, false) => vec![words::limit(first, rng.from_to(2, 256) as u32)],
         (_, true) => {
             let (kind, limit, size) =
                 (rng.below(4) as u32, rng.from_to(2, entry.len() as u64 - 1) as u32, entry.len() as u32 - 1);
@@ -316,15 +344,19 @@ fn changed(rng: &mut Rng, draft: &Draft, entry: &[u32]) -> Vec<u32> {
     }
 }
 
+/// The kinds of the words that entries start with.
+const KINDS: [&str; 8] = ["", "", "assignment", "grant", "senior", "exclusion", "", "limit"];
+
 #[test]
 fn a_change_of_any_one_entry_gives_another_tidy_image() {
     let tally = spread("changed", 600, |rng, tally| {
         let size = rng.pick(&[policy::TINY, policy::SMALL, policy::MIDDLE]);
         let mut draft = policy::policy(rng, size);
+        draft.limit_some(rng);
         let tidy = tidy_of(&draft);
         draft.entries = entries(&tidy);
         for place in 0..draft.entries.len() {
-            let kind = ["", "", "assignment", "grant", "senior", "exclusion"][(draft.entries[place][0] >> 28) as usize];
+            let kind = KINDS[(draft.entries[place][0] >> 28) as usize];
             let mut less = draft.clone();
             less.entries.remove(place);
             assert_ne!(tidy_of(&less), tidy, "without entry {place}");
@@ -343,21 +375,25 @@ fn a_change_of_any_one_entry_gives_another_tidy_image() {
             assert_ne!(tidy_of(&other), tidy, "another head");
         }
     });
-    tally.expect(500, &["assignment", "grant", "senior", "exclusion"]);
+    tally.expect(500, &["assignment", "grant", "senior", "exclusion", "limit"]);
 }
 
 #[test]
 fn two_images_share_a_tidy_image_exactly_if_they_say_the_same() {
     let tally = spread("shared", 20_000, |rng, tally| {
-        let draft = policy::policy(rng, policy::TINY);
+        let mut draft = policy::policy(rng, policy::TINY);
+        if rng.one_in(2) {
+            draft.limit_some(rng);
+        }
         let mut other = jumbled(rng, &draft);
         for _ in 0..rng.below(3) {
             let (user, role) = (rng.below(draft.users.into()) as u32, rng.below(draft.roles.into()) as u32);
-            match rng.below(5) {
+            match rng.below(6) {
                 0 => other.assign(rng, user, 1),
                 1 => other.grant(rng, role),
                 2 => other.order(rng),
                 3 => other.exclude(rng),
+                4 => other.limit(rng),
                 _ if other.entries.is_empty() => {}
                 _ => {
                     let place = rng.place(other.entries.len());
@@ -383,7 +419,8 @@ fn every_call_answers_alike_on_an_image_and_on_its_tidy_one() {
             0 => policy::policy(rng, policy::WIDE),
             1..=2 => policy::overlapping(rng),
             3 => hierarchy::reaching(rng),
-            4..=5 => policy::policy(rng, policy::MIDDLE),
+            4 => policy::limited(rng),
+            5 => policy::policy(rng, policy::MIDDLE),
             _ => policy::policy(rng, policy::SMALL),
         };
         draft.fit(rng);

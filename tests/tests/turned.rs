@@ -146,7 +146,7 @@ fn refused() -> Vec<(u64, Vec<u8>)> {
     let wide: Vec<u32> = many(|role| words::senior(19, role)).into_iter().chain([words::assignment(1, 19)]).collect();
     let lists = [
         (2, words::closed(vec![words::head(65, 1, 1)])),
-        (3, with(&[7 << 28])),
+        (3, with(&[8 << 28])),
         (4, with(&[words::grant(0, 0) + 1])),
         (5, with(&[words::grant(20, 0)])),
         (6, with(&[words::senior(3, 3)])),

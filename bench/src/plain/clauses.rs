@@ -1,6 +1,6 @@
 //! The clause text of an ask: written at once where there is room for any text, else measured by one walk and written by a second.
 
-use super::{asked, enter, limit, size, Entered, Permissions, Tables, Wish, TABLES};
+use super::{asked, enter_asking, limit, size, Entered, Permissions, Tables, Wish, TABLES};
 
 /// Where a text goes: into a buffer, or nowhere, to be measured.
 trait Sink {
@@ -235,7 +235,7 @@ impl Clauses {
 #[inline(never)]
 pub fn clauses(image: &[u8], ledger: &[u8], wish: &Wish, out: &mut [u8]) -> u64 {
     let mut tables = TABLES;
-    let entered = match enter(image, ledger, wish.user, &mut tables) {
+    let entered = match enter_asking(image, ledger, wish, &mut tables) {
         Ok(entered) => entered,
         Err(number) => return number,
     };

@@ -78,12 +78,12 @@ fn head(rng: &mut Rng, draft: Draft) -> Vec<u32> {
     words
 }
 
-/// Towards 3: kinds where they may not stand, members missing or not due, the end missing or early.
+/// Towards 3: kinds where they may not stand, members missing or not due, a limit among them, the end missing or early.
 fn kind(rng: &mut Rng, draft: Draft) -> Vec<u32> {
     let mut words = draft.words();
     let at = place(rng, &words);
-    let wrong = rng.pick(&[0u32, 1, 7, 8, 9, 10, 11, 12, 13, 14, 15, 6, 6, 15]) << 28;
-    match rng.below(6) {
+    let wrong = rng.pick(&[0u32, 1, 8, 9, 10, 11, 12, 13, 14, 15, 6, 6, 15]) << 28;
+    match rng.below(8) {
         0 => words[at] = (words[at] & 0x0FFF_FFFF) | wrong,
         1 => words.insert(at, wrong),
         2 => {
@@ -95,6 +95,11 @@ fn kind(rng: &mut Rng, draft: Draft) -> Vec<u32> {
         4 => {
             let last = words.len() - 1;
             words[last] = (words[last] & 0x0FFF_FFFF) | (rng.below(15) as u32) << 28;
+        }
+        5 => words.insert(at, words::limit(0, 2)),
+        6 => {
+            let last = words.len() - 1;
+            words[last] = words::limit(0, 2);
         }
         _ => {
             let last = words.len() - 1;
@@ -108,12 +113,12 @@ fn kind(rng: &mut Rng, draft: Draft) -> Vec<u32> {
     words
 }
 
-/// Towards 4: a spare bit in a word of the kinds 2 to 6.
+/// Towards 4: a spare bit in a word of the kinds 2 to 7.
 fn spare(rng: &mut Rng, draft: Draft) -> Vec<u32> {
     let mut words = draft.words();
     let at = place(rng, &words);
-    let bits = [0, 0, 16, 14, 16, 12, 22][(words[at] >> 28).min(6) as usize];
-    if bits > 0 && words[at] >> 28 <= 6 {
+    let bits = [0, 0, 16, 14, 16, 12, 22, 13, 0][(words[at] >> 28).min(8) as usize];
+    if bits > 0 {
         words[at] |= 1 << rng.below(bits);
     }
     words
@@ -126,22 +131,24 @@ fn put(rng: &mut Rng, mut draft: Draft, entry: Vec<u32>) -> Vec<u32> {
     draft.words()
 }
 
-/// Towards 5: a number at or above U, R or P; a size or limit out of range.
+/// Towards 5: a number at or above U, R or P; a size or a limit, of an exclusion or of a role, out of range.
 fn range(rng: &mut Rng, draft: Draft) -> Vec<u32> {
     let (users, roles, permissions) = (draft.users, draft.roles, draft.permissions);
     let user = rng.from_to(users.into(), 64).min(63) as u32;
     let role = rng.from_to(roles.into(), 64).min(63) as u32;
     let permission = rng.from_to(permissions.into(), 256).min(255) as u32;
     let size = rng.from_to(1, roles.into()) as u32;
-    let entry = match rng.below(9) {
+    let entry = match rng.below(11) {
         0 => vec![words::assignment(user, 0)],
         1 => vec![words::assignment(0, role)],
         2 => vec![words::grant(role, 0)],
         3 => vec![words::grant(0, permission)],
         4 => vec![words::senior(role, 0)],
         5 => vec![words::senior(0, role)],
-        6 => vec![words::exclusion_head(rng.below(4) as u32, rng.below(128) as u32, rng.pick(&[0, roles + 1, 127]))],
-        7 => {
+        6 => vec![words::limit(role, rng.from_to(2, 256) as u32)],
+        7 => vec![words::limit(0, rng.pick(&[0, 1, 257, 258, 511]))],
+        8 => vec![words::exclusion_head(rng.below(4) as u32, rng.below(128) as u32, rng.pick(&[0, roles + 1, 127]))],
+        9 => {
             let members: Vec<u32> = (0..size).collect();
             words::exclusion(rng.below(4) as u32, rng.pick(&[0, 1, 1, size + 1, 127]), &members)
         }
@@ -208,7 +215,7 @@ fn tied(rng: &mut Rng, mut draft: Draft) -> Vec<u32> {
 fn soup(rng: &mut Rng) -> Vec<u32> {
     let mut words = vec![words::head(rng.from_to(1, 4) as u32, rng.from_to(1, 8) as u32, rng.from_to(1, 16) as u32)];
     for _ in 0..rng.below(12) {
-        let kind = rng.pick(&[2u32, 3, 4, 5, 6, 2, 3, 4, 15, 0, 9]) << 28;
+        let kind = rng.pick(&[2u32, 3, 4, 5, 6, 7, 2, 3, 4, 15, 0, 9]) << 28;
         let fields = rng.draw() as u32 & 0x0FFF_FFFF;
         words.push(kind | if rng.one_in(4) { fields } else { fields & 0x00C7_0000 });
     }

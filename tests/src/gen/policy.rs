@@ -146,6 +146,21 @@ impl Draft {
         self.entries.push(words::exclusion(rng.below(4) as u32, limit as u32, &members));
     }
 
+    /// A limit of any role: small mostly, at times the least or the largest that there is.
+    pub fn limit(&mut self, rng: &mut Rng) {
+        let (role, small) = (self.role(rng), rng.from_to(2, 8) as u32);
+        let limit = rng.pick(&[2, 2, 3, small, small, small, 256]);
+        self.entries.push(vec![words::limit(role, limit)]);
+    }
+
+    /// Limits of some roles, a role's second one at times, in any place.
+    pub fn limit_some(&mut self, rng: &mut Rng) {
+        for _ in 0..rng.from_to(1, 1 + u64::from(self.roles.min(12))) {
+            self.limit(rng);
+        }
+        rng.shuffle(&mut self.entries);
+    }
+
     /// The same policy but for the roles assigned to others than `user`, its entries in another order.
     pub fn others_redrawn(&self, rng: &mut Rng, user: u32) -> Draft {
         let mut draft = self.clone();
@@ -286,6 +301,28 @@ pub fn overlapping(rng: &mut Rng) -> Draft {
     draft
 }
 
+/// A policy with limits: several users who share roles, few permissions, few exclusions.
+pub fn limited(rng: &mut Rng) -> Draft {
+    let mut draft = Draft::blank(rng.from_to(2, 6) as u32, rng.from_to(2, 7) as u32, rng.from_to(2, 8) as u32);
+    for user in 0..draft.users {
+        let count = rng.from_to(1, draft.roles.into()) as usize;
+        draft.assign(rng, user, count);
+    }
+    for role in 0..draft.roles {
+        for _ in 0..rng.from_to(1, 3) {
+            draft.grant(rng, role);
+        }
+    }
+    if rng.one_in(3) {
+        draft.order(rng);
+    }
+    if rng.one_in(3) {
+        draft.exclude(rng);
+    }
+    draft.limit_some(rng);
+    draft
+}
+
 /// A policy of exactly `length` words, at least 4,000: filled up with repeats and grants.
 pub fn filled(rng: &mut Rng, length: usize) -> Draft {
     let mut draft = policy(rng, LARGE);
@@ -303,8 +340,16 @@ pub fn filled(rng: &mut Rng, length: usize) -> Draft {
     draft
 }
 
-/// A policy of any size, small ones mostly.
+/// A policy of any size, small ones mostly, at times with limits.
 pub fn any(rng: &mut Rng) -> Draft {
+    let mut draft = any_size(rng);
+    if rng.one_in(4) && draft.length() < 4_000 {
+        draft.limit_some(rng);
+    }
+    draft
+}
+
+fn any_size(rng: &mut Rng) -> Draft {
     match rng.below(64) {
         0..=23 => policy(rng, TINY),
         24..=49 => policy(rng, SMALL),

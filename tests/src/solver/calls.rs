@@ -4,7 +4,7 @@ use super::choice::{choose, PermissionFlags, Request};
 use super::clauses::clauses;
 use super::image::Judged;
 use super::line::{line_bytes, role_bytes, sound, Line, RoleFlags, SESSIONS};
-use super::policy::Policy;
+use super::policy::{Policy, Roles};
 
 /// The bytes of an answer: 8 of roles, 32 of permissions.
 pub const ANSWER: usize = 40;
@@ -63,6 +63,24 @@ impl Call {
         }
     }
 
+    /// The session that the call names, 0 for an open.
+    pub fn session(&self) -> u64 {
+        match self {
+            Call::Open { .. } => 0,
+            Call::Close { session, .. }
+            | Call::Show { session, .. }
+            | Call::Ask { session, .. }
+            | Call::ShortAsk { session, .. }
+            | Call::Explain { session, .. }
+            | Call::Clauses { session, .. } => *session,
+        }
+    }
+
+    /// An ask, of either form, or a clause text: the calls that look at other users' lines under a policy with limits.
+    pub fn is_ask(&self) -> bool {
+        matches!(self, Call::Ask { .. } | Call::ShortAsk { .. } | Call::Clauses { .. })
+    }
+
     /// The length of the answer buffer, 0 for a call without one.
     pub fn room(&self) -> usize {
         match self {
@@ -91,18 +109,44 @@ pub fn play_with(sessions: usize, image: &Judged, ledger: &mut [u8], call: &Call
         return Reply::refused(10, 0);
     }
     let user = call.user() as usize;
-    let bytes = &mut ledger[line_bytes * user..line_bytes * (user + 1)];
-    if !sound(policy, user, bytes) {
-        return Reply::refused(11, 0);
+    let place = line_bytes * user..line_bytes * (user + 1);
+    let looks_at_all = call.is_ask() && !policy.limits.is_empty();
+    let judged = if looks_at_all { 0..policy.users } else { user..user + 1 };
+    for other in judged {
+        if !sound(policy, other, &ledger[line_bytes * other..line_bytes * (other + 1)]) {
+            return Reply::refused(11, if other == user { 0 } else { other as u64 + 1 });
+        }
     }
-    let mut line = Line::read(bytes);
-    let reply = rule(policy, user, &mut line, call);
-    line.write(bytes);
+    let mut line = Line::read(&ledger[place.clone()]);
+    let barred = barred(policy, line_bytes, ledger, call);
+    let reply = rule(policy, user, &mut line, barred, call);
+    line.write(&mut ledger[place]);
     reply
 }
 
-/// The session rules on a sound line; a refusal leaves the line.
-fn rule(policy: &Policy, user: usize, line: &mut Line, call: &Call) -> Reply {
+/// The limited roles that are active in t - 1 or more sessions, over all users, other than the one that an ask names.
+pub fn barred(policy: &Policy, line_bytes: usize, ledger: &[u8], ask: &Call) -> Roles {
+    let lines: Vec<Line> = ledger.chunks(line_bytes).map(Line::read).collect();
+    let asked = |user: usize, session: usize| (user as u64, session as u64) == (ask.user(), ask.session());
+    let mut barred = Roles::new();
+    for (role, limit) in &policy.limits {
+        let mut holding = 0;
+        for (user, line) in lines.iter().enumerate() {
+            for (number, session) in line.sessions.iter().enumerate() {
+                if session.active[*role] && !asked(user, number) {
+                    holding += 1;
+                }
+            }
+        }
+        if holding >= limit - 1 {
+            barred.insert(*role);
+        }
+    }
+    barred
+}
+
+/// The session rules on a sound line, for an ask with the roles that it may not choose; a refusal leaves the line.
+fn rule(policy: &Policy, user: usize, line: &mut Line, barred: Roles, call: &Call) -> Reply {
     match call {
         Call::Open { .. } => open(line),
         Call::Close { session, .. } => match open_session(line, *session) {
@@ -115,15 +159,15 @@ fn rule(policy: &Policy, user: usize, line: &mut Line, call: &Call) -> Reply {
             Ok(session) => show(policy, line, session),
         },
         Call::Ask { session, lower, upper, objectives, room, .. } => {
-            let asked = request(policy, user, line, *session, lower, upper, *objectives);
+            let asked = request(policy, user, line, barred, *session, (lower, upper), *objectives);
             put_in(line, asked.and_then(|asked| ask(&asked, *room)))
         }
         Call::ShortAsk { session, lower, upper, room, .. } => {
-            let asked = request(policy, user, line, *session, lower, upper, SHORT_OBJECTIVES);
+            let asked = request(policy, user, line, barred, *session, (lower, upper), SHORT_OBJECTIVES);
             put_in(line, asked.and_then(|asked| ask(&asked, *room)))
         }
         Call::Clauses { session, lower, upper, objectives, room, .. } => {
-            let asked = request(policy, user, line, *session, lower, upper, *objectives);
+            let asked = request(policy, user, line, barred, *session, (lower, upper), *objectives);
             let text = asked.and_then(|asked| write_clauses(&asked, *room));
             text.unwrap_or_else(|number| Reply::refused(number, 0))
         }
@@ -195,9 +239,9 @@ fn request<'a>(
     policy: &'a Policy,
     user: usize,
     line: &'a Line,
+    barred: Roles,
     session: u64,
-    lower: &[u8],
-    upper: &[u8],
+    (lower, upper): (&[u8], &[u8]),
     objectives: (u64, u64),
 ) -> Result<Request<'a>, u64> {
     let session = open_session(line, session)?;
@@ -214,7 +258,7 @@ fn request<'a>(
     if objectives.0 > 2 || objectives.1 > 2 {
         return Err(18);
     }
-    Ok(Request { policy, user, line, session, lower, upper, objectives })
+    Ok(Request { policy, user, line, session, barred, lower, upper, objectives })
 }
 
 /// The session's active roles are replaced by the best admissible set: what is answered and the line after it, or 19 or 20.

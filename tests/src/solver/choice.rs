@@ -1,7 +1,7 @@
 //! The choice of a role set: every subset of the user's roles is tried and held against the definition.
 
 use super::line::{met, Line, RoleFlags};
-use super::policy::Policy;
+use super::policy::{Policy, Roles};
 
 /// For each permission number whether the permission is in the set.
 pub type PermissionFlags = [bool; 256];
@@ -13,10 +13,19 @@ pub struct Request<'a> {
     pub user: usize,
     pub line: &'a Line,
     pub session: usize,
+    /// The roles that may not be chosen since their limits are reached.
+    pub barred: Roles,
     pub lower: PermissionFlags,
     pub upper: PermissionFlags,
     /// Permissions, then roles: 0 any, 1 fewest, 2 most (01: aims).
     pub objectives: (u64, u64),
+}
+
+impl Request<'_> {
+    /// The roles that the user may activate, those barred left out.
+    pub fn choosable(&self) -> Roles {
+        self.policy.authorized(self.user).difference(&self.barred).copied().collect()
+    }
 }
 
 /// A set of roles with what ranks it.
@@ -66,7 +75,7 @@ pub fn rank(objectives: (u64, u64), left: &Candidate, right: &Candidate) -> std:
 /// The subsets under trial: roles taken so far, and for each permission how many of them carry it.
 struct Trial<'a> {
     request: &'a Request<'a>,
-    /// The roles that the user may activate, each with the permissions that it carries.
+    /// The roles that may be chosen, each with the permissions that it carries.
     own: Vec<(usize, Vec<usize>)>,
     roles: RoleFlags,
     carriers: [usize; 256],
@@ -90,13 +99,8 @@ pub fn choose(request: &Request) -> Option<Choice> {
 pub fn each_admissible(request: &Request, found: &mut dyn FnMut(Candidate)) {
     let policy = request.policy;
     let carried = |role: &usize| (*role, policy.carried_by(*role).into_iter().collect());
-    let mut trial = Trial {
-        request,
-        own: policy.authorized(request.user).iter().map(carried).collect(),
-        roles: [false; 64],
-        carriers: [0; 256],
-        found,
-    };
+    let mut trial =
+        Trial { request, own: request.choosable().iter().map(carried).collect(), roles: [false; 64], carriers: [0; 256], found };
     trial.with_and_without(0);
 }
 

@@ -50,7 +50,7 @@ pub fn clauses(request: &Request) -> Clauses {
     let (roles, permissions) = (policy.roles, policy.permissions);
     let of_role = |role: usize| role as i64 + 1;
     let of_permission = |permission: usize| (roles + permission) as i64 + 1;
-    let own = policy.authorized(request.user);
+    let own = request.choosable();
     let carried: Vec<_> = (0..roles).map(|role| policy.carried_by(role)).collect();
     let mut hard = Vec::new();
     for role in 0..roles {

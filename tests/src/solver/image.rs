@@ -116,7 +116,7 @@ impl Reading {
 
     fn kind_wrong(&self, word: u32, last: bool) -> bool {
         let kind = kind(word);
-        let unknown = kind == 0 || kind == 1 || (7..=14).contains(&kind);
+        let unknown = kind == 0 || kind == 1 || (8..=14).contains(&kind);
         let member_not_due = kind == 6 && self.due == 0;
         let no_member_where_due = kind != 6 && self.due > 0;
         let end_before_the_end = kind == 15 && !last;
@@ -136,6 +136,10 @@ impl Reading {
                 size == 0 || size > policy.roles || limit == 0 || limit == 1 || limit > size
             }
             6 => first >= policy.roles,
+            7 => {
+                let limit = field(word, 13, 9);
+                first >= policy.roles || limit < 2 || limit > 256
+            }
             _ => false,
         }
     }
@@ -191,12 +195,16 @@ impl Reading {
                 }
                 self.due -= 1;
             }
+            7 => {
+                let smallest = policy.limits.entry(first).or_insert(256);
+                *smallest = field(word, 13, 9).min(*smallest);
+            }
             _ => {}
         }
     }
 }
 
-/// Spare bits are set in a word of the kinds 2 to 6.
+/// Spare bits are set in a word of the kinds 2 to 7.
 fn spare_set(word: u32) -> bool {
     match kind(word) {
         2 => field(word, 0, 16) != 0,
@@ -204,6 +212,7 @@ fn spare_set(word: u32) -> bool {
         4 => field(word, 0, 16) != 0,
         5 => field(word, 0, 12) != 0,
         6 => field(word, 0, 22) != 0,
+        7 => field(word, 0, 13) != 0,
         _ => false,
     }
 }

@@ -1,6 +1,6 @@
-//! What an accepted image means: who is assigned what and may activate what, what roles carry, what excludes what.
+//! What an accepted image means: who is assigned what and may activate what, what roles carry, what excludes what, what is limited.
 
-use std::collections::BTreeSet;
+use std::collections::{BTreeMap, BTreeSet};
 
 /// A set of role numbers.
 pub type Roles = BTreeSet<usize>;
@@ -42,6 +42,8 @@ pub struct Policy {
     /// The roles that each role is said to be senior over.
     pub juniors: Vec<Roles>,
     pub exclusions: Vec<Exclusion>,
+    /// For each limited role its t, the smallest that a word gives it: fewer than t sessions, over all users, may hold it (001: CARD).
+    pub limits: BTreeMap<usize, usize>,
 }
 
 impl Policy {
@@ -55,6 +57,7 @@ impl Policy {
             granted: vec![Permissions::new(); roles],
             juniors: vec![Roles::new(); roles],
             exclusions: Vec::new(),
+            limits: BTreeMap::new(),
         }
     }
 

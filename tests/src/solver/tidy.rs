@@ -52,7 +52,7 @@ fn word(kind: usize, fields: &[(usize, u32)]) -> u64 {
     word
 }
 
-/// The words of the tidy image of a policy: head, assignments, grants, seniors, exclusions, end.
+/// The words of the tidy image of a policy: head, assignments, grants, seniors, exclusions, limits, end.
 pub fn words(policy: &Policy) -> Vec<u64> {
     let mut words = vec![word(1, &[(policy.users, 21), (policy.roles, 14), (policy.permissions, 5)])];
     for (user, roles) in policy.assigned.iter().enumerate() {
@@ -69,6 +69,7 @@ pub fn words(policy: &Policy) -> Vec<u64> {
         words.push(word(5, &[(exclusion.kind as usize, 26), (limit, 19), (size, 12)]));
         words.extend(exclusion.members.iter().map(|role| word(6, &[(*role, 22)])));
     }
+    words.extend(policy.limits.iter().map(|(role, limit)| word(7, &[(*role, 22), (*limit, 13)])));
     let rest = words.iter().sum::<u64>() % 2u64.pow(28);
     words.push(word(15, &[((2usize.pow(28) - rest as usize) % 2usize.pow(28), 0)]));
     words
