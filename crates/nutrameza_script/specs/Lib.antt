@@ -1,3 +1,2 @@
--- A run of the program, byte by byte, and what its functions do on the way.
-pub mod Progress
+-- What the functions of the program do on the way.
 pub mod Buffers

@@ -5,9 +5,9 @@ mod lines;
 
 fn main() {
     let mut file = [0u8; 16385];
-    let size = input::read_image(&mut file);
+    let size = chunks::file::read_image(&mut file);
     let image = &file[..size];
-    let mut ledger = [0u8; lines::LEDGER];
-    let used = lines::ledger_length(image);
+    let mut ledger = [0u8; chunks::lines::LEDGER];
+    let used = chunks::lines::ledger_length(image);
     input::answer_all(image, &mut ledger[0..used]);
 }

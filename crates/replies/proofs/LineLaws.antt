@@ -59,6 +59,11 @@ module _ (image ledger line : List ℕ) (p : Parsed) (n code : ℕ) (after answe
   pub ledger-after : after ≡ answerTo image ledger line .ledger
   ledger-after = a .bytes ∙ ap (λ (x : Event). x .ledger) event-is
 
+  -- the number of its answer
+  pub number-answered : code % 256 ≡ answerTo image ledger line .reply .number
+  unfolding returned
+  number-answered = ap (λ x. x % 256) (a .number) ∙ parts image ledger (callIn p) .number-is ∙ ap (λ (x : Event). x .reply .number) event-is
+
   line-is : lineOf n (code % 256) (code / 256) (number (take 8 answer)) (number (drop 8 answer)) ≡ printed n (answerTo image ledger line .reply)
   unfolding printed answered
   line-is =

@@ -1,6 +1,6 @@
 // A script's lines answered: the call that a line is made under an image and on a ledger, and its answer written as an output line.
 ghost use mathlib.Core.Path.{_≡_};
-ghost use Prim.Native.Nat.{_+_, _≤_};
+ghost use Prim.Native.Nat.{_+_, _≤_, _<_};
 ghost use lib.ListN.{length};
 ghost use Rattle.asks.specs.Asks.{Answers};
 ghost use Rattle.script.specs.Script.{answerBy, answerTo, printed};
@@ -44,6 +44,18 @@ fn call(image: &[u8], ledger: &mut [u8], p: Parsed, answer: &mut [u8]) -> u64
         }
         Form::Unreadable => 21,
     }
+}
+
+// Answers a line of a script: makes its call, and returns the number of the answer.
+pub fn answer(image: &[u8], ledger: &mut [u8], line: &[u8]) -> u64
+    ensures { λ r. ⌜ (r ≡ answerTo (now (image .entry)) (now (ledger .entry)) (now (line .entry)) .reply .number)
+        × (r < 256)
+        × (now (ledger .exit) ≡ answerTo (now (image .entry)) (now (ledger .entry)) (now (line .entry)) .ledger) ⌝ }
+{
+    let p = script::parse::parse(line);
+    let mut answer = [0u8; 40];
+    let code = call(image, ledger, p, &mut answer);
+    code % 256
 }
 
 // Answers line n of a script: makes its call, and writes the output line from `at` on. Returns the place behind it.

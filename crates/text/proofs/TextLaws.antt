@@ -8,7 +8,7 @@ use native.Mathlib.Nat.{add-zero, add-suc, suc-add, div-lt-self, div-lt-iff-lt-m
 use native.Mathlib.Omega.{arith}
 use lib.Dec.{ltb}
 use lib.ListN.{length, getD, set, take, drop, length-append, length-drop}
-use lib.Seq.{sets, drop-cons, drop-length, take-all}
+use lib.Seq.{sets, sets-eq, drop-cons, drop-length, take-all, take-at, length-take-le}
 use borrow.Author.Tests.{lt-ltb, le-ltb, ltb-true, ltb-false}
 use Rattle.model.specs.Tests.{pick}
 use Rattle.model.specs.Bytes.{number}
@@ -35,6 +35,12 @@ puts-joined {l} {m} {a} {xs} {ys} {at} {n} {r} p q =
 -- the same, where the text is known by another name
 pub puts-as : {l a xs ys : List ℕ} {at r : ℕ} → xs ≡ ys → Puts l at xs a r → Puts l at ys a r
 puts-as {l} {a} {xs} {ys} {at} {r} e p = subst (λ t. Puts l at t a r) e p
+
+-- the text in the first bytes of a buffer, with the text that is stored behind it
+pub text-put : {out behind text : List ℕ} {at r : ℕ} → at ≤ length out → r ≤ length out → Puts out at text behind r → take r behind ≡ take at out ++ text
+text-put {out} {behind} {text} {at} {r} h k p =
+    let n : length (take at out ++ text) ≡ r = length-append (take at out) text ∙ omega (arith, length-take-le at out h, p .next-is) in
+    rw (p .after-is, sets-eq text out at (omega (arith, p .next-is))) (take-at (take at out ++ text) (drop (at + length text) out) r n)
 
 -- ---- digits
 

@@ -19,7 +19,7 @@ fn glyph(d: u8) -> u8
 }
 
 // Writes one byte.
-fn put(out: &mut [u8], at: usize, b: u8) -> usize
+pub fn put(out: &mut [u8], at: usize, b: u8) -> usize
     requires { ⌜ at < length (now out) ⌝ }
     ensures { λ r. ⌜ Puts (now (out .entry)) at (b ∷ []) (now (out .exit)) r ⌝ }
 {
@@ -116,7 +116,7 @@ pub fn put_hexadecimal(out: &mut [u8], at: usize, bytes: &[u8]) -> usize
 }
 
 // Writes a blank and a number in decimal.
-fn put_number(out: &mut [u8], at: usize, n: u64) -> usize
+pub fn put_number(out: &mut [u8], at: usize, n: u64) -> usize
     requires { ⌜ at + 21 ≤ length (now out) ⌝ }
     ensures { λ r. ⌜ (Puts (now (out .entry)) at (32 ∷ numeral 10 n) (now (out .exit)) r) × (r ≤ at + 21) ⌝ }
 {

@@ -4,12 +4,15 @@ use borrow.Author.Needs.{needs}
 use Prim.Native.Nat.{_≤_}
 use native.Mathlib.Omega.{arith}
 use lib.ListN.{length}
-use Rattle.nutrameza_script.proofs.Steps.{counts, last-none, last-answered}
+use Rattle.chunks.proofs.Steps.{counts}
+use Rattle.nutrameza_script.proofs.Steps.{last-nothing, last-answered}
 use Rattle.nutrameza_script.proofs.lines.answer_last.Statement.{statement}
 use Rattle.nutrameza_script.proofs.lines.answer_last.Tie as tie
 
 returns : tie.Need-returns
-returns c = (search needs, last-none _ _ _ _ _ (search needs))
+returns c =
+    let a = c .before .before .before .before .before .args in
+    (search needs, last-nothing (a .image .now) (a .line .now) (a .ledger .now) (a .kept) (a .calls) (search needs))
 
 slice-aggregate-respond : tie.Need-slice-aggregate-respond
 slice-aggregate-respond c =

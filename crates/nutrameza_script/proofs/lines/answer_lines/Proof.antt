@@ -1,13 +1,15 @@
 -- Line after line is answered, and what is left to do stays the same.
 -- Assumes nothing.
 use borrow.Author.Needs.{needs}
-use mathlib.Core.Path.{_≡_, refl, _∙_}
-use Prim.Native.Nat.{_+_, _-_, _≤_, _<_}
+use mathlib.Core.Path.{_≡_, refl, ap, _∙_}
+use mathlib.Core.List.{List, _++_}
+use Prim.Native.Nat.{ℕ, _+_, _-_, _≤_, _<_}
 use native.Mathlib.Omega.{arith}
 use lib.ListN.{length, take, drop}
-use Rattle.nutrameza_script.specs.Progress.{after}
-use Rattle.nutrameza_script.specs.Buffers.{during, running}
-use Rattle.nutrameza_script.proofs.Steps.{counts, is-answered}
+use Rattle.chunks.specs.Kept.{linesFrom}
+use Rattle.chunks.proofs.Steps.{counts}
+use Rattle.nutrameza_script.specs.Buffers.{outcome}
+use Rattle.nutrameza_script.proofs.Steps.{is-answered}
 use Rattle.nutrameza_script.proofs.lines.answer_lines.Statement.{statement}
 use Rattle.nutrameza_script.proofs.lines.answer_lines.Tie as tie
 
@@ -16,21 +18,20 @@ Inv-loop image ledger₀ line₀ chunk out₀ next₀ kept₀ calls₀ filled₀
     (next₀ ≤ next) × (next ≤ length chunk) × (filled₀ < filled → next₀ < next) × (kept ≤ 174) × (filled ≤ length out)
     × (calls + next₀ ≤ calls₀ + next) × (length line ≡ 174) × (length line ≡ length line₀) × (length out ≡ length out₀)
     × (length ledger ≡ length ledger₀)
-    × (after image (during line₀ kept₀ ledger₀ calls₀ (take filled₀ out₀)) (drop next₀ chunk)
-    ≡ after image (during line kept ledger calls (take filled out)) (drop next chunk))
+    × ((more : List ℕ) → outcome image ledger₀ calls₀ (take filled₀ out₀) (linesFrom (take kept₀ line₀) (drop next₀ chunk ++ more))
+    ≡ outcome image ledger calls (take filled out) (linesFrom (take kept line) (drop next chunk ++ more)))
 
 abbrev μ-loop : tie.MeasureT-loop
 μ-loop image ledger₀ line₀ chunk out₀ next₀ kept₀ calls₀ filled₀ ledger line out next kept calls filled = length chunk - next
 
 loop-holds : tie.Need-loop-holds Inv-loop μ-loop
 loop-holds c =
-    (search needs, search needs, λ h. search needs, search needs, search needs, search needs, search needs, search needs, search needs, search needs, refl)
+    (search needs, search needs, λ h. search needs, search needs, search needs, search needs, search needs, search needs, search needs, search needs, λ more. refl)
 
 gather-requires : tie.Need-gather-requires Inv-loop μ-loop
 gather-requires c κs = search needs
 
 returns : tie.Need-returns Inv-loop μ-loop
-unfolding running
 returns c =
     let g = c .before .before .before .before in
     let l = g .before .before .before in
@@ -42,7 +43,7 @@ returns c =
       inside = e .inside;
       counted = omega (arith, e .onward, l .loop .inv);
       room = search needs;
-      same = l .loop .inv .10 ∙ e .same (a .image .now) (l .loop .ledger) (l .loop .calls) (take (l .loop .filled) (l .loop .out));
+      same = λ more. l .loop .inv .10 more ∙ ap (outcome (a .image .now) (l .loop .ledger) (l .loop .calls) (take (l .loop .filled) (l .loop .out))) (e .same more);
     }
 
 add-calls : tie.Need-add-calls Inv-loop μ-loop
@@ -87,12 +88,11 @@ loop-again c =
       omega (arith, g .gather .kept, inv),
       omega (arith, r .respond .kept, inv),
       omega (arith, r .respond .kept, inv),
-      inv .10 ∙ e .same (a .image .now) (l .loop .ledger) (l .loop .calls) (take (l .loop .filled) (l .loop .out))
-          ∙ is-answered (a .image .now) (a .chunk .now) (g .gather .result .next) (g .gather .last .0) (g .gather .result .kept) (l .loop .ledger) (l .loop .out) (l .loop .calls) (l .loop .filled) _ _ _ h (e .newline h) (inv .4) n (f .0) (f .2),
+      λ more. inv .10 more ∙ ap (outcome (a .image .now) (l .loop .ledger) (l .loop .calls) (take (l .loop .filled) (l .loop .out))) (e .same more)
+          ∙ is-answered (a .image .now) (a .chunk .now) (g .gather .result .next) (g .gather .last .0) (g .gather .result .kept) (l .loop .ledger) (l .loop .out) (l .loop .calls) (l .loop .filled) _ _ _ h (e .newline h) (inv .4) n (f .0) (f .2) more,
     )
 
 returns-2 : tie.Need-returns-2 Inv-loop μ-loop
-unfolding running
 returns-2 c =
     let l = c .before in
     let inv = l .loop .inv in

@@ -1,0 +1,2 @@
+-- The counts at the start.
+pub mod Zeros
