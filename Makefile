@@ -1,15 +1,16 @@
 # The session kit for those who build and install it.
 #
 #   make lib                  proves the kit and writes target/staticlib/libnutrameza.a
-#   make install PREFIX=DIR   library, header, nutrameza.pc and, if built, the program (DESTDIR is put before PREFIX)
+#   make install PREFIX=DIR   library, header, nutrameza.pc and, if built, the programs (DESTDIR is put before PREFIX)
 #   make ward                 runs the ward example: the script beside what the program answers
+#   make survey               surveys the ward example: what its exclusion allows, and how often each number answers the script
 #   make host                 runs the ward example as a C host of the library
 #   make test                 the gate: every proof and every test
 #   make bench                the kit beside plain Rust, as ratios
 #
-# Install, ward, host and bench take the library and the program that are there; what is missing, they make, except that install does
-# without the program. NUTRAMEZA_LIB names another folder for the library. Of the prover's output a line for each crate is shown, all of
-# it where something fails; target/make has it.
+# Install, ward, survey, host and bench take the library and the programs that are there; what is missing, they make, except that install
+# does without the programs. NUTRAMEZA_LIB names another folder for the library. Of the prover's output a line for each crate is shown, all
+# of it where something fails; target/make has it.
 
 VERSION := 0.1.0
 PREFIX ?= /usr/local
@@ -18,10 +19,11 @@ RT ?= rt
 
 library := $(NUTRAMEZA_LIB)/libnutrameza.a
 program := target/bin/nutrameza_script
+surveyor := target/bin/nutrameza_survey
 prefix := $(abspath $(PREFIX))
 to := $(DESTDIR)$(prefix)
 
-.PHONY: lib install ward host test bench
+.PHONY: lib install ward survey host test bench
 
 lib target/staticlib/libnutrameza.a:
 	@tools/quiet target/make/lib $(RT) staticlib nutrameza
@@ -32,7 +34,7 @@ install: $(library)
 	install -m 644 include/nutrameza.h '$(to)/include/nutrameza.h'
 	sed -e 's|@PREFIX@|$(prefix)|' -e 's|@VERSION@|$(VERSION)|' nutrameza.pc.in > '$(to)/lib/pkgconfig/nutrameza.pc'
 	chmod 644 '$(to)/lib/pkgconfig/nutrameza.pc'
-	if [ -x $(program) ]; then install -d '$(to)/bin' && install -m 755 $(program) '$(to)/bin/nutrameza_script'; fi
+	for p in $(program) $(surveyor); do if [ -x $$p ]; then install -d '$(to)/bin' && install -m 755 $$p '$(to)/bin/' || exit 1; fi; done
 
 $(program):
 	@tools/quiet target/make/program $(RT) check nutrameza_script
@@ -45,6 +47,17 @@ ward: $(program)
 	@paste examples/ward.script target/ward/answers | expand -t 24
 	@cmp target/ward/answers examples/ward.answers
 
+$(surveyor):
+	@tools/quiet target/make/surveyor $(RT) check nutrameza_survey
+
+# The figures of the ward example.
+survey: $(surveyor)
+	@mkdir -p target/ward
+	@tools/policy build examples/ward.policy -o target/ward/policy.img
+	@cd target/ward && ../bin/nutrameza_survey < ../../examples/ward.script > survey
+	@cat target/ward/survey
+	@cmp target/ward/survey examples/ward.survey
+
 # A small clinic as a C host.
 host: $(library)
 	mkdir -p target/ward
@@ -54,5 +67,5 @@ host: $(library)
 test:
 	bash .ci/run
 
-bench: $(library) $(program)
-	NUTRAMEZA_LIB='$(abspath $(NUTRAMEZA_LIB))' NUTRAMEZA_PROGRAM='$(abspath $(program))' cargo run --release --offline --manifest-path bench/Cargo.toml --features asks,script
+bench: $(library) $(program) $(surveyor)
+	NUTRAMEZA_LIB='$(abspath $(NUTRAMEZA_LIB))' NUTRAMEZA_PROGRAM='$(abspath $(program))' NUTRAMEZA_SURVEY='$(abspath $(surveyor))' cargo run --release --offline --manifest-path bench/Cargo.toml --features asks,programs

@@ -1,7 +1,7 @@
 #!/usr/bin/env bash
 # The kit as a record maker meets it: the header in three languages, an install into a fresh prefix, hosts that are built from
-# pkg-config alone and outside the repository. It needs libnutrameza.a (target/staticlib, or the folder that NUTRAMEZA_LIB names);
-# without it the tests fail. The last line is 'N passed, M failed'.
+# pkg-config alone and outside the repository. It needs libnutrameza.a (target/staticlib, or the folder that NUTRAMEZA_LIB names) and
+# target/bin/nutrameza_survey; without them the tests fail. The last line is 'N passed, M failed'.
 . "$(dirname "${BASH_SOURCE[0]}")/it.sh"
 lib=$(cd "$root" && realpath -m "${NUTRAMEZA_LIB:-target/staticlib}")
 prefix=$work/prefix
@@ -58,14 +58,17 @@ installed() {
     test -s "$prefix/lib/pkgconfig/nutrameza.pc" && ! grep -q '@' "$prefix/lib/pkgconfig/nutrameza.pc"
 }
 
-# The program comes along if it is built, and nothing stands in bin/ without it.
-program_installed() {
+# Each program comes along if it is built, and nothing else stands in bin/.
+programs_installed() {
+  local p
   test -d "$prefix/lib" || return 1
-  if [ -x "$root/target/bin/nutrameza_script" ]; then
-    cmp "$root/target/bin/nutrameza_script" "$prefix/bin/nutrameza_script"
-  else
-    [ ! -e "$prefix/bin" ]
-  fi
+  for p in nutrameza_script nutrameza_survey; do
+    if [ -x "$root/target/bin/$p" ]; then
+      cmp "$root/target/bin/$p" "$prefix/bin/$p" || return 1
+    elif [ -e "$prefix/bin/$p" ]; then
+      return 1
+    fi
+  done
 }
 
 staged() {
@@ -85,10 +88,10 @@ host() {
   mkdir -p "$work/$name" && cd "$work/$name" && cc -std=c99 $strict $(flags --cflags) "$source" $(flags --libs) "$@" -o host
 }
 
-# block LANGUAGE NUMBER: of the blocks of that language in docs/HOST.md the one of that number, from 1
+# block LANGUAGE NUMBER [PAGE]: of the blocks of that language in docs/HOST.md, or another page, the one of that number, from 1
 block() {
   awk -v open="\`\`\`$1" -v number="$2" '$0 == "```" { inside = 0 } inside { print } $0 == open { inside = ++seen == number }' \
-    "$root/docs/HOST.md"
+    "$root/docs/${3:-HOST.md}"
 }
 
 worked_example() {
@@ -118,6 +121,12 @@ replayed() {
   while IFS= read -r line; do
     case $line in '$ '*) echo "$line" && eval "${line#?}" ;; esac
   done
+}
+
+# The commands of the officer's page, by the installed program.
+surveyed() {
+  mkdir -p "$work/survey" && cd "$work/survey" && ln -s "$root/tools" "$root/examples" . && block text 1 SURVEY.md > page && test -s page &&
+    test -x "$prefix/bin/nutrameza_survey" && PATH=$prefix/bin:$PATH replayed < page > said && diff said page
 }
 
 # A ledger of four windows, and one of eight with window 4 open beside window 1.
@@ -201,12 +210,13 @@ done
 it 'the header compiles by itself as c++17' alone c++ c++17
 it 'the inline functions are right as c++17' compiled c++ c++17
 it 'make install puts library, header and nutrameza.pc into a fresh prefix' installed
-it 'make install puts the program there exactly if it is built' program_installed
+it 'make install puts each program there exactly if it is built' programs_installed
 it 'make install with DESTDIR keeps the prefix in nutrameza.pc' staged
 it 'pkg-config says where the header and the library are' same_flags
 it 'the example of docs/HOST.md is built from pkg-config alone and prints what is written there' worked_example
 it 'the example leaves the ledger on disk' example_ledger
 it 'the example is a C++ program too' example_cxx
+it 'the survey of docs/SURVEY.md is what the installed program prints' surveyed
 it 'the program of docs/HOST.md that carries ledgers does what is written there' carrying
 it 'a ledger carried over and back comes out byte for byte' carried
 it 'the program that carries ledgers is a C++ program too' carrying_cxx

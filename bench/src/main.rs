@@ -6,7 +6,7 @@ mod families;
 mod jobs;
 #[cfg_attr(not(feature = "asks"), allow(dead_code))]
 mod plain;
-#[cfg(feature = "script")]
+#[cfg(feature = "programs")]
 mod program;
 #[cfg(feature = "asks")]
 mod texts;
@@ -36,6 +36,6 @@ fn main() {
     families::asks();
     #[cfg(feature = "asks")]
     texts::texts();
-    #[cfg(feature = "script")]
+    #[cfg(feature = "programs")]
     program::lines();
 }

@@ -1,15 +1,24 @@
-//! The program nutrameza_script as a child process: the one that NUTRAMEZA_PROGRAM names, else the repository's
-//! target/bin/nutrameza_script.
+//! The programs as child processes: nutrameza_script, the one that NUTRAMEZA_PROGRAM names, else the repository's
+//! target/bin/nutrameza_script; nutrameza_survey likewise by NUTRAMEZA_SURVEY.
 
 use std::fs::File;
 use std::io::Write;
 use std::path::{Path, PathBuf};
 use std::process::{Child, Command, ExitStatus, Stdio};
 
-/// Where the program is.
+/// Where the script's program is.
 pub fn path() -> PathBuf {
-    let beside = Path::new(env!("CARGO_MANIFEST_DIR")).join("../target/bin/nutrameza_script");
-    std::env::var_os("NUTRAMEZA_PROGRAM").map_or(beside, PathBuf::from)
+    named("NUTRAMEZA_PROGRAM", "nutrameza_script")
+}
+
+/// Where the survey is.
+pub fn survey_path() -> PathBuf {
+    named("NUTRAMEZA_SURVEY", "nutrameza_survey")
+}
+
+fn named(variable: &str, program: &str) -> PathBuf {
+    let beside = Path::new(env!("CARGO_MANIFEST_DIR")).join("../target/bin").join(program);
+    std::env::var_os(variable).map_or(beside, PathBuf::from)
 }
 
 /// The program, to be started in a folder, with input, output and standard error as pipes.
@@ -24,13 +33,28 @@ pub fn command_of(program: &Path, folder: &Path) -> Command {
 
 /// The program by a shell that runs a command first, as `trap '' PIPE`, or redirects it, as `<&-`.
 pub fn command_by_shell(folder: &Path, first: &str, redirected: &str) -> Command {
+    shell_of(&path(), folder, first, redirected)
+}
+
+/// The same of another program.
+pub fn shell_of(program: &Path, folder: &Path, first: &str, redirected: &str) -> Command {
     let mut shell = Command::new("sh");
-    shell.arg("-c").arg(format!("{first}\nexec \"$0\" {redirected}")).arg(path());
+    shell.arg("-c").arg(format!("{first}\nexec \"$0\" {redirected}")).arg(program);
     piped(shell, folder)
 }
 
 fn piped(mut command: Command, folder: &Path) -> Command {
     command.current_dir(folder).stdin(Stdio::piped()).stdout(Stdio::piped()).stderr(Stdio::piped());
+    command
+}
+
+/// A command with a read of its own, compiled into a folder from preload/NAME.c.
+pub fn preloaded(mut command: Command, folder: &Path, name: &str) -> Command {
+    let source = Path::new(env!("CARGO_MANIFEST_DIR")).join("preload").join(name).with_extension("c");
+    let library = folder.join(name).with_extension("so");
+    let compiled = Command::new("cc").args(["-shared", "-fPIC", "-o"]).arg(&library).arg(&source).status().expect("cc is there");
+    assert!(compiled.success(), "{} is compiled", source.display());
+    command.env("LD_PRELOAD", &library);
     command
 }
 
@@ -85,8 +109,13 @@ pub fn run_in(folder: &Path, script: &[u8]) -> Vec<u8> {
 
 /// What the program prints in a folder for a script from a file, of which each read takes as much as the program asks for.
 pub fn run_on_file(folder: &Path, script: &Path) -> Vec<u8> {
+    run_of_on_file(&path(), folder, script)
+}
+
+/// The same of another program.
+pub fn run_of_on_file(program: &Path, folder: &Path, script: &Path) -> Vec<u8> {
     let file = File::open(script).expect("the script is there");
-    let mut command = command(folder);
+    let mut command = command_of(program, folder);
     command.stdin(file);
     printed(start(command))
 }

@@ -293,15 +293,9 @@ fn says_that_input_or_output_is_closed() {
     std::fs::remove_dir_all(&folder).expect("the folder is removed");
 }
 
-/// The program with a read that fails behind the first ten bytes, compiled from preload/failing_read.c.
+/// The program with a read that fails behind the first ten bytes.
 fn with_failing_read(folder: &Path) -> Command {
-    let source = Path::new(env!("CARGO_MANIFEST_DIR")).join("preload/failing_read.c");
-    let library = folder.join("failing_read.so");
-    let compiled = Command::new("cc").args(["-shared", "-fPIC", "-o"]).arg(&library).arg(&source).status().expect("cc is there");
-    assert!(compiled.success(), "{} is compiled", source.display());
-    let mut command = program::command(folder);
-    command.env("LD_PRELOAD", &library);
-    command
+    program::preloaded(program::command(folder), folder, "failing_read")
 }
 
 #[test]

@@ -12,6 +12,7 @@ pub mod loops;
 pub mod moves;
 pub mod policy;
 pub mod script;
+pub mod survey;
 pub mod tidy;
 pub mod turned;
 pub mod wcnf;
