@@ -331,13 +331,13 @@ shortObjectives =
 
 -- ---- the highest user, roles, permissions and session
 
--- The largest head. User 63 has the roles 31, 32 and 63, and may not have had both 31 and 32. Role 63 is over 16 and that over 62, which
--- are granted 127 and 255, and which the user may so activate too.
+-- The largest head. User 63 has the roles 32 and 63, and may not have had both 32 and 62. Role 63 is over 62, which is granted 127 and 255,
+-- and which the user may so activate too.
 unfoldable pub far : List ℕ
 far =
     imageOf
-    (headWord 64 64 256 ∷ assignWord 63 31 ∷ assignWord 63 32 ∷ assignWord 63 63 ∷ grantWord 16 127 ∷ grantWord 31 0 ∷ grantWord 32 1
-    ∷ grantWord 62 255 ∷ grantWord 63 192 ∷ seniorWord 16 62 ∷ seniorWord 63 16 ∷ exclusionWord 3 2 2 ∷ memberWord 31 ∷ memberWord 32 ∷ [])
+    (headWord 64 64 256 ∷ assignWord 63 32 ∷ assignWord 63 63 ∷ grantWord 32 1 ∷ grantWord 62 127 ∷ grantWord 62 255 ∷ grantWord 63 192
+    ∷ seniorWord 63 62 ∷ exclusionWord 3 2 2 ∷ memberWord 32 ∷ memberWord 62 ∷ [])
 
 -- a ledger of 64 users, zero but for the last line
 unfoldable pub lastLine : List ℕ → List ℕ
@@ -349,13 +349,14 @@ lineOf63 opened roles = lastLine (line opened roles idle idle (session roles rol
 
 unfoldable pub lastUser : HostCase
 lastUser =
-    let upper = bound (0 ∷ 1 ∷ 127 ∷ 192 ∷ 255 ∷ []) in
-    let after = lineOf63 eight (16 ∷ 32 ∷ 62 ∷ 63 ∷ []) in
+    let upper = bound (1 ∷ 127 ∷ 192 ∷ 255 ∷ []) in
+    let after = lineOf63 eight (32 ∷ 63 ∷ []) in
     under far (lineOf63 (take 7 eight) [])
     (changes (openBy 63) 1792 (lineOf63 eight [])
-    -- most roles: 63 and those below it count
-    ∷ fills (askBy 63 7 (bound (1 ∷ [])) upper 0 2 40) (full (16 ∷ 32 ∷ 62 ∷ 63 ∷ []) (1 ∷ 127 ∷ 192 ∷ 255 ∷ [])) after
-    ∷ leaves after (shortAskBy 63 7 (bound (0 ∷ [])) upper 40) 40 20
+    -- most roles: with 32 not 62, and 63, which carries what 62 does
+    ∷ fills (askBy 63 7 (bound (1 ∷ [])) upper 0 2 40) (full (32 ∷ 63 ∷ []) (1 ∷ 127 ∷ 192 ∷ 255 ∷ [])) after
+    -- 62 alone carries no more than these, and 32 was active
+    ∷ leaves after (shortAskBy 63 7 (bound (127 ∷ [])) (bound (127 ∷ 255 ∷ [])) 40) 40 20
     ∷ leaves after (openBy 64) 0 10
     ∷ [])
 
