@@ -10,23 +10,24 @@ use Rattle.model.specs.declared.Kind.the-variants.{SsDmer, MsDmer, SsHmer, MsHm
 use Rattle.model.specs.declared.Exclusion.{Exclusion}
 use Rattle.model.specs.Tests.{pick}
 use Rattle.model.specs.Image.{kindOf}
-use Rattle.rows.specs.Rows.{numberOf, exclusionOf}
+use Rattle.model.specs.Policy.{kindNumber}
+use Rattle.rows.specs.Rows.{exclusionOf}
 
-kind-back : (k : Kind) (l : ℕ) → kindOf ((4 * l + numberOf k) % 4) ≡ k
-unfolding numberOf kindOf pick
+kind-back : (k : Kind) (l : ℕ) → kindOf ((4 * l + kindNumber k) % 4) ≡ k
+unfolding kindNumber kindOf pick
 kind-back SsDmer l = let e : (4 * l + 0) % 4 ≡ 0 = omega arith in ap kindOf e
 kind-back MsDmer l = let e : (4 * l + 1) % 4 ≡ 1 = omega arith in ap kindOf e
 kind-back SsHmer l = let e : (4 * l + 2) % 4 ≡ 2 = omega arith in ap kindOf e
 kind-back MsHmer l = let e : (4 * l + 3) % 4 ≡ 3 = omega arith in ap kindOf e
 
-number-small : (k : Kind) → numberOf k < 4
-unfolding numberOf
+number-small : (k : Kind) → kindNumber k < 4
+unfolding kindNumber
 number-small SsDmer = omega arith
 number-small MsDmer = omega arith
 number-small SsHmer = omega arith
 number-small MsHmer = omega arith
 
-pub packed : (x : Exclusion) (n : ℕ) → x .limit < 256 → n ≡ numberOf (x .kind) → exclusionOf ((4 * x .limit + n) ∷ x .members ∷ []) ≡ x
+pub packed : (x : Exclusion) (n : ℕ) → x .limit < 256 → n ≡ kindNumber (x .kind) → exclusionOf ((4 * x .limit + n) ∷ x .members ∷ []) ≡ x
 unfolding exclusionOf
 packed x n h e =
     let s = number-small (x .kind) in

@@ -3,18 +3,9 @@
 use mathlib.Core.List.{List, map}
 use Prim.Native.Nat.{ℕ, _/_, _%_}
 use lib.ListN.{getD}
-use Rattle.model.specs.declared.Kind.{Kind}
-use Rattle.model.specs.declared.Kind.the-variants.{SsDmer, MsDmer, SsHmer, MsHmer}
 use Rattle.model.specs.declared.Exclusion.{Exclusion}
 use Rattle.model.specs.declared.Exclusions.{Exclusions}
 use Rattle.model.specs.Image.{kindOf}
-
--- the number of a kind in an image
-unfoldable pub numberOf : Kind → ℕ
-numberOf SsDmer = 0
-numberOf MsDmer = 1
-numberOf SsHmer = 2
-numberOf MsHmer = 3
 
 -- the exclusion of a row
 unfoldable pub exclusionOf : List ℕ → Exclusion

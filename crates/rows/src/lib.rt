@@ -2,7 +2,8 @@
 // its members in the second.
 ghost use mathlib.Core.Path.{_≡_};
 ghost use Rattle.model.specs.Image.{kindOf};
-ghost use Rattle.rows.specs.Rows.{numberOf, exclusionOf};
+ghost use Rattle.model.specs.Policy.{kindNumber};
+ghost use Rattle.rows.specs.Rows.{exclusionOf};
 use model::Exclusion;
 use model::Kind;
 
@@ -19,8 +20,8 @@ pub fn kind_of(k: u8) -> Kind
 }
 
 // The number of a kind in an image.
-fn number_of(kind: Kind) -> u8
-    ensures { λ r. ⌜ r ≡ numberOf kind ⌝ }
+pub fn number_of(kind: Kind) -> u8
+    ensures { λ r. ⌜ r ≡ kindNumber kind ⌝ }
 {
     match kind {
         Kind::SsDmer => 0,

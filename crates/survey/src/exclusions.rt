@@ -3,7 +3,6 @@ ghost use mathlib.Core.Path.{_≡_};
 ghost use mathlib.Core.List.{map};
 ghost use Prim.Native.Nat.{_+_, _≤_};
 ghost use lib.ListN.{length, take};
-ghost use Rattle.model.specs.Policy.{kindNumber};
 ghost use Rattle.rows.specs.Rows.{exclusionOf};
 ghost use Rattle.text.specs.Writing.{Puts};
 ghost use Rattle.survey.specs.Survey.{exclusionLine, exclusionLines};
@@ -12,24 +11,11 @@ use crate::figures::put_four;
 use crate::figures::put_two;
 use model::Checked;
 use model::Exclusion;
-use model::Kind;
 
 // What is printed before the script is read: how much of the buffer it fills, and whether the image is accepted.
 pub struct Opening {
     pub filled: usize,
     pub accepted: bool,
-}
-
-// The number of a kind.
-fn number(kind: Kind) -> u64
-    ensures { λ r. ⌜ r ≡ kindNumber kind ⌝ }
-{
-    match kind {
-        Kind::SsDmer => 0,
-        Kind::MsDmer => 1,
-        Kind::SsHmer => 2,
-        Kind::MsHmer => 3,
-    }
 }
 
 // Writes the line of an exclusion.
@@ -38,10 +24,10 @@ fn put_exclusion(out: &mut [u8], at: usize, x: Exclusion) -> usize
     ensures { λ r. ⌜ (Puts (now (out .entry)) at (exclusionLine x) (now (out .exit)) r) × (r ≤ at + 84) ⌝ }
 {
     let kind = x.kind;
-    let which = number(kind);
+    let which = rows::number_of(kind);
     let size = sets::size(x.members);
     let sets = choose::allowed(size as usize, x.limit as usize);
-    put_four(out, at, which, x.limit as u64, size as u64, sets)
+    put_four(out, at, which as u64, x.limit as u64, size as u64, sets)
 }
 
 // Writes the lines of the exclusions in the first rows.

@@ -1,24 +1,24 @@
 -- `rows::number_of` meets its contract.
 -- Assumes nothing.
 use borrow.Author.Needs.{needs}
-use Rattle.rows.specs.Rows.{numberOf}
+use Rattle.model.specs.Policy.{kindNumber}
 use Rattle.rows.proofs.number_of.Statement.{statement}
 use Rattle.rows.proofs.number_of.Tie as tie
 
 returns : tie.Need-returns
-unfolding numberOf
+unfolding kindNumber
 returns c = rw (c .enum-told .given .1)
 
 returns-2 : tie.Need-returns-2
-unfolding numberOf
+unfolding kindNumber
 returns-2 c = rw (c .enum-told2 .given .1)
 
 returns-3 : tie.Need-returns-3
-unfolding numberOf
+unfolding kindNumber
 returns-3 c = rw (c .enum-told3 .given .1)
 
 returns-4 : tie.Need-returns-4
-unfolding numberOf
+unfolding kindNumber
 returns-4 c = rw (c .enum-told4 .given .1)
 
 pub number-of-spec : {M : Type 1} → statement M

@@ -20,7 +20,7 @@ returns c =
     let z = g .before .before in
     let k = z .before in
     let f = k .before .before in
-    (puts-as (exclusion-is (f .args .x) _ _ _ (k .number .ensures) (z .size .ensures) (g .allowed .ensures)) (e .put-four .ensures .0), e .put-four .ensures .1)
+    (puts-as (exclusion-is (f .args .x) _ _ _ (k .number-of .ensures) (z .size .ensures) (g .allowed .ensures)) (e .put-four .ensures .0), e .put-four .ensures .1)
 
 pub put-exclusion-spec : {M : Type 1} → statement M
-put-exclusion-spec = tie.close (tie.spec (λ c κs. search needs) (λ c κs. search needs) (λ c. search needs) (λ c. search needs) allowed-requires (λ c. search needs) (λ c. search needs) (λ c κs. search needs) (λ c. search needs) returns)
+put-exclusion-spec = tie.close (tie.spec (λ c κs. search needs) (λ c κs. search needs) (λ c. search needs) (λ c. search needs) allowed-requires (λ c. search needs) (λ c. search needs) (λ c. search needs) (λ c κs. search needs) (λ c. search needs) returns)
