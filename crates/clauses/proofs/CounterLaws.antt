@@ -23,13 +23,13 @@ use Rattle.clauses.proofs.LineLaws.{lines-joined, lines-one}
 
 module _ {A : Type 0} (g : ℕ → A) where
   -- nothing below n
-  listed-none : (n : ℕ) (f : ℕ → Bool) → ((i : ℕ) → i < n → f i ≡ false) → listTo n (λ i. when (f i) (g i)) ≡ []
+  pub listed-none : (n : ℕ) (f : ℕ → Bool) → ((i : ℕ) → i < n → f i ≡ false) → listTo n (λ i. when (f i) (g i)) ≡ []
   unfolding listTo when
   listed-none zero f h = refl
   listed-none (suc n) f h = rw (h n (omega arith), listed-none n f (λ i l. h i (omega arith)))
 
   -- the first of those that pass, and the others
-  listed-first :
+  pub listed-first :
       (n k : ℕ) (f h : ℕ → Bool) → k < n → f k ≡ true → ((i : ℕ) → i < k → f i ≡ false) → h k ≡ false → ((i : ℕ) → (i ≡ k → ⊥) → h i ≡ f i)
       → listTo n (λ i. when (f i) (g i)) ≡ g k ∷ listTo n (λ i. when (h i) (g i))
   unfolding listTo when

@@ -42,11 +42,6 @@ unfolding clausesText
 softs-joined [] ds = refl
 softs-joined (c ∷ cs) ds = rw (softs-joined cs ds) (sym (append-assoc (clauseText c) (clausesText cs) (clausesText ds)))
 
-pub literals-joined : (cs ds : Clause) → literalsText (cs ++ ds) ≡ literalsText cs ++ literalsText ds
-unfolding literalsText
-literals-joined [] ds = refl
-literals-joined (c ∷ cs) ds = rw (literals-joined cs ds) (sym (append-assoc (literalText c) (literalsText cs) (literalsText ds)))
-
 -- one line is what there is of one clause
 pub lines-one : (w : ℕ) (c : Clause) → lineOf w c ≡ linesOf w (c ∷ [])
 unfolding linesOf weighing clausesText lineOf
@@ -82,22 +77,6 @@ module _ (w : ℕ) (f : ℕ → List Clause) where
   unfolding linesOf weighing clausesText
   lines-done = list-done (linesOf w) refl (lines-joined w) f
 
-module _ (f : ℕ → List Literal) where
-  pub literals-none : (l : List ℕ) (at : ℕ) → Puts l at (literalsText (listTo 0 f)) l at
-  unfolding literalsText
-  literals-none = list-none literalsText refl literals-joined f
-
-  pub literals-next :
-      {l m a : List ℕ} {at n r : ℕ} (i : ℕ) → Puts l at (literalsText (listTo i f)) m n → Puts m n (literalsText (f i)) a r
-      → Puts l at (literalsText (listTo (i + 1) f)) a r
-  unfolding literalsText
-  literals-next = list-next literalsText refl literals-joined f
-
-  pub literals-done :
-      {l a : List ℕ} {at r : ℕ} (i n : ℕ) → i ≤ n → n ≤ i → Puts l at (literalsText (listTo i f)) a r → Puts l at (literalsText (listTo n f)) a r
-  unfolding literalsText
-  literals-done = list-done literalsText refl literals-joined f
-
 module _ (f : ℕ → List Weighted) where
   pub softs-none : (l : List ℕ) (at : ℕ) → Puts l at (clausesText (listTo 0 f)) l at
   unfolding clausesText
@@ -113,7 +92,7 @@ module _ (f : ℕ → List Weighted) where
   unfolding clausesText
   softs-done = list-done clausesText refl softs-joined f
 
--- ---- one clause or literal where a test holds
+-- ---- one clause where a test holds
 
 pub line-if : {l a : List ℕ} {at r : ℕ} (w : ℕ) (b : Bool) (c : Clause) → b ≡ true → Puts l at (lineOf w c) a r → Puts l at (linesOf w (when b c)) a r
 unfolding when
@@ -122,14 +101,6 @@ line-if w b c e p = rw e (puts-as (lines-one w c) p)
 pub line-unless : (l : List ℕ) (at w : ℕ) (b : Bool) (c : Clause) → b ≡ false → Puts l at (linesOf w (when b c)) l at
 unfolding when linesOf weighing clausesText
 line-unless l at w b c e = rw e (put-nothing l at)
-
-pub literal-if : {l a : List ℕ} {at r : ℕ} (b : Bool) (t : Literal) → b ≡ true → Puts l at (literalText t) a r → Puts l at (literalsText (when b t)) a r
-unfolding when literalsText
-literal-if b t e p = rw e (puts-as (sym (append-nil (literalText t))) p)
-
-pub literal-unless : (l : List ℕ) (at : ℕ) (b : Bool) (t : Literal) → b ≡ false → Puts l at (literalsText (when b t)) l at
-unfolding when literalsText
-literal-unless l at b t e = rw e (put-nothing l at)
 
 -- a literal, and those behind it
 pub line-more :

@@ -24,10 +24,6 @@ pub count-start : (s : ℕ) → 0 ≡ count 0 s
 unfolding count countTo
 count-start s = refl
 
-pub count-next : (s i n t : ℕ) → n ≡ count i s → t ≡ one (has s i) → n + t ≡ count (i + 1) s
-unfolding count countTo
-count-next s i n t e f = let g : i + 1 ≡ suc i = add-one i in rw g (omega arith)
-
 pub count-bound : (d s : ℕ) → count d s ≤ d
 unfolding count
 count-bound d s = counted-le (has s) d

@@ -1,8 +1,9 @@
 -- The parts of the clause text, by the words that the code has: R roles, P permissions, what role r carries as `row r`.
 -- Assumes nothing.
+use mathlib.Core.Path.{_≡_}
 use mathlib.Core.Bool.{not}
 use mathlib.Core.List.{List, [], _∷_, _++_}
-use Prim.Native.Nat.{ℕ, zero, suc, _+_, _*_}
+use Prim.Native.Nat.{ℕ, zero, suc, _+_, _*_, _<_}
 use lib.ListN.{getD, length}
 use Rattle.model.specs.Sets.{has}
 use Rattle.model.specs.Clauses.{Literal, holds, fails, Clause, Weighted, listTo, when, must, mustNot, gives, roleVariable, variablesIn, counter, wanting}
@@ -46,6 +47,14 @@ carrier row q r = when (has (row r) q) (holds (roleVariable r))
 
 unfoldable pub carriersTo : ℕ → (ℕ → ℕ) → ℕ → List Literal
 carriersTo R row q = listTo R (λ r. carrier row q r)
+
+-- the roles of a set below R
+unfoldable pub rolesIn : ℕ → ℕ → List Literal
+rolesIn R set = listTo R (λ r. when (has set r) (holds (roleVariable r)))
+
+-- for each permission the roles below R whose rows have it
+pub record Columns (R : ℕ) (row : ℕ → ℕ) (table : List ℕ) : Type 0 where
+  pub same : (r q : ℕ) → r < R → q < 256 → has (getD table q 0) r ≡ has (row r) q
 
 unfoldable pub carriedOne : ℕ → (ℕ → ℕ) → ℕ → Clause
 carriedOne R row q = fails (R + q + 1) ∷ carriersTo R row q

@@ -1,0 +1,11 @@
+-- `clauses::members::low_members` meets its contract.
+-- Assumes nothing.
+use borrow.Author.Needs.{needs}
+use Rattle.clauses.proofs.MemberLaws.{low-divides, low-some, low-all}
+use Rattle.clauses.proofs.members.low_members.Statement.{statement}
+use Rattle.clauses.proofs.members.low_members.Tie as tie
+
+pub low-members-spec : {M : Type 1} → statement M
+low-members-spec =
+    tie.close
+    (tie.spec (λ c. search needs) (λ c. search (needs, low-divides)) (λ c. search (needs, low-some)) (λ c. search (needs, low-all)))
