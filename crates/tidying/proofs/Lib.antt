@@ -21,5 +21,9 @@ pub mod TidyGroups
 pub mod TidyImage
 pub mod TidyProof
 pub mod TidyFrameProof
+pub mod Permutations
+pub mod ExclusionsMoved
+pub mod OrderProof
+pub mod OrderCasesProof
 pub mod TidyCasesProof
 pub mod Theorems

@@ -9,10 +9,12 @@ use Rattle.model.specs.declared.Head.{Head}
 use Rattle.model.specs.declared.Checked.the-variants.{Accepted}
 use Rattle.model.specs.Judgement.{judge}
 use Rattle.model.specs.Policy.{Policy, policyOf}
-use Rattle.tidying.specs.Groups.{Acceptable}
+use Rattle.tidying.specs.Groups.{Group, Acceptable}
 use Rattle.tidying.specs.Same.{SameSets, SamePolicy, Alike}
 use Rattle.tidying.specs.Tidy.{tidyOf, TidyOrder, TidyWords, Shared, TidyFrame}
 use Rattle.tidying.specs.TidyCases.{TidyCases}
+use Rattle.tidying.specs.Order.{Reordered, OrderFree, Covered}
+use Rattle.tidying.specs.OrderCases.{OrderCases}
 use Rattle.tidying.proofs.AcceptableProof
 use Rattle.tidying.proofs.SameSetsProof
 use Rattle.tidying.proofs.TidyOrderProof
@@ -20,6 +22,8 @@ use Rattle.tidying.proofs.TidyImage
 use Rattle.tidying.proofs.TidyProof
 use Rattle.tidying.proofs.TidyFrameProof
 use Rattle.tidying.proofs.TidyCasesProof
+use Rattle.tidying.proofs.OrderProof
+use Rattle.tidying.proofs.OrderCasesProof
 
 -- ---- acceptance without order
 
@@ -32,6 +36,22 @@ acceptable-is = AcceptableProof.acceptable-is
 -- smallest limits
 pub same-policies : (s t : List ℕ) (h k : Head) → judge s ≡ Accepted h → judge t ≡ Accepted k → SamePolicy (policyOf s) (policyOf t) ↔ SameSets s t
 same-policies s t h k a b = (SameSetsProof.policy-sets s t h k a b, SameSetsProof.sets-policy s t h k a b)
+
+-- ---- order of entries
+
+-- entries of an accepted image moved about between head and end, an exclusion together with its members, and the members of an exclusion
+-- among themselves: the image is accepted with the same head, and has the same end word, policy and tidy image, and every call but the
+-- clause text answers alike on every ledger, and so do whole runs
+pub order-free : (s t : List ℕ) (h : Head) → judge s ≡ Accepted h → Reordered s t → OrderFree s t h
+order-free = OrderProof.order-free
+
+-- every such move is covered
+pub moves-covered : (head : ℕ) (gs ks : List Group) (last : ℕ) → Covered head gs ks last
+moves-covered = OrderProof.covered
+
+-- an image and a reordered one, their clause texts, and moves that are none of these, by computation
+pub order-cases : OrderCases
+order-cases = OrderCasesProof.order-cases
 
 -- ---- the tidy image of an accepted image
 

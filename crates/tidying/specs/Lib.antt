@@ -3,3 +3,5 @@ pub mod Groups
 pub mod Same
 pub mod Tidy
 pub mod TidyCases
+pub mod Order
+pub mod OrderCases
