@@ -1,5 +1,6 @@
 //! The kit and the solver side by side: cases spread over the cores, answers counted, what differs shrunk and printed.
 
+use crate::gen::order::Moved;
 use crate::gen::Rng;
 use crate::kit::{self, Empty};
 use crate::solver::calls::{self, Call, Reply};
@@ -444,4 +445,69 @@ fn shrink_run(run: &mut Run) {
     shrink_image(&mut run.image, |image| fails(&Run { image: image.to_vec(), ..whole.clone() }));
     let whole = run.clone();
     zero_bytes(&mut run.ledger, |ledger| fails(&Run { ledger: ledger.to_vec(), ..whole.clone() }));
+}
+
+/// What a call by the kit alone leaves: the number returned, every byte of the ledger and of the answer buffer.
+#[derive(Clone, Debug, PartialEq, Eq)]
+pub struct Left {
+    pub returned: u64,
+    pub ledger: Vec<u8>,
+    pub answer: Vec<u8>,
+}
+
+/// One call by the kit alone.
+pub fn leaves(image: &[u8], ledger: &[u8], call: &Call, empty: Empty) -> Left {
+    let (mut ledger, mut answer) = (Guarded::new(ledger, 0xC3), Guarded::new(&filler(call.room(), 0xC3), 0x3C));
+    let returned = kit::play(empty, image, ledger.inner(), call, answer.inner());
+    assert!(ledger.guards_stand() && answer.guards_stand(), "bytes outside ledger and answer changed by {call:?}");
+    Left { returned, ledger: ledger.inner().to_vec(), answer: answer.inner().to_vec() }
+}
+
+/// The check, the tidy call and a run of calls by the kit alone under two images: what each call leaves, or what differs.
+fn left_by(images: &[Vec<u8>; 2], ledger: &[u8], calls: &[Call], empty: Empty) -> Result<Vec<Left>, String> {
+    let [one, other] = images;
+    let tidy = |image: &Vec<u8>| {
+        let mut out = filler(image.len() + 8, 0xC3);
+        (kit::tidy(empty, image, &mut out), out)
+    };
+    if kit::check(empty, one) != kit::check(empty, other) {
+        return Err(format!("the checks answer {} and {}", kit::check(empty, one), kit::check(empty, other)));
+    }
+    if tidy(one) != tidy(other) {
+        return Err("the tidy images differ".to_string());
+    }
+    let mut left: Vec<Left> = Vec::new();
+    for (place, call) in calls.iter().enumerate() {
+        let before = left.last().map_or(ledger, |left| &left.ledger);
+        let [one, other] = [one, other].map(|image| leaves(image, before, call, empty));
+        if one != other {
+            return Err(format!("call {place} leaves {one:02x?} and {other:02x?}"));
+        }
+        left.push(one);
+    }
+    Ok(left)
+}
+
+/// The check, the tidy call and a run of calls by the kit alone, alike under an image and under the same entries moved about; panics with
+/// shrunk images, calls and ledger if they differ.
+pub fn alike(moved: &Moved, ledger: &[u8], calls: &[Call], empty: Empty) -> Vec<Left> {
+    left_by(&moved.images(), ledger, calls, empty).unwrap_or_else(|_| {
+        let (mut small, mut calls, mut ledger) = (moved.clone(), calls.to_vec(), ledger.to_vec());
+        drop_parts(&mut calls, |less| left_by(&moved.images(), &ledger, less, empty).is_err());
+        drop_parts(&mut small.entries, |less| {
+            let less = Moved { head: moved.head, entries: less.to_vec() };
+            left_by(&less.images(), &ledger, &calls, empty).is_err()
+        });
+        let images = small.images();
+        zero_bytes(&mut ledger, |less| left_by(&images, less, &calls, empty).is_err());
+        let text = left_by(&images, &ledger, &calls, empty).expect_err("the shrunk run still fails");
+        panic!(
+            "seed {}: {text}\nimages: {}\n        {}\nledger of {} bytes, zero but for\n{}\ncalls: {calls:?}",
+            seed(),
+            image_text(&images[0]),
+            image_text(&images[1]),
+            ledger.len(),
+            nonzero_lines(&ledger, LINE),
+        );
+    })
 }

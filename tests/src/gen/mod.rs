@@ -4,6 +4,7 @@ pub mod call;
 pub mod damage;
 pub mod hierarchy;
 pub mod ledger;
+pub mod order;
 pub mod policy;
 pub mod script;
 
