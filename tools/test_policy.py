@@ -25,6 +25,13 @@ LOADER.exec_module(policy)
 A = [0x102080A0, 0x20000000, 0x20010000, 0x30000000, 0x30004000, 0x30008000, 0x3000C000, 0x30404000, 0x30410000, 0x54102000,
      0x60000000, 0x60400000, 0xFB0B9F60]
 
+# An image with two exclusions and two limits, and the same with its entries moved about, the members of each exclusion too: `plain` and
+# `turned` of crates/tidying/specs/OrderCases.antt.
+PLAIN = [0x10210040, 0x20000000, 0x20010000, 0x20020000, 0x20030000, 0x30000000, 0x30804000, 0x54102000, 0x60000000, 0x60400000,
+         0x50102000, 0x60800000, 0x60C00000, 0x70004000, 0x70006000, 0xF9B7DFC0]
+TURNED = [0x10210040, 0x70006000, 0x20000000, 0x20010000, 0x20020000, 0x20030000, 0x30000000, 0x30804000, 0x50102000, 0x60C00000,
+          0x60800000, 0x54102000, 0x60400000, 0x60000000, 0x70004000, 0xF9B7DFC0]
+
 # Two users, three roles, four permissions: what most texts below start with.
 START = "user ANNA BERT\nrole Doctor Nurse Clerk\npermission Read Write Send Print\n"
 
@@ -449,17 +456,22 @@ class Listing(unittest.TestCase):
         self.assertEqual(self.again(words), words)
 
 
+def reordered(dice, said):
+    """A policy with the entries of another in any order, and the members of each exclusion in any order."""
+    entries = dice.sample(said.entries, len(said.entries))
+    members = [dice.sample(entry[3], len(entry[3])) if entry[0] == policy.EXCLUSION else None for entry in entries]
+    return policy.Policy(said.counts, [entry if own is None else (*entry[:3], own) for entry, own in zip(entries, members)])
+
+
 def shuffled(dice, said):
-    """A policy with the entries of another in any order, some of them twice, and the members of each exclusion in any order."""
+    """The same with some of the entries twice."""
     entries = list(said.entries)
     exclusions = sum(entry[0] == policy.EXCLUSION for entry in entries)
     for entry in dice.sample(entries, dice.randrange(len(entries) + 1)):
         if entry[0] != policy.EXCLUSION or exclusions < 32:
             exclusions += entry[0] == policy.EXCLUSION
             entries.append(entry)
-    dice.shuffle(entries)
-    members = [dice.sample(entry[3], len(entry[3])) if entry[0] == policy.EXCLUSION else None for entry in entries]
-    return policy.Policy(said.counts, [entry if own is None else (*entry[:3], own) for entry, own in zip(entries, members)])
+    return reordered(dice, policy.Policy(said.counts, entries))
 
 
 class Tidying(unittest.TestCase):
@@ -511,6 +523,26 @@ class Tidying(unittest.TestCase):
             for place in range(len(tidy.entries)):
                 less = policy.Policy(said.counts, tidy.entries[:place] + tidy.entries[place + 1:])
                 self.assertNotEqual(policy.tidied(less).words(), tidy.words(), f"seed {seed}")
+
+
+class Order(unittest.TestCase):
+    def test_entries_in_any_order_keep_their_end_word_and_mean_the_same(self):
+        moved = 0
+        for seed in range(300):
+            dice = random.Random(seed)
+            said = random_policy(dice)
+            other = reordered(dice, said)
+            self.assertIsNone(refusal_of(policy.to_bytes(other.words())), f"seed {seed}")
+            self.assertEqual(other.words()[-1], said.words()[-1], f"seed {seed}")
+            self.assertEqual(policy.differences(said, other, policy.plain_names(said.counts)), [], f"seed {seed}")
+            self.assertEqual(policy.tidied(other).words(), policy.tidied(said).words(), f"seed {seed}")
+            moved += other.words() != said.words()
+        self.assertGreater(moved, 100)
+
+    def test_a_member_out_of_its_exclusion_the_head_moved_and_another_end_word_are_refused(self):
+        strayed, headless = [*PLAIN[:12], PLAIN[13], PLAIN[12], *PLAIN[14:]], [PLAIN[1], PLAIN[0], *PLAIN[2:]]
+        for words, refusal in [(strayed, (3, 12)), (headless, (2, 0)), ([*PLAIN[:15], PLAIN[15] + 1], (8, 15))]:
+            self.assertEqual(refusal_of(policy.to_bytes(words)), refusal)
 
 
 class Commands(unittest.TestCase):
@@ -595,6 +627,17 @@ class Commands(unittest.TestCase):
         with open(second, "rb") as file:
             self.assertEqual(file.read(), policy.to_bytes(A))
 
+    def test_list_and_build_keep_the_order_of_entries_and_of_members(self):
+        before = "assign user0 role0 role1 role2 role3\ngrant role0 permission0\ngrant role2 permission1\n"
+        plain = f"{before}exclude ms-dmer 2 role0 role1\nexclude ss-dmer 2 role2 role3\nlimit role0 2\nlimit role0 3\n"
+        turned = f"limit role0 3\n{before}exclude ss-dmer 2 role3 role2\nexclude ms-dmer 2 role1 role0\nlimit role0 2\n"
+        for words, lines in [(PLAIN, plain), (TURNED, turned)]:
+            status, text, _ = self.run_tool("list", self.path("first", policy.to_bytes(words)))
+            self.assertEqual((status, text.split("\n\n")[-1]), (0, lines))
+            self.assertEqual(self.run_tool("build", self.path("text", text.encode()), "-o", self.path("second"))[0], 0)
+            with open(self.path("second"), "rb") as file:
+                self.assertEqual(file.read(), policy.to_bytes(words))
+
     def test_list_refuses_a_refused_image(self):
         status, out, err = self.run_tool("list", self.path("bad", b"1234"))
         self.assertEqual((status, out), (1, ""))
@@ -625,6 +668,19 @@ class Commands(unittest.TestCase):
         first, second = self.path("a", policy.to_bytes(A)), self.path("b", image(A[0], A[9], *A[11:9:-1], *A[8:0:-1], *A[1:4]))
         for pair in [(first, second), (second, first), (first, first)]:
             self.assertEqual(self.run_tool("same", *pair), (0, "the same\n", ""))
+
+    def test_same_says_so_of_entries_moved_about_and_not_of_members_moved_across_exclusions(self):
+        plain, turned = self.path("plain", policy.to_bytes(PLAIN)), self.path("turned", policy.to_bytes(TURNED))
+        self.assertEqual(self.run_tool("same", plain, turned), (0, "the same\n", ""))
+        crossed = self.path("crossed", policy.to_bytes([*PLAIN[:9], PLAIN[11], PLAIN[10], PLAIN[9], *PLAIN[12:]]))
+        told = ("+ exclude ss-dmer 2 role1 role3\n- exclude ss-dmer 2 role2 role3\n"
+                "- exclude ms-dmer 2 role0 role1\n+ exclude ms-dmer 2 role0 role2\n")
+        self.assertEqual(self.run_tool("same", plain, crossed), (1, told, ""))
+        for seed in range(12):
+            dice = random.Random(seed)
+            said = random_policy(dice)
+            first, second = self.path("first", policy.to_bytes(said.words())), self.path("second", policy.to_bytes(reordered(dice, said).words()))
+            self.assertEqual(self.run_tool("same", first, second), (0, "the same\n", ""), f"seed {seed}")
 
     def test_same_tells_the_entries_that_only_one_image_has(self):
         changed = [A[0], A[1], *A[3:9], 0x30404000, 0x40010000, 0x5C102000, *A[10:12]]
