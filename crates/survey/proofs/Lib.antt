@@ -4,5 +4,6 @@ pub mod Answers
 pub mod AddUp
 pub mod Fit
 pub mod CasesProof
+pub mod OrderProof
 pub mod WriteLaws
 pub mod CountLaws

@@ -21,11 +21,13 @@ use Rattle.survey.specs.Survey.{answersOf, linesFor, countOf, allowed, s
 use Rattle.survey.specs.Counting.{Standing, Begins, countsFrom}
 use Rattle.survey.specs.Writing.{Fitting, openingOf, closingOf}
 use Rattle.survey.specs.Cases.{surveyed, cases}
+use Rattle.survey.specs.Order.{FollowsOrder}
 use Rattle.survey.proofs.Answers
 use Rattle.survey.proofs.AddUp
 use Rattle.survey.proofs.Fit
 use Rattle.survey.proofs.CountLaws
 use Rattle.survey.proofs.CasesProof
+use Rattle.survey.proofs.OrderProof
 
 -- ---- the exclusions
 
@@ -66,3 +68,7 @@ chunks-print = CountLaws.chunks-print
 -- listed surveys, by computation
 pub cases-print : all surveyed cases ≡ true
 cases-print = CasesProof.cases-print
+
+-- the survey follows image order, by two listed images that are one another with their entries moved about
+pub follows-order : FollowsOrder
+follows-order = OrderProof.follows-order
