@@ -74,7 +74,7 @@ enum nutrameza_number {
     NUTRAMEZA_AIM = 18,        /* an aim above 2 */
     NUTRAMEZA_ROOM = 19,       /* a buffer not of the size that the call asks for; one below the tidy image or the clause text */
     NUTRAMEZA_NONE = 20,       /* no admissible role set; no loop; no active role carries the permission */
-    NUTRAMEZA_SCRIPT = 21,     /* unreadable line, given by the program nutrameza_script alone */
+    NUTRAMEZA_SCRIPT = 21,     /* unreadable line, given by the script program alone, and counted by the survey */
     NUTRAMEZA_LOOP = 22,       /* image: senior words lead from a role back to it; tested after 8 and before 9 */
     NUTRAMEZA_REACH = 23,      /* image: a user may activate more than 16 roles; tested after 22 and before 9 */
     NUTRAMEZA_UPPER_SESSIONS = 24 /* ledger to be narrowed: a user has any of the sessions 4 to 7 open */
