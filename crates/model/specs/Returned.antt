@@ -1,5 +1,6 @@
 -- What a host sees: cases with the number that a C call returns, and the bytes of its answer buffer and of the ledger after it. Users,
--- roles, permissions and sessions up to the highest; lines that are not sound, each by one clause; every refusal of every call.
+-- roles, permissions and sessions up to the highest; lines that are not sound, each by one clause; every refusal from 9 to 20 of open,
+-- close, ask, short ask, show and explain, refused images, and every refusal of a check.
 -- Assumes nothing.
 use mathlib.Core.Bool.{Bool, true, _&&_}
 use mathlib.Core.List.{List, [], _∷_, _++_}

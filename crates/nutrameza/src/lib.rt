@@ -53,8 +53,8 @@ pub extern "C" fn nutrameza_loop(image: &[u8], chain: &mut [u8]) -> u64
     hierarchy::chain::show_loop(&juniors, head.roles, chain)
 }
 
-// Writes the tidy image of the image's policy at the front of the buffer: head, assignments, grants, seniors, exclusions, each group
-// ascending by its fields and without repeats. The extra is the number of words written; 19 for a buffer that is too small for them.
+// Writes the tidy image of the image's policy at the front of the buffer: head, assignments, grants, seniors, exclusions, limits, each
+// group ascending by its fields and without repeats, of limits the smallest for a role. The extra is the number of words written; 19 for a buffer that is too small for them.
 #[no_mangle]
 pub extern "C" fn nutrameza_tidy(image: &[u8], out: &mut [u8]) -> u64
     ensures { λ r. ⌜ (r ≡ tidyCall (now (image .entry)) (now (out .entry)) .number + 256 * tidyCall (now (image .entry)) (now (out .entry)) .extra)
