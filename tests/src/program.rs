@@ -5,6 +5,7 @@ use std::fs::File;
 use std::io::Write;
 use std::path::{Path, PathBuf};
 use std::process::{Child, Command, ExitStatus, Stdio};
+use std::sync::atomic::{AtomicU64, Ordering};
 
 /// Where the script's program is.
 pub fn path() -> PathBuf {
@@ -19,6 +20,48 @@ pub fn survey_path() -> PathBuf {
 fn named(variable: &str, program: &str) -> PathBuf {
     let beside = Path::new(env!("CARGO_MANIFEST_DIR")).join("../target/bin").join(program);
     std::env::var_os(variable).map_or(beside, PathBuf::from)
+}
+
+/// A fresh folder below that of a test run, with an image unless there is none.
+pub fn fresh(below: &str, image: Option<&[u8]>) -> PathBuf {
+    static NEXT: AtomicU64 = AtomicU64::new(0);
+    let number = NEXT.fetch_add(1, Ordering::Relaxed);
+    let folder = Path::new(below).join(format!("{}-{number}", std::process::id()));
+    std::fs::create_dir_all(&folder).expect("a folder is made");
+    if let Some(image) = image {
+        std::fs::write(folder.join("policy.img"), image).expect("the image is written");
+    }
+    folder
+}
+
+/// A golden case: its folder, its image, none where it has none, and its script.
+pub struct Golden {
+    pub folder: PathBuf,
+    pub image: Option<Vec<u8>>,
+    pub script: Vec<u8>,
+}
+
+impl Golden {
+    /// What a file of the case says.
+    pub fn says(&self, name: &str) -> String {
+        std::fs::read_to_string(self.folder.join(name))
+            .unwrap_or_else(|error| panic!("{}, {name}: {error}", self.folder.display()))
+    }
+}
+
+/// The golden cases, by name.
+pub fn golden() -> Vec<Golden> {
+    let golden = Path::new(env!("CARGO_MANIFEST_DIR")).join("golden");
+    let mut folders: Vec<PathBuf> =
+        std::fs::read_dir(&golden).expect("the golden files").map(|entry| entry.expect("a folder").path()).collect();
+    folders.sort();
+    assert!(folders.len() >= 17, "{} golden folders", folders.len());
+    let case = |folder: PathBuf| Golden {
+        image: std::fs::read(folder.join("policy.img")).ok(),
+        script: std::fs::read(folder.join("script")).expect("the script"),
+        folder,
+    };
+    folders.into_iter().map(case).collect()
 }
 
 /// The program, to be started in a folder, with input, output and standard error as pipes.

@@ -3,7 +3,7 @@
 
 use nutrameza_tests::compare::spread;
 use nutrameza_tests::gen::{damage, policy, script, Rng};
-use nutrameza_tests::program::{self, ending, run_in, run_on_file, start, start_in, Ending};
+use nutrameza_tests::program::{self, ending, fresh, golden, run_in, run_on_file, start, start_in, Ending};
 use nutrameza_tests::solver::image::judge;
 use nutrameza_tests::solver::script::output;
 use nutrameza_tests::{ward, words};
@@ -13,23 +13,15 @@ use std::os::unix::fs::PermissionsExt;
 use std::os::unix::process::{CommandExt, ExitStatusExt};
 use std::path::{Path, PathBuf};
 use std::process::Command;
-use std::sync::atomic::{AtomicU64, Ordering};
 
 /// A fresh folder of this test run.
 fn folder() -> PathBuf {
-    static NEXT: AtomicU64 = AtomicU64::new(0);
-    let number = NEXT.fetch_add(1, Ordering::Relaxed);
-    let folder = Path::new(env!("CARGO_TARGET_TMPDIR")).join(format!("{}-{number}", std::process::id()));
-    std::fs::create_dir_all(&folder).expect("a folder is made");
-    folder
+    fresh(env!("CARGO_TARGET_TMPDIR"), None)
 }
 
 /// What the program prints for an image (none: no file) and a script.
 fn run(image: Option<&[u8]>, script: &[u8]) -> Vec<u8> {
-    let folder = folder();
-    if let Some(image) = image {
-        std::fs::write(folder.join("policy.img"), image).expect("the image is written");
-    }
+    let folder = fresh(env!("CARGO_TARGET_TMPDIR"), image);
     let printed = run_in(&folder, script);
     std::fs::remove_dir_all(&folder).expect("the folder is removed");
     printed
@@ -345,17 +337,10 @@ fn an_image_that_may_not_be_read_counts_as_empty() {
 
 #[test]
 fn prints_what_the_golden_files_say() {
-    let golden = Path::new(env!("CARGO_MANIFEST_DIR")).join("golden");
-    let mut names: Vec<PathBuf> =
-        std::fs::read_dir(&golden).expect("the golden files").map(|entry| entry.expect("a folder").path()).collect();
-    names.sort();
-    assert!(names.len() >= 13, "{} golden folders", names.len());
-    for case in names {
-        let image = std::fs::read(case.join("policy.img")).ok();
-        let script = std::fs::read(case.join("script")).expect("the script");
-        let answers = std::fs::read_to_string(case.join("answers")).expect("the answers");
-        assert_eq!(text(image.as_deref(), &script), answers, "{}", case.display());
-        assert_eq!(run_on_file(&case, &case.join("script")), answers.as_bytes(), "{}", case.display());
+    for case in golden() {
+        let (answers, name) = (case.says("answers"), case.folder.display());
+        assert_eq!(text(case.image.as_deref(), &case.script), answers, "{name}");
+        assert_eq!(run_on_file(&case.folder, &case.folder.join("script")), answers.as_bytes(), "{name}");
     }
 }
 

@@ -4,26 +4,18 @@
 
 use nutrameza_tests::compare::{seed, spread};
 use nutrameza_tests::gen::{damage, policy, script, Rng};
-use nutrameza_tests::program::{command_of, ending, preloaded, run_of_on_file, shell_of, start, survey_path};
+use nutrameza_tests::program::{command_of, ending, fresh, golden, preloaded, run_of_on_file, shell_of, start, survey_path};
 use nutrameza_tests::solver::image::judge;
 use nutrameza_tests::solver::policy::{Exclusion, Kind, Roles};
 use nutrameza_tests::solver::survey::{allowed, survey};
 use nutrameza_tests::{ward, words};
 use std::fs::{File, OpenOptions};
 use std::io::Write;
-use std::path::{Path, PathBuf};
-use std::sync::atomic::{AtomicU64, Ordering};
+use std::path::PathBuf;
 
 /// A fresh folder of this test run, with an image unless there is none.
 fn folder(image: Option<&[u8]>) -> PathBuf {
-    static NEXT: AtomicU64 = AtomicU64::new(0);
-    let number = NEXT.fetch_add(1, Ordering::Relaxed);
-    let folder = Path::new(env!("CARGO_TARGET_TMPDIR")).join(format!("survey-{}-{number}", std::process::id()));
-    std::fs::create_dir_all(&folder).expect("a folder is made");
-    if let Some(image) = image {
-        std::fs::write(folder.join("policy.img"), image).expect("the image is written");
-    }
-    folder
+    fresh(env!("CARGO_TARGET_TMPDIR"), image)
 }
 
 /// What the survey prints for an image (none: no file) and a script.
@@ -244,17 +236,11 @@ fn counts_millions_of_lines_in_little_memory() {
 
 #[test]
 fn prints_what_the_golden_files_say() {
-    let golden = Path::new(env!("CARGO_MANIFEST_DIR")).join("golden");
-    let mut names: Vec<PathBuf> =
-        std::fs::read_dir(&golden).expect("the golden files").map(|entry| entry.expect("a folder").path()).collect();
-    names.sort();
-    assert!(names.len() >= 17, "{} golden folders", names.len());
-    for case in names {
-        let image = std::fs::read(case.join("policy.img")).ok();
-        let script = std::fs::read(case.join("script")).expect("the script");
-        let figures = std::fs::read_to_string(case.join("survey")).expect("the survey");
-        assert_eq!(text(image.as_deref(), &script), figures, "{}", case.display());
-        assert_eq!(run_of_on_file(&survey_path(), &case, &case.join("script")), figures.as_bytes(), "{}", case.display());
+    for case in golden() {
+        let (figures, name) = (case.says("survey"), case.folder.display());
+        assert_eq!(text(case.image.as_deref(), &case.script), figures, "{name}");
+        let on_file = run_of_on_file(&survey_path(), &case.folder, &case.folder.join("script"));
+        assert_eq!(on_file, figures.as_bytes(), "{name}");
     }
 }
 
