@@ -1,8 +1,9 @@
 -- The run by bytes prints the transcript, in whatever chunks the bytes come and however often the text so far is written out.
 -- Assumes nothing.
 use mathlib.Core.Path.{_≡_, refl, sym, ap, _∙_}
-use mathlib.Core.List.{List, [], _∷_, _++_, append-assoc}
+use mathlib.Core.List.{List, [], _∷_, _++_, append-nil, append-assoc}
 use Prim.Native.Nat.{ℕ, _+_}
+use lib.ListN.{take, drop}
 use Rattle.model.specs.Judgement.{judge}
 use Rattle.model.specs.Run.{Event}
 use Rattle.script.specs.Script.{linesOf, answerTo, printed, printedFor, firstLedger, transcript}
@@ -10,7 +11,8 @@ use Rattle.chunks.specs.Kept.{linesFrom}
 use Rattle.chunks.specs.Joined.{joined, TakesAll}
 use Rattle.chunks.proofs.ChunksJoined.{all-taken}
 use Rattle.chunks.proofs.KeptLines.{cut, kept-answer, kept-lines}
-use Rattle.nutrameza_script.specs.Buffers.{outcome, Standing, Begins, printsFrom}
+use Rattle.nutrameza_script.specs.declared.lines.Place.{Place}
+use Rattle.nutrameza_script.specs.Buffers.{outcome, AnswersLines, Standing, Begins, printsFrom}
 
 -- a line is answered by the bytes that are kept of it
 printed-cut : (image ledger : List ℕ) (n : ℕ) (ls : List (List ℕ)) → printedFor image ledger n (cut ls) ≡ printedFor image ledger n ls
@@ -32,6 +34,19 @@ pub text-apart : (image ledger : List ℕ) (calls : ℕ) (before text : List ℕ
     → outcome image ledger calls (before ++ text) ls ≡ before ++ outcome image ledger calls text ls
 unfolding outcome
 text-apart image ledger calls before text ls = append-assoc before text (printedFor image ledger (calls + 1) ls)
+
+-- What `answer_lines` promises, with the text that was printed before: the buffer is empty before it, and its text is printed behind the other.
+pub lines-printed : (image chunk line ledger out : List ℕ) (p : Place) (line′ ledger′ out′ : List ℕ) (r : Place) → p .filled ≡ 0
+    → AnswersLines image chunk line ledger out p line′ ledger′ out′ r → (text more : List ℕ)
+    → outcome image ledger (p .calls) text (linesFrom (take (p .kept) line) (drop (p .next) chunk ++ more))
+    ≡ outcome image ledger′ (r .calls) (text ++ take (r .filled) out′) (linesFrom (take (r .kept) line′) (drop (r .next) chunk ++ more))
+lines-printed image chunk line ledger out p line′ ledger′ out′ r e a text more =
+    let left = linesFrom (take (p .kept) line) (drop (p .next) chunk ++ more) in
+    let empty : take (p .filled) out ≡ [] = ap (λ n. take n out) e in
+    ap (λ x. outcome image ledger (p .calls) x left) (sym (append-nil text))
+    ∙ text-apart image ledger (p .calls) text [] left
+    ∙ ap (λ x. text ++ x) (ap (λ x. outcome image ledger (p .calls) x left) (sym empty) ∙ a .same more)
+    ∙ sym (text-apart image ledger′ (r .calls) text (take (r .filled) out′) (linesFrom (take (r .kept) line′) (drop (r .next) chunk ++ more)))
 
 begins-as : (image input : List ℕ) (a : Standing) → Begins image a
     → printsFrom image a input ≡ outcome image (firstLedger (judge image)) 0 [] (linesFrom [] input)

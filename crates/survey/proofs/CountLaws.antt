@@ -19,12 +19,13 @@ use Rattle.model.specs.Session.{Reply}
 use Rattle.model.specs.Run.{Event}
 use Rattle.script.specs.Script.{linesOf, answerTo, firstLedger}
 use Rattle.chunks.specs.Kept.{lastLine, linesFrom}
-use Rattle.chunks.specs.Joined.{joined, TakesAll}
+use Rattle.chunks.specs.Joined.{joined, Takes, TakesAll}
 use Rattle.chunks.proofs.ChunksJoined.{all-taken}
 use Rattle.chunks.proofs.Steps.{ends, last-none, last-some}
 use Rattle.chunks.proofs.KeptLines.{cut, kept-answer, kept-lines}
 use Rattle.survey.specs.Survey.{answersFor, answersOf, countOf, twoFigures, exclusionLines, countLines, surveyBy, survey}
-use Rattle.survey.specs.Counting.{noted, tally, Most, Standing, Begins, countsFrom}
+use Rattle.survey.specs.declared.counts.Counted.{Counted}
+use Rattle.survey.specs.Counting.{noted, tally, Most, CountsChunk, Standing, Begins, countsFrom}
 use Rattle.survey.specs.Writing.{openingOf, closingOf}
 use Rattle.survey.proofs.Answers.{answer-small}
 
@@ -147,6 +148,14 @@ pub run-prints : (image input : List ℕ)
     ≡ survey image input
 unfolding survey
 run-prints image input = by-judgement (judge image) image input _ (run-counts image input)
+
+-- A chunk that is counted as `count_chunk` promises takes one standing to the other.
+pub chunk-taken : {image chunk line : List ℕ} {kept : ℕ} {ledger counts : List ℕ} {calls : ℕ} {line′ ledger′ counts′ : List ℕ} {r : Counted}
+    → CountsChunk image chunk line kept ledger counts calls line′ ledger′ counts′ r
+    → Takes Standing (List ℕ) (countsFrom image) chunk (record { line = line; kept = kept; ledger = ledger; counts = counts })
+    (record { line = line′; kept = r .kept; ledger = ledger′; counts = counts′ })
+unfolding countsFrom
+chunk-taken h = h .same
 
 begins-as : (image input : List ℕ) (a : Standing) → Begins image a
     → countsFrom image a input ≡ tally image (firstLedger (judge image)) (replicate 256 0) (linesFrom [] input)
