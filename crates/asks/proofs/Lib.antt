@@ -1,5 +1,3 @@
 -- The laws that the proofs of an ask's parts cite.
-pub mod PermissionSets
-pub mod Requests
 pub mod Asks
 pub mod Rows

@@ -18,26 +18,26 @@ use Rattle.model.specs.Limits.{Others, unbarred}
 use Rattle.model.specs.Choice.{admissible, choose}
 use Rattle.model.specs.Session.{isAsk}
 use Rattle.model.specs.Run.{Call, lineOf, told}
-use Rattle.model.proofs.Bools.{and-l}
-use Rattle.model.proofs.SetLaws.{within-has}
-use Rattle.model.proofs.UnionLaws.{has-below}
-use Rattle.model.proofs.Closure.{getD-tableOf}
-use Rattle.model.proofs.AnyWidth.{within-iff}
-use Rattle.model.proofs.Choices.{choice}
-use Rattle.model.proofs.Barred.{unbarred-below, left-own}
-use Rattle.model.proofs.SoundLaws.{sound-parts}
+use Rattle.model_laws.proofs.Bools.{and-l}
+use Rattle.model_laws.proofs.SetLaws.{within-has}
+use Rattle.model_laws.proofs.UnionLaws.{has-below}
+use Rattle.model_laws.proofs.Closure.{getD-tableOf}
+use Rattle.model_laws.proofs.AnyWidth.{within-iff}
+use Rattle.model_laws.proofs.Choices.{choice}
+use Rattle.model_laws.proofs.Barred.{unbarred-below, left-own}
+use Rattle.model_laws.proofs.SoundLaws.{sound-parts}
 use Rattle.sets.specs.Words.{values}
-use Rattle.tables.specs.Carried.{carriedRows}
+use Rattle.tables_rows.specs.Carried.{carriedRows}
 use Rattle.sets.proofs.Unions.{values-at}
-use Rattle.tables.proofs.Carrying.{length-selves, wantedRow}
+use Rattle.tables_rows.proofs.Carrying.{length-selves, wantedRow}
 use Rattle.query.specs.Carry.{rowsOf, Carry}
-use Rattle.query.specs.Rooms.{roomy}
-use Rattle.query.specs.Reduction.{Reduces}
+use Rattle.query_rooms.specs.Rooms.{roomy}
+use Rattle.query_rooms.specs.Reduction.{Reduces}
 use Rattle.search.specs.Answer.{answered, Given}
 use Rattle.search.specs.declared.Choice.{Choice}
 use Rattle.search.specs.declared.Choice.the-variants.{Nothing, Roles}
 use Rattle.calls.specs.Calls.{Known}
-use Rattle.others.specs.Counted.{Left}
+use Rattle.limits_left.specs.Left.{Left}
 use Rattle.asks.specs.Asks.{leftTo, Asked, Searched}
 use Rattle.calls.proofs.FirstSteps.{Ready}
 
@@ -97,7 +97,8 @@ given-of p u x own xs l k n masks rooms row e d g =
     }
 
 -- what the search is given, with the rows
-pub asked-of : (p : Policy) (u : ℕ) (x : Others) (ledger : List ℕ) (k : ℕ) (granted below : List ℕ) (own : ℕ) (xs : Exclusions) (rows : List (List ℕ)) (l : Line)
+pub asked-of : (p : Policy) (u : ℕ) (x : Others) (ledger : List ℕ) (k : ℕ) (granted below : List ℕ) (own : ℕ) (xs : Exclusions)
+    (rows : List (List ℕ)) (l : Line)
     → Searched p u x ledger k granted below own xs → own < 2 ^ 64 → values rows ≡ carriedRows granted below own → l ≡ lineOf SESSIONS ledger u
     → Asked p u x l k own xs (rowsOf rows)
 asked-of p u x ledger k granted below own xs rows l s w e f =

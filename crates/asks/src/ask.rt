@@ -13,17 +13,17 @@ ghost use Rattle.search.specs.Answer.{answered};
 ghost use Rattle.calls.specs.Calls.{Known};
 ghost use Rattle.rows.specs.Rows.{exclusionsIn};
 ghost use Rattle.asks.specs.Asks.{leftTo, Asked, Searched, askedOn, Answers};
-use crate::bounds::bound;
-use crate::request::limited_refusal;
+use asks_request::bounds::bound;
+use asks_request::request::limited_refusal;
 use calls::answer::fill;
 use calls::given::Rules;
 use calls::given::Window;
 use ledger::bytes::line_of;
 use ledger::bytes::put_line;
-use ledger::change::put_in;
+use ledger_change::put_in;
+use limits_left::roles_left;
 use model::Line;
-use others::left::roles_left;
-use query::rank::Job;
+use query_rank::Job;
 use search::Choice;
 
 // What is asked for: the bounds as sets, and the objectives (01: aims) on permissions and on roles.
@@ -48,7 +48,7 @@ fn best(
     ensures { λ r. ⌜ ((p : Policy) (u : ℕ) (x : Others) → Asked p u x l k authorized (exclusionsIn (now (xs .entry)) count) (rowsOf (now (rows .entry)))
         → answered r ≡ choose (leftTo p u x l k) l k (value (wanted .lower)) (value (wanted .upper)) (wanted .first) (wanted .second)) ⌝ }
 {
-    let reduced = query::exclusions::reduce(xs, count, l, k);
+    let reduced = query_rooms::exclusions::reduce(xs, count, l, k);
     let masks = reduced.masks;
     let rooms = reduced.rooms;
     let lower = wanted.lower;
@@ -77,12 +77,16 @@ fn put_best(
 ) -> u64
     requires { ⌜ (count ≤ 32) × (lineSize SESSIONS * window .user + lineSize SESSIONS ≤ length (now ledger))
         × (window .session < SESSIONS) × (length (now answer) ≡ 40) × (length (now xs) ≡ 32) ⌝ }
-    ensures { λ r. ⌜ ((p : Policy) (x : Others) → Searched p (window .user) x (now (ledger .entry)) (window .session) (values (now (granted .entry))) (now (below .entry)) authorized (exclusionsIn (now (xs .entry)) count)
+    ensures { λ r. ⌜ ((p : Policy) (x : Others)
+        → Searched p (window .user) x (now (ledger .entry)) (window .session) (values (now (granted .entry))) (now (below .entry)) authorized
+        (exclusionsIn (now (xs .entry)) count)
         → Answers (askedOn p (now (ledger .entry)) (window .user) (window .session)
-        (choose (leftTo p (window .user) x (lineOf SESSIONS (now (ledger .entry)) (window .user)) (window .session)) (lineOf SESSIONS (now (ledger .entry)) (window .user)) (window .session) (value (wanted .lower)) (value (wanted .upper)) (wanted .first) (wanted .second)))
+        (choose (leftTo p (window .user) x (lineOf SESSIONS (now (ledger .entry)) (window .user)) (window .session))
+        (lineOf SESSIONS (now (ledger .entry)) (window .user)) (window .session) (value (wanted .lower)) (value (wanted .upper)) (wanted .first)
+        (wanted .second)))
         r (now (ledger .exit)) (now (answer .entry)) (now (answer .exit))) ⌝ }
 {
-    let rows = tables::carried::carried(granted, below, authorized);
+    let rows = tables_rows::carried::carried(granted, below, authorized);
     let u = window.user as usize;
     let k = window.session as usize;
     let l = line_of(ledger, u);
@@ -114,11 +118,14 @@ pub fn ask_roles(
     answer: &mut [u8],
 ) -> u64
     requires { ⌜ (rules .head .users ≤ 64) × (rules .count ≤ 32) × (length (now xs) ≡ 32) × (length (now limits) ≡ 64) ⌝ }
-    ensures { λ r. ⌜ ((p : Policy) → Known (rules .head) (now (authorized .entry)) (exclusionsIn (now (xs .entry)) (rules .count)) p → values (now (granted .entry)) ≡ p .granted
+    ensures { λ r. ⌜ ((p : Policy) → Known (rules .head) (now (authorized .entry)) (exclusionsIn (now (xs .entry)) (rules .count)) p
+        → values (now (granted .entry)) ≡ p .granted
         → now (below .entry) ≡ belowTable p → p .limits ≡ now (limits .entry)
-        → Answers (stepOn SESSIONS p (now (ledger .entry)) (askBy (window .user) (window .session) (now (lower .entry)) (now (upper .entry)) first second (length (now (answer .entry)))))
+        → Answers (stepOn SESSIONS p (now (ledger .entry))
+        (askBy (window .user) (window .session) (now (lower .entry)) (now (upper .entry)) first second (length (now (answer .entry)))))
         r (now (ledger .exit)) (now (answer .entry)) (now (answer .exit))) ⌝ }
 {
+    let room = answer.len();
     let n = limited_refusal(
         ledger,
         rules,
@@ -130,7 +137,7 @@ pub fn ask_roles(
         upper,
         first,
         second,
-        answer.len(),
+        room,
     );
     if n != 0 {
         return n;
@@ -146,7 +153,7 @@ pub fn ask_roles(
         first,
         second,
     };
-    put_best(
+    let reply = put_best(
         ledger,
         rules.count,
         granted,
@@ -156,5 +163,6 @@ pub fn ask_roles(
         window,
         wanted,
         answer,
-    )
+    );
+    reply
 }

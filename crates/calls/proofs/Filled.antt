@@ -10,7 +10,7 @@ use lib.Pow.{pow-add}
 use mir.Syntax.{w64}
 use mir.Val.{Fits}
 use Rattle.model.specs.Bytes.{bytesOf}
-use Rattle.model.proofs.LineLaws.{length-bytesOf}
+use Rattle.model_laws.proofs.LineLaws.{length-bytesOf}
 use Rattle.octets.specs.Splice.{splice}
 use Rattle.octets.proofs.Splices.{splice-all, splice-splice}
 use Rattle.sets.specs.Words.{joined, value}

@@ -4,24 +4,32 @@ use mathlib.Core.Path.{_≡_, refl, sym, ap, _∙_}
 use mathlib.Core.Bool.{Bool, true, false, not}
 use mathlib.Core.Option.{none, some}
 use mathlib.Core.List.{List, [], _∷_}
-use Prim.Native.Nat.{ℕ, _+_, _*_, _^_, _≤_, _<_}
+use Prim.Native.Nat.{ℕ, suc, _+_, _*_, _^_, _≤_, _<_}
 use native.Mathlib.Nat.{add-zero}
 use native.Mathlib.Omega.{arith}
 use lib.Dec.{eqb, ltb}
 use lib.ListN.{length, getD}
-use borrow.Author.Tests.{eq-eqb, ne-eqb, lt-ltb, le-ltb, eqb-true, ltb-true}
+use borrow.Author.Tests.{eq-eqb, ne-eqb, lt-ltb, le-ltb, eqb-true, ltb-true, le-leb, lt-leb, not-true, not-false}
 use Rattle.model.specs.declared.Head.{Head}
 use Rattle.model.specs.declared.Exclusions.{Exclusions}
+use Rattle.model.specs.declared.Line.{Line}
 use Rattle.model.specs.Tests.{pick, all, first}
 use Rattle.model.specs.Policy.{Policy, Meaning, authorized, met, meaning}
-use Rattle.model.specs.Line.{lineSize, readLine, sound}
+use Rattle.model.specs.Line.{lineSize, readLine, isOpen, sound}
 use Rattle.model.specs.Limits.{Others, nobody}
-use Rattle.model.specs.Session.{Operation, open-session, close-session, ask, short-ask, show, explain, clauses, isAsk, sessionOf, queryOf, refuse, Result, Refusal, bad-line, refusalNumber, canGive, otherFirst, applies, perform, refusalExtra, unless, rule}
+use Rattle.model.specs.Session.{Operation, open-session, close-session, ask, short-ask, show, explain, clauses, isAsk, sessionOf, queryOf, refuse, Result, Refusal, bad-line, bad-session, is-closed, refusalNumber, canGive, otherFirst, applies, perform, refusalExtra, unless, rule}
 use Rattle.model.specs.Run.{Call, Event, lineAt, withLine, lineOf, told, ruled, stepOn, returned, filledWith, answered}
-use Rattle.model.proofs.LedgerLaws.{apart, own-line, step-below}
-use Rattle.model.proofs.Reaches.{authorized-alone}
+use Rattle.model_laws.proofs.Bools.{and-l}
+use Rattle.model_laws.proofs.LedgerLaws.{apart, own-line, step-below}
+use Rattle.model_laws.proofs.Reaches.{authorized-alone}
 use Rattle.ledger.specs.Held.{Held}
 use Rattle.calls.specs.Calls.{Known, policyBy, firstRefusal, Gives, Shows}
+
+-- nested `pick`s of refusals' numbers: where they give 0, no test holds
+pub pick-none : (b : Bool) (n x : ℕ) → 0 ≡ pick b (suc n) x → (b ≡ false) × (0 ≡ x)
+unfolding pick
+pick-none false n x h = (refl, h)
+pick-none true n x h = absurd (omega arith)
 
 -- ---- a refusal, which leaves the ledger alone
 abbrev pub refusedBy : ℕ → List ℕ → Event
@@ -64,18 +72,12 @@ module _ (W : ℕ) (p : Policy) (ledger : List ℕ) (u : ℕ) where
     pub sound-line : sound W (meaning p u) (lineOf W ledger u) ≡ true
 
   pub ready : 0 ≡ firstRefusal W p ledger u → Ready
-  unfolding firstRefusal pick
+  unfolding firstRefusal
   ready h =
-      go (eqb (length ledger) (lineSize W * p .head .users)) refl (ltb u (p .head .users)) refl
-      (sound W (meaning p u) (lineOf W ledger u)) refl h
-    where
-      go : (a : Bool) → eqb (length ledger) (lineSize W * p .head .users) ≡ a → (b : Bool) → ltb u (p .head .users) ≡ b
-          → (c : Bool) → sound W (meaning p u) (lineOf W ledger u) ≡ c
-          → 0 ≡ pick {X = ℕ} (not a) 9 (pick {X = ℕ} (not b) 10 (pick {X = ℕ} (not c) 11 0)) → Ready
-      go true i true j true k h = record { fits = eqb-true _ _ i; below = ltb-true _ _ j; sound-line = k }
-      go true i true j false k h = absurd (omega arith)
-      go true i false j c k h = absurd (omega arith)
-      go false i b j c k h = absurd (omega arith)
+      let x = pick-none _ 8 _ h in
+      let y = pick-none _ 9 _ (x .1) in
+      let z = pick-none _ 10 _ (y .1) in
+      record { fits = eqb-true _ _ (not-false _ (x .0)); below = ltb-true _ _ (not-false _ (y .0)); sound-line = not-false _ (z .0) }
 
 -- ---- the session rules: the first refusal whose case holds, or the work
 module _ (f : Refusal → Bool) (x : Refusal) (xs : List Refusal) where
@@ -131,12 +133,6 @@ module _ (W : ℕ) (p : Policy) (ledger : List ℕ) (c : Call) where
       ap (λ (r : Result). record { reply = r .reply; ledger = withLine (lineSize W) (c .user) (r .line) ledger }) e
       ∙ ap (λ (l : List ℕ). record { reply = refuse n 0; ledger = l }) (own-line (lineSize W) (c .user) ledger)
 
-  -- a call that is no ask is told nothing
-  pub untold : isAsk (c .operation) ≡ false → length ledger ≡ lineSize W * p .head .users → c .user < p .head .users
-      → told W p ledger c .unsound ≡ none
-  unfolding told nobody
-  untold e l b = rw (e, told)
-
   -- a call whose first refusal is n, told of no other line that is not sound
   pub stopped : (length ledger ≡ lineSize W * p .head .users → c .user < p .head .users → told W p ledger c .unsound ≡ none)
       → (n : ℕ) → n ≡ firstRefusal W p ledger (c .user) → (n ≡ 0 → ⊥) → stepOn W p ledger c ≡ refusedBy n ledger
@@ -157,6 +153,11 @@ module _ (W : ℕ) (p : Policy) (ledger : List ℕ) (c : Call) where
           (rule11 W (meaning p (c .user)) (told W p ledger c) (lineAt (lineSize W) (c .user) ledger) (c .operation)
           (quiet (eqb-true (length ledger) (lineSize W * p .head .users) f) (ltb-true (c .user) (p .head .users) g)) k)
           ∙ ap (λ (i : ℕ). refusedBy i ledger) (sym h)
+
+  -- a call that is no ask is told nothing
+  pub stopped-first : isAsk (c .operation) ≡ false → (n : ℕ) → n ≡ firstRefusal W p ledger (c .user) → (n ≡ 0 → ⊥)
+      → stepOn W p ledger c ≡ refusedBy n ledger
+  stopped-first e = stopped (λ l b. unfold told nobody in rw (e, told))
 
   -- a call that none of them refuses goes by the session rules
   pub by-rules : Ready W p ledger (c .user) → stepOn W p ledger c ≡ ruled W p ledger c
@@ -187,6 +188,26 @@ module _ (W : ℕ) (p : Policy) (ledger : List ℕ) (c : Call) where
       ∙ ap (λ (x : Result). record { reply = x .reply; ledger = withLine (lineSize W) (c .user) (x .line) ledger })
       (rule-performs W (meaning p (c .user)) (told W p ledger c) (lineAt (lineSize W) (c .user) ledger) (c .operation) e)
 
+  -- a call on a session, whose first tests are the line's, the session's number and whether it is open
+  module _ (r : Ready W p ledger (c .user)) (rest : List Refusal) (e : canGive (c .operation) ≡ bad-line ∷ bad-session ∷ is-closed ∷ rest) where
+    pub session12 : W ≤ sessionOf (c .operation) → stepOn W p ledger c ≡ refusedBy 12 ledger
+    unfolding applies refusalNumber refusalExtra
+    session12 h = refuses r bad-session refl (rw e (fails _ _ _ (ap not (r .sound-line)) ∙ holds _ _ _ (le-leb _ _ h)))
+
+    module _ (below : sessionOf (c .operation) < W) where
+      pub session13 : isOpen (lineOf W ledger (c .user)) (sessionOf (c .operation)) ≡ false → stepOn W p ledger c ≡ refusedBy 13 ledger
+      unfolding applies refusalNumber refusalExtra
+      session13 o =
+          refuses r is-closed refl
+          (rw e (fails _ _ _ (ap not (r .sound-line)) ∙ fails _ _ _ (lt-leb _ _ below) ∙ holds _ _ _ (ap not o)))
+
+      -- an open session: the tests that are left
+      pub passes : isOpen (lineOf W ledger (c .user)) (sessionOf (c .operation)) ≡ true
+          → (let test = applies W (meaning p (c .user)) (told W p ledger c) (lineOf W ledger (c .user)) (sessionOf (c .operation)) (queryOf (c .operation)) in
+          first test (canGive (c .operation)) ≡ first test rest)
+      unfolding applies
+      passes o = rw e (fails _ _ _ (ap not (r .sound-line)) ∙ fails _ _ _ (lt-leb _ _ below) ∙ fails _ _ _ (ap not o))
+
 -- ---- what code knows of a call that none of them refuses
 
 -- the policy of the parts that code holds has them
@@ -215,14 +236,33 @@ held head rows xs p u own k l e =
       exclusions = λ counted. ap (all (met counted)) (sym (k .exclusions-are));
     }
 
--- code that got 0 of the first refusals
-module _ (W : ℕ) (head : Head) (own : List ℕ) (xs : Exclusions) (ledger : List ℕ) (u n : ℕ)
-    (e : (p : Policy) → Known head own xs p → n ≡ firstRefusal W p ledger u) (z : n ≡ 0) where
-  pub ready-for : (p : Policy) → Known head own xs p → Ready W p ledger u
-  ready-for p k = ready W p ledger u (sym z ∙ e p k)
+-- the open bits of a sound line are those of its sessions
+open-bits : (W : ℕ) (m : Meaning) (l : Line) → sound W m l ≡ true → l .opened < 2 ^ W
+unfolding sound
+open-bits W m l e = ltb-true (l .opened) (2 ^ W) (and-l _ _ (and-l _ _ (and-l _ _ e)))
 
-  pub ready-by : Ready W (policyBy head own xs) ledger u
-  ready-by = ready-for (policyBy head own xs) (known head own xs)
+-- what code that got 0 of the first refusals holds: the user's bytes are in the ledger, no bit stands for a session too many, and the
+-- policy of its parts has no first refusal
+pub record Passed (W : ℕ) (head : Head) (own : List ℕ) (xs : Exclusions) (ledger : List ℕ) (u : ℕ) : Type 0 where
+  pub line : lineSize W * u + lineSize W ≤ length ledger
+  pub bits : lineOf W ledger u .opened < 2 ^ W
+  pub ready : (p : Policy) → Known head own xs p → Ready W p ledger u
 
-  pub room-for : lineSize W * u + lineSize W ≤ length ledger
-  room-for = room W (policyBy head own xs) ledger u ready-by
+pub passed : (W : ℕ) (head : Head) (own : List ℕ) (xs : Exclusions) (ledger : List ℕ) (u n : ℕ)
+    → ((p : Policy) → Known head own xs p → n ≡ firstRefusal W p ledger u) → n ≡ 0 → Passed W head own xs ledger u
+passed W head own xs ledger u n e z =
+    let p = policyBy head own xs in
+    let r = ready W p ledger u (sym z ∙ e p (known head own xs)) in
+    record {
+      line = room W p ledger u r;
+      bits = open-bits W (meaning p u) (lineOf W ledger u) (r .sound-line);
+      ready = λ q k. ready W q ledger u (sym z ∙ e q k);
+    }
+
+-- whether the session is open, by the line that code holds
+module _ (l m : Line) (k : ℕ) (o : Bool) (e : l ≡ m) (f : o ≡ isOpen l k) where
+  pub closed-at : not o ≡ true → isOpen m k ≡ false
+  closed-at t = rw (← e, ← f) (not-true o t)
+
+  pub open-at : not o ≡ false → isOpen m k ≡ true
+  open-at t = rw (← e, ← f) (not-false o t)

@@ -35,7 +35,8 @@ pub fn first_refusal(
     user: u64,
 ) -> u64
     requires { ⌜ (rules .head .users ≤ 64) × (rules .count ≤ 32) × (length (now xs) ≡ 32) ⌝ }
-    ensures { λ r. ⌜ ((p : Policy) → Known (rules .head) (now (authorized .entry)) (exclusionsIn (now (xs .entry)) (rules .count)) p → r ≡ firstRefusal SESSIONS p (now (ledger .entry)) user) ⌝ }
+    ensures { λ r. ⌜ ((p : Policy) → Known (rules .head) (now (authorized .entry)) (exclusionsIn (now (xs .entry)) (rules .count)) p
+        → r ≡ firstRefusal SESSIONS p (now (ledger .entry)) user) ⌝ }
 {
     let head = rules.head;
     let users = head.users as usize;

@@ -13,7 +13,7 @@ use Rattle.model.specs.declared.Checked.{Checked}
 use Rattle.model.specs.declared.Checked.the-variants.{Accepted, Refused}
 use Rattle.model.specs.Judgement.{judge}
 use Rattle.model.specs.Line.{SESSIONS, lineSize}
-use Rattle.model.proofs.Judgements.{accepted-head, accepted-in-range}
+use Rattle.model_laws.proofs.Judgements.{accepted-head, accepted-in-range}
 use Rattle.script.specs.Script.{firstLedger}
 use Rattle.chunks.specs.Kept.{keeping, lastLine, linesFrom}
 

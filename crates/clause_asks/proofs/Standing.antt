@@ -19,20 +19,20 @@ use Rattle.model.specs.Line.{SESSIONS, readLine, exclusionsMet}
 use Rattle.model.specs.Limits.{Others, unbarred}
 use Rattle.model.specs.Dimacs.{textOf}
 use Rattle.model.specs.Ranges.{InRange}
-use Rattle.model.proofs.LineLaws.{length-readSessions}
+use Rattle.model_laws.proofs.LineLaws.{length-readSessions}
 use Rattle.sets.specs.Words.{values}
-use Rattle.tables.specs.Carried.{carriedRows}
+use Rattle.tables_rows.specs.Carried.{carriedRows}
 use Rattle.query.specs.Carry.{rowsOf}
-use Rattle.query.specs.Rooms.{allBelow}
-use Rattle.query.specs.Reduction.{Reduces}
-use Rattle.query.proofs.RoomLaws.{below-at}
+use Rattle.query_rooms.specs.Rooms.{allBelow}
+use Rattle.query_rooms.specs.Reduction.{Reduces}
+use Rattle.query_rooms.proofs.RoomLaws.{below-at}
 use Rattle.asks.specs.Asks.{leftTo, Searched}
 use Rattle.asks.proofs.Rows.{carry-rows}
 use Rattle.encoding.specs.Texts.{TEXT_ROOM}
 use Rattle.encoding.proofs.Meant.{meant, left-meant}
 use Rattle.encoding.proofs.DimacsSizes.{text-small}
 use Rattle.clauses.specs.Writing.{Written}
-use Rattle.clauses.specs.Whole.{textBy}
+use Rattle.clauses_text.specs.Whole.{textBy}
 use Rattle.clauses.specs.Stands.{Reduced, Stands}
 use Rattle.clauses.proofs.Meant.{text-is}
 
@@ -69,8 +69,9 @@ module _ (p : Policy) (u : ℕ) (x : Others) (l : Line) (k : ℕ) (xs : Exclusio
       long = simp length-take (omega arith)
 
 -- what is written by these words is the text of the ask
-pub wrote-text : (p : Policy) (u : ℕ) (x : Others) (k : ℕ) (ledger granted below : List ℕ) (own : ℕ) (xs : Exclusions) (h : Head) (l : Line) (rows : List (List ℕ))
-    (masks rooms : List ℕ) (low high a b : ℕ) {before after : List ℕ} {n : ℕ} → InRange p → p .head ≡ h → Searched p u x ledger k granted below own xs
+pub wrote-text : (p : Policy) (u : ℕ) (x : Others) (k : ℕ) (ledger granted below : List ℕ) (own : ℕ) (xs : Exclusions) (h : Head) (l : Line)
+    (rows : List (List ℕ)) (masks rooms : List ℕ) (low high a b : ℕ) {before after : List ℕ} {n : ℕ}
+    → InRange p → p .head ≡ h → Searched p u x ledger k granted below own xs
     → l ≡ lineOf SESSIONS ledger u → k < SESSIONS → xs .count ≤ length (xs .list) → values rows ≡ carriedRows granted below every
     → Reduces xs l k masks rooms
     → (length (textBy (h .roles) (h .permissions) own (rowsOf rows) low high masks rooms (xs .count) a b) ≤ TEXT_ROOM

@@ -18,12 +18,12 @@ ghost use Rattle.asks.specs.Asks.{leftTo, Searched};
 ghost use Rattle.clauses.specs.Writing.{Written};
 ghost use Rattle.clause_asks.specs.Tells.{Tells};
 use asks::ask::Wanted;
-use asks::bounds::bound;
-use asks::request::limited_refusal;
+use asks_request::bounds::bound;
+use asks_request::request::limited_refusal;
 use calls::given::Rules;
 use calls::given::Window;
 use ledger::bytes::line_of;
-use others::left::roles_left;
+use limits_left::roles_left;
 
 // The length of the clause text of an ask on a line that meets every exclusion; it is written to the front of the buffer if it fits.
 fn write_clauses(
@@ -40,16 +40,19 @@ fn write_clauses(
     requires { ⌜ (rules .head .roles ≤ 64) × (rules .head .permissions ≤ 256) × (rules .count ≤ 32) × (length (now xs) ≡ 32)
         × (lineSize SESSIONS * window .user + lineSize SESSIONS ≤ length (now ledger)) × (window .session < SESSIONS) ⌝ }
     ensures { λ n. ⌜ ((p : Policy) (x : Others) → InRange p → p .head ≡ rules .head
-        → Searched p (window .user) x (now (ledger .entry)) (window .session) (values (now (granted .entry))) (now (below .entry)) authorized (exclusionsIn (now (xs .entry)) (rules .count))
+        → Searched p (window .user) x (now (ledger .entry)) (window .session) (values (now (granted .entry))) (now (below .entry)) authorized
+        (exclusionsIn (now (xs .entry)) (rules .count))
         → Written (now (out .entry))
-        (textOf (leftTo p (window .user) x (lineOf SESSIONS (now (ledger .entry)) (window .user)) (window .session)) (lineOf SESSIONS (now (ledger .entry)) (window .user)) (window .session) (value (wanted .lower)) (value (wanted .upper)) (wanted .first) (wanted .second))
+        (textOf (leftTo p (window .user) x (lineOf SESSIONS (now (ledger .entry)) (window .user)) (window .session))
+        (lineOf SESSIONS (now (ledger .entry)) (window .user)) (window .session) (value (wanted .lower)) (value (wanted .upper)) (wanted .first)
+        (wanted .second))
         (now (out .exit)) n) ⌝ }
 {
-    let rows = tables::carried::carried(granted, below, 18446744073709551615);
+    let rows = tables_rows::carried::carried(granted, below, 18446744073709551615);
     let k = window.session as usize;
     let l = line_of(ledger, window.user as usize);
     let count = rules.count;
-    let reduced = query::exclusions::reduce(xs, count, l, k);
+    let reduced = query_rooms::exclusions::reduce(xs, count, l, k);
     let masks = reduced.masks;
     let rooms = reduced.rooms;
     let head = rules.head;
@@ -97,10 +100,12 @@ pub fn ask_clauses(
     second: u64,
     out: &mut [u8],
 ) -> u64
-    requires { ⌜ (rules .head .users ≤ 64) × (rules .head .roles ≤ 64) × (rules .head .permissions ≤ 256) × (rules .count ≤ 32) × (length (now xs) ≡ 32) × (length (now limits) ≡ 64) ⌝ }
+    requires { ⌜ (rules .head .users ≤ 64) × (rules .head .roles ≤ 64) × (rules .head .permissions ≤ 256) × (rules .count ≤ 32) × (length
+        (now xs) ≡ 32) × (length (now limits) ≡ 64) ⌝ }
     ensures { λ r. ⌜ ((p : Policy) → InRange p → Known (rules .head) (now (authorized .entry)) (exclusionsIn (now (xs .entry)) (rules .count)) p
         → values (now (granted .entry)) ≡ p .granted → now (below .entry) ≡ belowTable p → p .limits ≡ now (limits .entry)
-        → Tells (stepOn SESSIONS p (now (ledger .entry)) (clausesBy (window .user) (window .session) (now (lower .entry)) (now (upper .entry)) first second (length (now (out .entry)))))
+        → Tells (stepOn SESSIONS p (now (ledger .entry))
+        (clausesBy (window .user) (window .session) (now (lower .entry)) (now (upper .entry)) first second (length (now (out .entry)))))
         r (now (out .entry)) (now (out .exit))) ⌝ }
 {
     let n = limited_refusal(

@@ -1,8 +1,8 @@
 -- The text by the words that the code has is the model's text of the ask that they stand for.
 -- Assumes nothing.
-use mathlib.Core.Path.{_≡_, refl, sym, ap, ap₂, _∙_}
+use mathlib.Core.Path.{_≡_, refl, ap, ap₂, _∙_}
 use mathlib.Core.List.{List, [], _∷_, _++_}
-use Prim.Native.Nat.{ℕ, zero, suc, _+_, _*_, _≤_, _<_}
+use Prim.Native.Nat.{ℕ, suc, _+_, _*_, _<_}
 use native.Mathlib.Omega.{arith}
 use lib.ListN.{length, getD}
 use Rattle.model.specs.declared.Exclusion.{Exclusion}
@@ -11,18 +11,15 @@ use Rattle.model.specs.declared.Kind.the-variants.{SsDmer}
 use Rattle.model.specs.Sets.{has}
 use Rattle.model.specs.Policy.{Meaning}
 use Rattle.model.specs.Reduced.{stays}
-use Rattle.model.specs.Clauses.{Literal, Clause, listTo, when, gives, holds, fails, roleVariable, permissionVariable, lastPlain, barring, carries, carrying, carriers, carried, bounding, uncounted, room as roomIn, counter, excluding, helpers, excludingAll, hard, soft, top, variablesIn}
-use Rattle.model.specs.Dimacs.{clausesText, headText, weighing, helpersOf, variablesOf, clausesOf, textOf}
-use Rattle.clauses.specs.Writing.{Written}
-use Rattle.clauses.specs.Parts.{barred, barringTo, carriedAs, carryingRow, carryingTo, carrier, carriersTo, carriedOne, carriedTo, lower as lowerOf, loweringTo, upper as upperOf, upperingTo, counters, wantingPermissions, wantingRoles}
-use Rattle.clauses.specs.Sizes.{sumTo, helpersTo}
-use Rattle.clauses.specs.Whole.{hardBy, softBy, clausesBy, textBy}
+use Rattle.model.specs.Clauses.{Literal, listTo, when, gives, holds, fails, barring, carries, carrying, carriers, carried, bounding, uncounted, room as roomIn, counter, excluding, helpers, excludingAll, hard, soft, variablesIn}
+use Rattle.model.specs.Dimacs.{helpersOf, variablesOf, clausesOf, textOf}
+use Rattle.encoding.proofs.ClauseLaws.{listTo-same}
+use Rattle.clauses_hard.specs.Parts.{barred, barringTo, carriedAs, carryingRow, carryingTo, carrier, carriersTo, carriedOne, carriedTo, lower as lowerOf, loweringTo, upper as upperOf, upperingTo, hardBy}
+use Rattle.clauses_counter.specs.Counters.{counters}
+use Rattle.clauses_soft.specs.Soft.{wantingPermissions, wantingRoles, softBy}
+use Rattle.clauses_hard.specs.Sizes.{sumTo, helpersTo}
+use Rattle.clauses_text.specs.Whole.{clausesBy, textBy}
 use Rattle.clauses.specs.Stands.{Reduced, Stands}
-
-listTo-same : {A : Type 0} (n : ℕ) (f g : ℕ → List A) → ((i : ℕ) → i < n → f i ≡ g i) → listTo n f ≡ listTo n g
-unfolding listTo
-listTo-same zero f g h = refl
-listTo-same (suc n) f g h = ap₂ (λ x y. x ++ y) (listTo-same n f g (λ i l. h i (omega arith))) (h n (omega arith))
 
 -- ---- exclusions
 
@@ -55,7 +52,8 @@ module _ (l : Line) (k : ℕ) where
     counters-are [] i a h = refl
     counters-are (x ∷ xs) i a h =
         let r = first x xs i h in
-        ap₂ (λ c m. c ++ counters masks rooms (length xs) (suc i) (a + m)) (counter-is x (getD masks i 0) (getD rooms i 0) r a) (helpers-are x (getD masks i 0) (getD rooms i 0) r)
+        ap₂ (λ c m. c ++ counters masks rooms (length xs) (suc i) (a + m)) (counter-is x (getD masks i 0) (getD rooms i 0) r a)
+        (helpers-are x (getD masks i 0) (getD rooms i 0) r)
         ∙ ap (λ cs. excluding l k a x ++ cs) (counters-are xs (suc i) (a + helpers l k x) (others x xs i h))
 
     abbrev at : ℕ → ℕ
@@ -113,7 +111,8 @@ module _ (p : Meaning) (l : Line) (k : ℕ) (row : ℕ → ℕ) (masks rooms : L
   unfolding helpersTo variablesOf sumTo
   variables-told =
       let e : 0 + length (p .exclusions) ≡ count = omega (arith, s .all) in
-      let f : sumTo (at l k masks rooms other) (0 + length (p .exclusions)) ≡ 0 + helpersOf l k (p .exclusions) = helpers-from l k masks rooms other (p .exclusions) 0 from in
+      let f : sumTo (at l k masks rooms other) (0 + length (p .exclusions)) ≡ 0 + helpersOf l k (p .exclusions) =
+      helpers-from l k masks rooms other (p .exclusions) 0 from in
       omega (arith, f, ap (sumTo (at l k masks rooms other)) e)
 
   module _ (low high : ℕ) where
@@ -134,8 +133,3 @@ module _ (p : Meaning) (l : Line) (k : ℕ) (row : ℕ → ℕ) (masks rooms : L
       pub text-is : textBy R P (p .authorized) row low high masks rooms count a b ≡ textOf p l k low high a b
       unfolding textBy textOf
       text-is = rw (variables-told, soft-is, clauses-are)
-
-      -- so a call that writes it writes the model's
-      pub written-is : {before after : List ℕ} {size : ℕ} → Written before (textBy R P (p .authorized) row low high masks rooms count a b) after size
-          → Written before (textOf p l k low high a b) after size
-      written-is {before} {after} {size} w = rw text-is at w

@@ -1,5 +1,6 @@
--- Laws of clauses: tests of lists that are put together, what a satisfied clause says, and the counter of an exclusion: whoever satisfies its
--- clauses has fewer than n of its variables true, and whoever has that can set the helpers so that they are satisfied.
+-- Laws of clauses: tests of lists that are put together, what a satisfied clause says, and the counter of an
+-- exclusion: whoever satisfies its clauses has fewer than n of its variables true, and whoever has that can set the
+-- helpers so that they are satisfied.
 -- Assumes nothing.
 use mathlib.Core.Path.{_≡_, refl, sym, ap, ap₂, _∙_, subst}
 use mathlib.Core.Logic.{_⊎_, inl, inr}
@@ -16,8 +17,8 @@ use Rattle.model.specs.Sets.{one}
 use Rattle.model.specs.Ranges.{Each}
 use Rattle.model.specs.Clauses.{must, mustNot, gives, give, listTo, when, keeping, adding, row, rows, counter}
 use Rattle.encoding.specs.Satisfied.{Valuation, makes, satisfies, satisfiesAll}
-use Rattle.model.proofs.Bools.{and-l, and-r, both, or-l, or-r, or-cases, not-both}
-use Rattle.model.proofs.UnionLaws.{below-or-last}
+use Rattle.model_laws.proofs.Bools.{and-l, and-r, both, or-l, or-r, or-cases, not-both}
+use Rattle.model_laws.proofs.UnionLaws.{below-or-last}
 
 -- ---- tests of lists
 module _ {A : Type 0} (f : A → Bool) where
@@ -63,21 +64,21 @@ module _ {A : Type 0} (f : A → Bool) where
   pub listTo-all : (n : ℕ) (g : ℕ → List A) → all f (listTo n g) ≡ true → (k : ℕ) → k < n → all f (g k) ≡ true
   unfolding listTo
   listTo-all zero g h k l = absurd (omega arith)
-  listTo-all (suc n) g h k l = go (below-or-last k n l) (λ m. listTo-all n g (all-front (listTo n g) (g n) h) k m)
-    where
-      go : (k < n) ⊎ (k ≡ n) → (k < n → all f (g k) ≡ true) → all f (g k) ≡ true
-      go (inl m) ih = ih m
-      go (inr e) ih = ap (λ (i : ℕ). all f (g i)) e ∙ all-back (listTo n g) (g n) h
+  listTo-all (suc n) g h k l =
+      elim (below-or-last k n l) [
+        | inl m ↦ listTo-all n g (all-front (listTo n g) (g n) h) k m
+        | inr e ↦ ap (λ (i : ℕ). all f (g i)) e ∙ all-back (listTo n g) (g n) h
+      ]
 
   -- some member passes
   pub any-front : (xs ys : List A) → any f xs ≡ true → any f (xs ++ ys) ≡ true
   unfolding any
   any-front [] ys e = absurd (true≢false (sym e))
-  any-front (x ∷ xs) ys e = go (or-cases (f x) (any f xs) e) (λ h. any-front xs ys h)
-    where
-      go : (f x ≡ true) ⊎ (any f xs ≡ true) → (any f xs ≡ true → any f (xs ++ ys) ≡ true) → (f x || any f (xs ++ ys)) ≡ true
-      go (inl h) ih = or-l (f x) (any f (xs ++ ys)) h
-      go (inr h) ih = or-r (f x) (any f (xs ++ ys)) (ih h)
+  any-front (x ∷ xs) ys e =
+      elim (or-cases (f x) (any f xs) e) [
+        | inl h ↦ or-l (f x) (any f (xs ++ ys)) h
+        | inr h ↦ or-r (f x) (any f (xs ++ ys)) (any-front xs ys h)
+      ]
 
   pub any-back : (xs ys : List A) → any f ys ≡ true → any f (xs ++ ys) ≡ true
   unfolding any
@@ -87,31 +88,29 @@ module _ {A : Type 0} (f : A → Bool) where
   any-split : (xs ys : List A) → any f (xs ++ ys) ≡ true → (any f xs ≡ true) ⊎ (any f ys ≡ true)
   unfolding any
   any-split [] ys e = inr e
-  any-split (x ∷ xs) ys e = go (or-cases (f x) (any f (xs ++ ys)) e) (λ h. any-split xs ys h)
-    where
-      go : (f x ≡ true) ⊎ (any f (xs ++ ys) ≡ true) → (any f (xs ++ ys) ≡ true → (any f xs ≡ true) ⊎ (any f ys ≡ true))
-          → ((f x || any f xs) ≡ true) ⊎ (any f ys ≡ true)
-      go (inl h) ih = inl (or-l (f x) (any f xs) h)
-      go (inr h) ih = elim (ih h) [ inl i ↦ inl (or-r (f x) (any f xs) i) | inr i ↦ inr i ]
+  any-split (x ∷ xs) ys e =
+      elim (or-cases (f x) (any f (xs ++ ys)) e) [
+        | inl h ↦ inl (or-l (f x) (any f xs) h)
+        | inr h ↦ elim (any-split xs ys h) [ inl i ↦ inl (or-r (f x) (any f xs) i) | inr i ↦ inr i ]
+      ]
 
   pub any-listTo : (n : ℕ) (g : ℕ → List A) (k : ℕ) → k < n → any f (g k) ≡ true → any f (listTo n g) ≡ true
   unfolding listTo
   any-listTo zero g k l e = absurd (omega arith)
-  any-listTo (suc n) g k l e = go (below-or-last k n l) (λ m. any-listTo n g k m e)
-    where
-      go : (k < n) ⊎ (k ≡ n) → (k < n → any f (listTo n g) ≡ true) → any f (listTo n g ++ g n) ≡ true
-      go (inl m) ih = any-front (listTo n g) (g n) (ih m)
-      go (inr q) ih = any-back (listTo n g) (g n) (subst (λ (i : ℕ). any f (g i) ≡ true) q e)
+  any-listTo (suc n) g k l e =
+      elim (below-or-last k n l) [
+        | inl m ↦ any-front (listTo n g) (g n) (any-listTo n g k m e)
+        | inr q ↦ any-back (listTo n g) (g n) (subst (λ (i : ℕ). any f (g i) ≡ true) q e)
+      ]
 
   pub listTo-any : (n : ℕ) (g : ℕ → List A) → any f (listTo n g) ≡ true → (k : ℕ) × (k < n) × (any f (g k) ≡ true)
   unfolding listTo any
   listTo-any zero g e = absurd (true≢false (sym e))
-  listTo-any (suc n) g e = go (any-split (listTo n g) (g n) e) (λ h. listTo-any n g h)
-    where
-      go : (any f (listTo n g) ≡ true) ⊎ (any f (g n) ≡ true) → (any f (listTo n g) ≡ true → (k : ℕ) × (k < n) × (any f (g k) ≡ true))
-          → (k : ℕ) × (k < suc n) × (any f (g k) ≡ true)
-      go (inl h) ih = let w = ih h in (w .0, omega arith, w .2)
-      go (inr h) ih = (n, omega arith, h)
+  listTo-any (suc n) g e =
+      elim (any-split (listTo n g) (g n) e) [
+        | inl h ↦ let w = listTo-any n g h in (w .0, omega arith, w .2)
+        | inr h ↦ (n, omega arith, h)
+      ]
 
   pub any-when : (b : Bool) (x : A) → b ≡ true → f x ≡ true → any f (when b x) ≡ true
   unfolding when any
@@ -182,6 +181,12 @@ module _ (v : Valuation) where
   says-give x y z = is-imp₂ (v x) (v y) (v z)
 
 -- ---- how many clauses
+
+-- lists by number are the same where each part is
+pub listTo-same : {A : Type 0} (n : ℕ) (f g : ℕ → List A) → ((i : ℕ) → i < n → f i ≡ g i) → listTo n f ≡ listTo n g
+unfolding listTo
+listTo-same zero f g h = refl
+listTo-same {A} (suc n) f g h = ap₂ (λ (x y : List A). x ++ y) (listTo-same n f g (λ i l. h i (omega arith))) (h n (omega arith))
 
 pub length-singles : {A : Type 0} (n : ℕ) (f : ℕ → A) → length (listTo n (λ j. f j ∷ [])) ≡ n
 unfolding listTo
@@ -287,7 +292,8 @@ module _ (v : Valuation) (n : ℕ) (positive : 1 ≤ n) where
     where
       first : (b : Bool) → v x ≡ b → Tells a (one (v x))
       first true q j l m =
-          subst (λ (y : ℕ). v y ≡ true) (omega (arith, ap one q)) (gives-says v x (a + 1) (and-l (satisfies v (gives x (a + 1))) (all (satisfies v) (rows n a xs)) e) q)
+          subst (λ (y : ℕ). v y ≡ true) (omega (arith, ap one q))
+          (gives-says v x (a + 1) (and-l (satisfies v (gives x (a + 1))) (all (satisfies v) (rows n a xs)) e) q)
       first false q j l m = absurd (omega (arith, ap one q))
 
 -- ---- the counter satisfied

@@ -1,7 +1,8 @@
--- The hard clauses of an ask are satisfied exactly by what says an admissible set and what it carries, and an exclusion has few clauses.
+-- The hard clauses of an ask are satisfied exactly by what says an admissible set and what it carries, and an
+-- exclusion has few clauses.
 -- Assumes nothing.
-use mathlib.Core.Path.{_≡_, refl, sym, ap, ap₂, _∙_, subst}
-use mathlib.Core.Logic.{_⊎_, inl, inr, _↔_}
+use mathlib.Core.Path.{_≡_, refl, sym, ap, _∙_, subst}
+use mathlib.Core.Logic.{inl, inr, _↔_}
 use mathlib.Core.Bool.{Bool, true, false, _&&_, _||_, not}
 use mathlib.Core.List.{List, [], _∷_, _++_, List·Memᴰ, List·Memᴰ·head, List·Memᴰ·tail, List·Memᴰ·not-nil, List·Memᴰ·cases-cons}
 use Prim.Native.Nat.{ℕ, zero, suc, _+_, _-_, _*_, _^_, _≤_, _<_}
@@ -9,7 +10,7 @@ use native.Mathlib.Nat.{mul-le-mul-right}
 use native.Mathlib.Omega.{arith}
 use lib.Dec.{ltb}
 use lib.Bits.{or-zero-l, or-comm}
-use lib.ListN.{length, getD, length-append, List·getD-map}
+use lib.ListN.{length, getD, length-append}
 use borrow.Author.Tests.{eq-eqb, lt-ltb, le-ltb}
 use Rattle.model.specs.declared.Kind.{Kind}
 use Rattle.model.specs.declared.Kind.the-variants.{SsDmer, MsDmer, SsHmer, MsHmer}
@@ -23,19 +24,20 @@ use Rattle.model.specs.Conditions.{countedAfter, MetAfter}
 use Rattle.model.specs.Choice.{carriedBy, admissible}
 use Rattle.model.specs.Ranges.{Each, ExclusionInRange}
 use Rattle.model.specs.Reduced.{stay, stays, maskOf, roomOf}
-use Rattle.model.specs.Clauses.{Clause, holds, fails, must, mustNot, gives, listTo, when, roleVariable, permissionVariable, lastPlain, barring, carries, carrying, carriers, carried, bounding, variablesIn, uncounted, room, counter, excluding, helpers, excludingAll, hard}
+use Rattle.model.specs.Clauses.{Clause, holds, fails, must, mustNot, listTo, when, roleVariable, permissionVariable, lastPlain, barring, carries, carrying, carriers, carried, bounding, variablesIn, uncounted, room, counter, excluding, helpers, excludingAll, hard}
 use Rattle.encoding.specs.Satisfied.{Valuation, makes, satisfies, satisfiesAll, named, Says, HardIs, FewClauses}
-use Rattle.model.proofs.Bools.{and-l, or-l, or-r, or-cases, not-both, bool-ext}
-use Rattle.model.proofs.SetLaws.{has-union, has-inter, count-within}
-use Rattle.model.proofs.UnionLaws.{has-below, has-unionAt, unionTo-lt, unionAt-none}
-use Rattle.model.proofs.Inclusion.{within-refl, none-within, inter-within}
-use Rattle.model.proofs.AnyWidth.{same-sets, within-iff, members-below}
-use Rattle.model.proofs.Actives.{active-elsewhere, at-active}
-use Rattle.model.proofs.ConditionsProof.{Met}
+use borrow.Table.Steps.{cases}
+use Rattle.model_laws.proofs.Bools.{and-l, or-l, or-r, or-cases, not-both, bool-ext}
+use Rattle.model_laws.proofs.SetLaws.{has-union, has-inter, count-within}
+use Rattle.model_laws.proofs.UnionLaws.{has-below, has-unionAt, unionTo-lt}
+use Rattle.model_laws.proofs.Inclusion.{within-refl, none-within, inter-within}
+use Rattle.model_laws.proofs.AnyWidth.{same-sets, within-iff, members-below}
+use Rattle.model_laws.proofs.Actives.{active-elsewhere, at-active}
+use Rattle.model_laws.proofs.ConditionsProof.{Met}
 use Rattle.sets.proofs.Taken.{has-lacking}
 use Rattle.encoding.proofs.Meant.{Solved, Meant}
-use Rattle.model.proofs.LowestLaws.{setOf-has, has-setOf}
-use Rattle.encoding.proofs.ClauseLaws.{all-join, all-front, all-back, all-one, one-all, all-when, when-all, all-listTo, listTo-all, any-listTo, listTo-any, any-when, when-any, must-says, says-must, mustNot-says, says-mustNot, gives-says, says-gives, counter-length, chosen, counter-counts, counted-counter, SameTo, UpTo, up-more, chosen-same, counted-same, filled, filled-same, filled-counted}
+use Rattle.model_laws.proofs.LowestLaws.{setOf-has, has-setOf}
+use Rattle.encoding.proofs.ClauseLaws.{listTo-same, all-join, all-front, all-back, all-one, one-all, all-when, when-all, all-listTo, listTo-all, any-listTo, listTo-any, any-when, when-any, must-says, says-must, mustNot-says, says-mustNot, gives-says, says-gives, counter-length, chosen, counter-counts, counted-counter, SameTo, UpTo, up-more, chosen-same, counted-same, filled, filled-same, filled-counted}
 
 -- ---- the members of an exclusion that are not counted yet
 
@@ -50,12 +52,6 @@ unfolding chosen when
 chosen-when v true x = omega arith
 chosen-when v false x = refl
 
--- lists by number are the same where each part is
-listTo-same : {A : Type 0} (n : ℕ) (f g : ℕ → List A) → ((i : ℕ) → f i ≡ g i) → listTo n f ≡ listTo n g
-unfolding listTo
-listTo-same zero f g h = refl
-listTo-same {A} (suc n) f g h = ap₂ (λ (x y : List A). x ++ y) (listTo-same n f g h) (h n)
-
 -- the members that are not in base
 pub uncounted-is : (x : Exclusion) (base : ℕ)
     → uncounted x base ≡ listTo 64 (λ r. when (has (x .members) r && not (has base r)) (roleVariable r))
@@ -63,7 +59,7 @@ unfolding uncounted variablesIn maskOf
 uncounted-is x base =
     listTo-same 64 (λ r. when (has (maskOf (x .members) base) r) (roleVariable r))
     (λ r. when (has (x .members) r && not (has base r)) (roleVariable r))
-    (λ r. ap (λ (b : Bool). when b (roleVariable r)) (has-lacking (x .members) base r))
+    (λ r l. ap (λ (b : Bool). when b (roleVariable r)) (has-lacking (x .members) base r))
 
 -- the members in base or in s are those in base and, of the others, those in s; v says s at the members
 module _ (m b s : ℕ) (v : Valuation) where
@@ -125,11 +121,8 @@ module _ {A : Type 0} (P : A → Type 0) where
 
   pub each-mem : (xs : List A) → Each P xs → (x : A) → List·Memᴰ x xs → P x
   each-mem [] h x m = absurd (List·Memᴰ·not-nil m)
-  each-mem (y ∷ xs) h x m = go (each-mem xs (h .1) x) (List·Memᴰ·cases-cons m)
-    where
-      go : (List·Memᴰ x xs → P x) → (x ≡ y) ⊎ List·Memᴰ x xs → P x
-      go ih (inl e) = subst P (sym e) (h .0)
-      go ih (inr k) = ih k
+  each-mem (y ∷ xs) h x m =
+      elim (List·Memᴰ·cases-cons m) [ inl e ↦ subst P (sym e) (h .0) | inr k ↦ each-mem xs (h .1) x k ]
 
 pub uncounted-length : (x : Exclusion) (base : ℕ) → length (uncounted x base) ≤ count 64 (x .members)
 uncounted-length x base = omega (arith, ap length (uncounted-is x base), left-length (x .members) base 0 (λ y. true) 64)
@@ -303,37 +296,26 @@ module _ (p : Meaning) (l : Line) (k lower upper : ℕ) (v : Valuation) (e : sat
   parts : A (barring p) × A (carrying p) × A (carried p) × A (bounding p lower upper) × A (excludingAll l k (lastPlain p) (p .exclusions))
   unfolding satisfiesAll hard
   parts =
+      let f = satisfies v in
       let x = excludingAll l k (lastPlain p) (p .exclusions) in
-      let d = all-back (satisfies v) (barring p) (carrying p ++ (carried p ++ (bounding p lower upper ++ x))) e in
-      let c = all-back (satisfies v) (carrying p) (carried p ++ (bounding p lower upper ++ x)) d in
-      let b = all-back (satisfies v) (carried p) (bounding p lower upper ++ x) c in (
-        all-front (satisfies v) (barring p) (carrying p ++ (carried p ++ (bounding p lower upper ++ x))) e,
-        all-front (satisfies v) (carrying p) (carried p ++ (bounding p lower upper ++ x)) d,
-        all-front (satisfies v) (carried p) (bounding p lower upper ++ x) c,
-        all-front (satisfies v) (bounding p lower upper) x b,
-        all-back (satisfies v) (bounding p lower upper) x b,
-      )
+      let d = all-back f (barring p) (carrying p ++ (carried p ++ (bounding p lower upper ++ x))) e in
+      let c = all-back f (carrying p) (carried p ++ (bounding p lower upper ++ x)) d in
+      let b = all-back f (carried p) (bounding p lower upper ++ x) c in
+      let bounds = bounding p lower upper in
+      (all-front f (barring p) _ e, all-front f (carrying p) _ d, all-front f (carried p) _ c, all-front f bounds x b, all-back f bounds x b)
 
   own-role : (r : ℕ) → r < p .roles → v (roleVariable r) ≡ true → has (p .authorized) r ≡ true
   unfolding barring
-  own-role r h t = go (has (p .authorized) r) refl
-    where
-      go : (b : Bool) → has (p .authorized) r ≡ b → has (p .authorized) r ≡ true
-      go true q = q
-      go false q =
-          not-both (v (roleVariable r)) t (mustNot-says v (roleVariable r)
-          (when-all (satisfies v) (not (has (p .authorized) r)) (mustNot (roleVariable r))
-          (listTo-all (satisfies v) (p .roles) (λ r. when (not (has (p .authorized) r)) (mustNot (roleVariable r))) (parts .0) r h) (ap not q)))
+  own-role r h t =
+      cases (has (p .authorized) r) (λ q. q) (λ q. not-both (v (roleVariable r)) t (mustNot-says v (roleVariable r)
+      (when-all (satisfies v) _ _ (listTo-all (satisfies v) (p .roles) _ (parts .0) r h) (ap not q))))
 
   role-gives : (r q : ℕ) → r < p .roles → q < p .permissions → carries p r q ≡ true → v (roleVariable r) ≡ true
       → v (permissionVariable p q) ≡ true
   unfolding carrying
   role-gives r q h i c =
       gives-says v (roleVariable r) (permissionVariable p q)
-      (when-all (satisfies v) (carries p r q) (gives (roleVariable r) (permissionVariable p q))
-      (listTo-all (satisfies v) (p .permissions) (λ q. when (carries p r q) (gives (roleVariable r) (permissionVariable p q)))
-      (listTo-all (satisfies v) (p .roles)
-      (λ r. listTo (p .permissions) (λ q. when (carries p r q) (gives (roleVariable r) (permissionVariable p q)))) (parts .1) r h) q i) c)
+      (when-all (satisfies v) _ _ (listTo-all (satisfies v) (p .permissions) _ (listTo-all (satisfies v) (p .roles) _ (parts .1) r h) q i) c)
 
   some-carrier : (q : ℕ) → q < p .permissions → v (permissionVariable p q) ≡ true
       → (r : ℕ) × (r < p .roles) × (carries p r q ≡ true) × (v (roleVariable r) ≡ true)
@@ -353,23 +335,16 @@ module _ (p : Meaning) (l : Line) (k lower upper : ℕ) (v : Valuation) (e : sat
   unfolding bounding
   lower-there q i c =
       must-says v (permissionVariable p q)
-      (when-all (satisfies v) (has lower q) (must (permissionVariable p q))
-      (listTo-all (satisfies v) (p .permissions) (λ q. when (has lower q) (must (permissionVariable p q)))
-      (all-front (satisfies v) (listTo (p .permissions) (λ q. when (has lower q) (must (permissionVariable p q))))
-      (listTo (p .permissions) (λ q. when (not (has upper q)) (mustNot (permissionVariable p q)))) (parts .3)) q i) c)
+      (when-all (satisfies v) _ _ (listTo-all (satisfies v) (p .permissions) _ (all-front (satisfies v) _ _ (parts .3)) q i) c)
 
   upper-only : (q : ℕ) → q < p .permissions → v (permissionVariable p q) ≡ true → has upper q ≡ true
   unfolding bounding
-  upper-only q i t = go (has upper q) refl
-    where
-      go : (b : Bool) → has upper q ≡ b → has upper q ≡ true
-      go true c = c
-      go false c =
-          not-both (v (permissionVariable p q)) t (mustNot-says v (permissionVariable p q)
-          (when-all (satisfies v) (not (has upper q)) (mustNot (permissionVariable p q))
-          (listTo-all (satisfies v) (p .permissions) (λ q. when (not (has upper q)) (mustNot (permissionVariable p q)))
-          (all-back (satisfies v) (listTo (p .permissions) (λ q. when (has lower q) (must (permissionVariable p q))))
-          (listTo (p .permissions) (λ q. when (not (has upper q)) (mustNot (permissionVariable p q)))) (parts .3)) q i) (ap not c)))
+  upper-only q i t =
+      let low : ℕ → List Clause = λ q. when (has lower q) (must (permissionVariable p q)) in
+      let high : ℕ → List Clause = λ q. when (not (has upper q)) (mustNot (permissionVariable p q)) in
+      let told = all-back (satisfies v) (listTo (p .permissions) low) (listTo (p .permissions) high) (parts .3) in
+      cases (has upper q) (λ c. c) (λ c. not-both (v (permissionVariable p q)) t (mustNot-says v (permissionVariable p q)
+      (when-all (satisfies v) _ _ (listTo-all (satisfies v) (p .permissions) high told q i) (ap not c))))
 
   module _ (range : Meant p) where
     named-role : (r : ℕ) → has (named p v) r ≡ true → (r < p .roles) × (v (roleVariable r) ≡ true)
@@ -449,22 +424,14 @@ module _ (p : Meaning) (range : Meant p) (l : Line) (k lower upper s : ℕ) (c :
   says-barring : all (satisfies v) (barring p) ≡ true
   unfolding barring
   says-barring =
-      all-listTo (satisfies v) (p .roles) (λ r. when (not (has (p .authorized) r)) (mustNot (roleVariable r))) (λ r l.
-      all-when (satisfies v) (not (has (p .authorized) r)) (mustNot (roleVariable r)) (λ e.
-      says-mustNot v (roleVariable r) (h .roles r l ∙ go r e (has s r) refl)))
-    where
-      go : (r : ℕ) → not (has (p .authorized) r) ≡ true → (b : Bool) → has s r ≡ b → has s r ≡ false
-      go r e true q = not-both (not (has (p .authorized) r)) e (ap not (c .own r q))
-      go r e false q = q
+      all-listTo (satisfies v) (p .roles) _ (λ r l. all-when (satisfies v) _ _ (λ e. says-mustNot v (roleVariable r)
+      (h .roles r l ∙ cases (has s r) (λ q. not-both (not (has (p .authorized) r)) e (ap not (c .own r q))) (λ q. q))))
 
   says-carrying : all (satisfies v) (carrying p) ≡ true
   unfolding carrying
   says-carrying =
-      all-listTo (satisfies v) (p .roles) (λ r. listTo (p .permissions) (λ q. when (carries p r q) (gives (roleVariable r) (permissionVariable p q)))) (λ r l.
-      all-listTo (satisfies v) (p .permissions) (λ q. when (carries p r q) (gives (roleVariable r) (permissionVariable p q))) (λ q i.
-      all-when (satisfies v) (carries p r q) (gives (roleVariable r) (permissionVariable p q)) (λ e.
-      says-gives v (roleVariable r) (permissionVariable p q) (λ t.
-      h .permissions q i ∙ by-carried p range s q r l (sym (h .roles r l) ∙ t) e))))
+      all-listTo (satisfies v) (p .roles) _ (λ r l. all-listTo (satisfies v) (p .permissions) _ (λ q i. all-when (satisfies v) _ _ (λ e.
+      says-gives v (roleVariable r) (permissionVariable p q) (λ t. h .permissions q i ∙ by-carried p range s q r l (sym (h .roles r l) ∙ t) e))))
 
   says-carried : all (satisfies v) (carried p) ≡ true
   unfolding carried carriers satisfies any makes
@@ -485,18 +452,11 @@ module _ (p : Meaning) (range : Meant p) (l : Line) (k lower upper s : ℕ) (c :
   says-bounding : all (satisfies v) (bounding p lower upper) ≡ true
   unfolding bounding
   says-bounding =
-      all-join (satisfies v) (listTo (p .permissions) (λ q. when (has lower q) (must (permissionVariable p q))))
-      (listTo (p .permissions) (λ q. when (not (has upper q)) (mustNot (permissionVariable p q))))
-      (all-listTo (satisfies v) (p .permissions) (λ q. when (has lower q) (must (permissionVariable p q))) (λ q i.
-      all-when (satisfies v) (has lower q) (must (permissionVariable p q)) (λ e.
+      all-join (satisfies v) _ _
+      (all-listTo (satisfies v) (p .permissions) _ (λ q i. all-when (satisfies v) _ _ (λ e.
       says-must v (permissionVariable p q) (h .permissions q i ∙ c .lower q e))))
-      (all-listTo (satisfies v) (p .permissions) (λ q. when (not (has upper q)) (mustNot (permissionVariable p q))) (λ q i.
-      all-when (satisfies v) (not (has upper q)) (mustNot (permissionVariable p q)) (λ e.
-      says-mustNot v (permissionVariable p q) (h .permissions q i ∙ go q e (has (carriedBy p s) q) refl))))
-    where
-      go : (q : ℕ) → not (has upper q) ≡ true → (b : Bool) → has (carriedBy p s) q ≡ b → has (carriedBy p s) q ≡ false
-      go q e true t = not-both (not (has upper q)) e (ap not (c .upper q t))
-      go q e false t = t
+      (all-listTo (satisfies v) (p .permissions) _ (λ q i. all-when (satisfies v) _ _ (λ e. says-mustNot v (permissionVariable p q)
+      (h .permissions q i ∙ cases (has (carriedBy p s) q) (λ t. not-both (not (has upper q)) e (ap not (c .upper q t))) (λ t. t)))))
 
 -- ---- the hard clauses
 module _ (p : Meaning) (range : Meant p) (l : Line) (k lower upper : ℕ) (inside : k < length (l .sessions))

@@ -19,23 +19,15 @@ use Rattle.model.specs.Line.{exclusionsMet}
 use Rattle.model.specs.Choice.{carriedBy, admissible, cost, permissionCost, roleCost, better, choose}
 use Rattle.model.specs.Clauses.{listTo, roleVariable, permissionVariable, hard, Weighted, wanting, soft, weightOf, top}
 use Rattle.encoding.specs.Satisfied.{Valuation, makes, satisfies, satisfiesAll, violated, named, Says, Before, SoftIs}
-use Rattle.model.proofs.Bools.{not-both}
-use Rattle.model.proofs.SetLaws.{has-beyond, count-cong}
-use Rattle.model.proofs.Ranks.{is-earlier}
-use Rattle.model.proofs.Choices.{choice}
+use borrow.Table.Steps.{cases}
+use Rattle.model_laws.proofs.Ranks.{count-most, is-earlier}
+use Rattle.model_laws.proofs.Bools.{not-both}
+use Rattle.model_laws.proofs.SetLaws.{has-beyond, count-cong}
+use Rattle.model_laws.proofs.Choices.{choice}
 use Rattle.encoding.proofs.Meant.{Meant}
 use Rattle.encoding.proofs.ClauseProof.{set-below, carriedBy-below, hard-is}
 
 -- ---- counts
-count-le : (f : ℕ → Bool) (n : ℕ) → countTo f n ≤ n
-unfolding countTo
-count-le f zero = omega arith
-count-le f (suc n) = omega (arith, count-le f n, bit (f n))
-  where
-    bit : (b : Bool) → one b ≤ 1
-    bit true = omega arith
-    bit false = omega arith
-
 -- a set has no members beyond its width
 count-wide : (d e s : ℕ) → s < 2 ^ d → d ≤ e → count e s ≡ count d s
 unfolding count countTo
@@ -91,16 +83,8 @@ module _ (v : Valuation) where
   violated-one : (a w x : ℕ) → violated v (wanting a w x) ≡ w * spent a 1 (one (v x))
   unfolding violated wanting spent satisfies any makes pick
   violated-one zero w x = omega arith
-  violated-one (suc zero) w x = go (v x) refl
-    where
-      go : (b : Bool) → v x ≡ b → violated v (wanting 1 w x) ≡ w * one (v x)
-      go true e = rw e (omega arith)
-      go false e = rw e (omega arith)
-  violated-one (suc (suc a)) w x = go (v x) refl
-    where
-      go : (b : Bool) → v x ≡ b → violated v (wanting (suc (suc a)) w x) ≡ w * (1 - one (v x))
-      go true e = rw e (omega arith)
-      go false e = rw e (omega arith)
+  violated-one (suc zero) w x = cases (v x) (λ e. rw e (omega arith)) (λ e. rw e (omega arith))
+  violated-one (suc (suc a)) w x = cases (v x) (λ e. rw e (omega arith)) (λ e. rw e (omega arith))
 
   violated-each : (a w : ℕ) (x : ℕ → ℕ) (n : ℕ) → violated v (listTo n (λ i. wanting a w (x i))) ≡ w * spent a n (countTo (λ i. v (x i)) n)
   unfolding listTo countTo violated
@@ -113,17 +97,15 @@ module _ (v : Valuation) where
         violated-append (listTo n (λ i. wanting a w (x i))) (wanting a w (x n)),
         violated-each a w x n,
         violated-one a w (x n),
-        ap (λ (y : ℕ). w * y) (spent-next a n (countTo (λ i. v (x i)) n) (v (x n)) (count-le (λ i. v (x i)) n)),
+        ap (λ (y : ℕ). w * y) (spent-next a n (countTo (λ i. v (x i)) n) (v (x n)) (count-most (λ i. v (x i)) n)),
       )
 
   violated-top : (cs : List Weighted) → violated v cs ≤ weightOf cs
   unfolding violated weightOf pick
   violated-top [] = omega arith
-  violated-top (c ∷ cs) = omega (arith, violated-top cs, go (satisfies v (c .clause)))
-    where
-      go : (b : Bool) → pick b 0 (c .weight) ≤ c .weight
-      go true = omega arith
-      go false = omega arith
+  violated-top (c ∷ cs) =
+      let h = violated-top cs in
+      cases (satisfies v (c .clause)) (λ e. rw e (omega arith)) (λ e. rw e (omega arith))
 
 -- numbers in base m are ordered by their high digit, then by their low one
 module _ (m a c b d : ℕ) (lb : b < m) (ld : d < m) where
@@ -161,12 +143,13 @@ module _ (p : Meaning) (range : Meant p) where
 
     few-permissions : count 256 (carriedBy p s) ≤ p .permissions
     few-permissions =
-        subst (λ (n : ℕ). n ≤ p .permissions) permissions-counted (count-le (λ q. v (permissionVariable p q)) (p .permissions))
+        subst (λ (n : ℕ). n ≤ p .permissions) permissions-counted (count-most (λ q. v (permissionVariable p q)) (p .permissions))
 
     few-roles : count 64 s ≤ p .roles
-    few-roles = subst (λ (n : ℕ). n ≤ p .roles) roles-counted (count-le (λ r. v (roleVariable r)) (p .roles))
+    few-roles = subst (λ (n : ℕ). n ≤ p .roles) roles-counted (count-most (λ r. v (roleVariable r)) (p .roles))
 
-    -- the weight violated: what the first objective makes of the permissions, as the high digit, and the second of the roles, as the low one
+    -- the weight violated: what the first objective makes of the permissions, as the high digit, and the second of the
+    -- roles, as the low one
     weight-is : (a b : ℕ) → violated v (soft p a b)
         ≡ (p .roles + 1) * spent a (p .permissions) (count 256 (carriedBy p s)) + spent b (p .roles) (count 64 s)
     unfolding soft
@@ -232,14 +215,8 @@ module _ (p : Meaning) (range : Meant p) where
   before-better : (a b s t : ℕ) → Before p a b s t → better p a b s t ≡ true
   unfolding better
   before-better a b s t h =
-      is-earlier (permissionCost p a s) (permissionCost p a t) (roleCost b s) (roleCost b t) s t (go h)
-    where
-      go : Before p a b s t
-          → (permissionCost p a s < permissionCost p a t)
-          ⊎ ((permissionCost p a s ≡ permissionCost p a t)
-          × ((roleCost b s < roleCost b t) ⊎ ((roleCost b s ≡ roleCost b t) × (s < t))))
-      go (inl q) = inl q
-      go (inr (e, q)) = inr (e, inl q)
+      is-earlier (permissionCost p a s) (permissionCost p a t) (roleCost b s) (roleCost b t) s t
+      (elim h [ inl q ↦ inl q | inr q ↦ inr (q .0, inl (q .1)) ])
 
   own-small : p .authorized < 2 ^ 64
   own-small = lt-of-lt-of-le (range .own) (pow-mono (range .roles .1))

@@ -8,14 +8,15 @@ use Rattle.model.specs.declared.Kind.the-variants.{SsDmer, MsHmer}
 use Rattle.model.specs.Policy.{Policy, policyOf, meaning}
 use Rattle.model.specs.Line.{readLine}
 use Rattle.model.specs.Words.{imageBytes}
-use Rattle.model.specs.Ward.{imageLimited, managers}
+use Rattle.model_cases.specs.Ward.{imageLimited, managers}
 use Rattle.model.specs.Bytes.{bytesOf}
 use Rattle.model.specs.Dimacs.{textOf}
 use Rattle.model.specs.Session.{textFor}
-use Rattle.model.proofs.Computing.{computing}
-use Rattle.model.specs.Texted.{linesText}
+use Rattle.model_cases.proofs.Computing.{listing}
+use Rattle.model_cases.specs.Texted.{linesText}
 
--- image A, user 0 and session 0 of a zero line, where another user's session holds role 1 and fewer than 2 sessions may: it is barred
+-- image A, user 0 and session 0 of a zero line, where another user's session holds role 1 and fewer than 2 sessions
+-- may: it is barred
 pub text-barred :
     textFor (meaning (policyOf (imageBytes (imageLimited (managers 2 ∷ [])))) 0) (record { held = λ r. 1; unsound = none }) (readLine 8 (replicate 144 0)) 0
     (record { lower = bytesOf 32 2; upper = bytesOf 32 15; permissionAim = 1; roleAim = 1; room = 0 })
@@ -48,11 +49,11 @@ pub text-barred :
     ∷ "3 -7 0"
     ∷ "1 -1 0"
     ∷ "1 -2 0" ∷ [])
-unfolding computing linesText
+unfolding listing linesText
 text-barred = refl
 
--- four roles, which carry 0, 1, 0 and 2, 1 and 2; user 0 may activate the first three, and had the second; fewer than 3 of the first three in
--- a session, fewer than 2 of the last three ever
+-- four roles, which carry 0, 1, 0 and 2, 1 and 2; user 0 may activate the first three, and had the second; fewer than
+-- 3 of the first three in a session, fewer than 2 of the last three ever
 pub fourRoles : Policy
 fourRoles =
     record {
@@ -102,5 +103,5 @@ pub text-of-four :
     ∷ "5 5 0"
     ∷ "5 6 0"
     ∷ "5 7 0" ∷ [])
-unfolding fourRoles computing linesText
+unfolding fourRoles listing linesText
 text-of-four = refl

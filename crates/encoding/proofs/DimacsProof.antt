@@ -1,7 +1,8 @@
--- The head of an ask's clause text tells the truth: every variable is among those that it counts, and a line follows for each clause.
+-- The head of an ask's clause text tells the truth: every variable is among those that it counts, and a line follows
+-- for each clause.
 -- Assumes nothing.
 use mathlib.Core.Path.{_≡_, refl, sym, ap, ap₂, _∙_, subst}
-use mathlib.Core.Bool.{Bool, true, false, _&&_, not}
+use mathlib.Core.Bool.{Bool, true, _&&_, not}
 use mathlib.Core.List.{List, [], _∷_, _++_}
 use Prim.Native.Nat.{ℕ, zero, suc, _+_, _-_, _*_, _/_, _%_, _≤_, _<_}
 use native.Mathlib.Omega.{arith}
@@ -16,11 +17,12 @@ use Rattle.model.specs.Policy.{Meaning}
 use Rattle.model.specs.Line.{exclusionsMet}
 use Rattle.model.specs.Ranges.{Each, OneTo, ExclusionInRange}
 use Rattle.model.specs.Reduced.{stays}
-use Rattle.model.specs.Clauses.{Literal, holds, fails, Clause, must, mustNot, gives, give, listTo, when, roleVariable, permissionVariable, lastPlain, barring, carries, carrying, carriers, carried, bounding, uncounted, room, keeping, adding, row, rows, counter, excluding, helpers, excludingAll, hard, Weighted, wanting, soft, top}
+use Rattle.model.specs.Clauses.{Literal, holds, fails, Clause, must, mustNot, gives, give, when, roleVariable, permissionVariable, lastPlain, barring, carrying, carriers, carried, bounding, uncounted, room, keeping, adding, row, rows, counter, excluding, helpers, excludingAll, hard, Weighted, wanting, soft, top}
 use Rattle.model.specs.Dimacs.{ascii, figure, digitsTo, decimal, literalText, literalsText, clauseText, clausesText, headText, helpersOf, variablesOf, weighing, clausesOf, textOf}
 use Rattle.encoding.specs.Texts.{variableOf, numbered, lineCount, TextIs}
-use Rattle.model.proofs.Bools.{and-l, and-r, both}
-use Rattle.model.proofs.UnionLaws.{has-below}
+use borrow.Table.Steps.{cases}
+use Rattle.model_laws.proofs.Bools.{and-l, and-r, both}
+use Rattle.model_laws.proofs.UnionLaws.{has-below}
 use Rattle.encoding.proofs.ClauseLaws.{all-join, all-one, all-when, all-listTo}
 use Rattle.encoding.proofs.Meant.{Meant}
 use Rattle.encoding.proofs.ClauseProof.{uncounted-is, some-room, mem-each, each-mem, each-when, each-listTo}
@@ -48,7 +50,7 @@ module _ (N : ℕ) where
       both (between 1 x N) (between 1 y N && (between 1 z N && true)) (in-range x h)
       (both (between 1 y N) (between 1 z N && true) (in-range y i) (both (between 1 z N) true (in-range z j) refl))
 
--- ---- every clause of an ask: what holds of units, of implications and of the clauses of carriers over variables up to N
+-- ---- every clause of an ask: what holds of units, implications and clauses of carriers over variables up to N
 module _ (N : ℕ) (f : Clause → Bool) (f-must : (x : ℕ) → OneTo N x → f (must x) ≡ true) (f-mustNot : (x : ℕ) → OneTo N x → f (mustNot x) ≡ true)
     (f-gives : (x y : ℕ) → OneTo N x → OneTo N y → f (gives x y) ≡ true)
     (f-give : (x y z : ℕ) → OneTo N x → OneTo N y → OneTo N z → f (give x y z) ≡ true) where
@@ -100,32 +102,25 @@ module _ (N : ℕ) (f : Clause → Bool) (f-must : (x : ℕ) → OneTo N x → f
     of-barring : all f (barring p) ≡ true
     unfolding barring
     of-barring =
-        all-listTo f (p .roles) (λ r. when (not (has (p .authorized) r)) (mustNot (roleVariable r))) (λ r l.
-        all-when f (not (has (p .authorized) r)) (mustNot (roleVariable r)) (λ e. f-mustNot (roleVariable r) (role-in r l)))
+        all-listTo f (p .roles) _ (λ r l. all-when f _ _ (λ e. f-mustNot (roleVariable r) (role-in r l)))
 
     of-carrying : all f (carrying p) ≡ true
     unfolding carrying
     of-carrying =
-        all-listTo f (p .roles) (λ r. listTo (p .permissions) (λ q. when (carries p r q) (gives (roleVariable r) (permissionVariable p q)))) (λ r l.
-        all-listTo f (p .permissions) (λ q. when (carries p r q) (gives (roleVariable r) (permissionVariable p q))) (λ q i.
-        all-when f (carries p r q) (gives (roleVariable r) (permissionVariable p q)) (λ e.
+        all-listTo f (p .roles) _ (λ r l. all-listTo f (p .permissions) _ (λ q i. all-when f _ _ (λ e.
         f-gives (roleVariable r) (permissionVariable p q) (role-in r l) (permission-in q i))))
 
     of-carried : all f (carried p) ≡ true
     unfolding carried
     of-carried =
-        all-listTo f (p .permissions) (λ q. (fails (permissionVariable p q) ∷ carriers p q) ∷ []) (λ q i.
-        all-one f (fails (permissionVariable p q) ∷ carriers p q) (f-carried q i))
+        all-listTo f (p .permissions) _ (λ q i. all-one f _ (f-carried q i))
 
     of-bounding : (lower upper : ℕ) → all f (bounding p lower upper) ≡ true
     unfolding bounding
     of-bounding lower upper =
-        all-join f (listTo (p .permissions) (λ q. when (has lower q) (must (permissionVariable p q))))
-        (listTo (p .permissions) (λ q. when (not (has upper q)) (mustNot (permissionVariable p q))))
-        (all-listTo f (p .permissions) (λ q. when (has lower q) (must (permissionVariable p q))) (λ q i.
-        all-when f (has lower q) (must (permissionVariable p q)) (λ e. f-must (permissionVariable p q) (permission-in q i))))
-        (all-listTo f (p .permissions) (λ q. when (not (has upper q)) (mustNot (permissionVariable p q))) (λ q i.
-        all-when f (not (has upper q)) (mustNot (permissionVariable p q)) (λ e. f-mustNot (permissionVariable p q) (permission-in q i))))
+        all-join f _ _
+        (all-listTo f (p .permissions) _ (λ q i. all-when f _ _ (λ e. f-must (permissionVariable p q) (permission-in q i))))
+        (all-listTo f (p .permissions) _ (λ q i. all-when f _ _ (λ e. f-mustNot (permissionVariable p q) (permission-in q i))))
 
     -- a soft clause's
     of-wanting : (a w x : ℕ) → OneTo N x → all (λ (c : Weighted). f (c .clause)) (wanting a w x) ≡ true
@@ -137,11 +132,10 @@ module _ (N : ℕ) (f : Clause → Bool) (f-must : (x : ℕ) → OneTo N x → f
     of-soft : (a b : ℕ) → all (λ (c : Weighted). f (c .clause)) (soft p a b) ≡ true
     unfolding soft
     of-soft a b =
-        all-join (λ (c : Weighted). f (c .clause)) (listTo (p .permissions) (λ q. wanting a (p .roles + 1) (permissionVariable p q)))
-        (listTo (p .roles) (λ r. wanting b 1 (roleVariable r)))
-        (all-listTo (λ (c : Weighted). f (c .clause)) (p .permissions) (λ q. wanting a (p .roles + 1) (permissionVariable p q)) (λ q i.
-        of-wanting a (p .roles + 1) (permissionVariable p q) (permission-in q i)))
-        (all-listTo (λ (c : Weighted). f (c .clause)) (p .roles) (λ r. wanting b 1 (roleVariable r)) (λ r l. of-wanting b 1 (roleVariable r) (role-in r l)))
+        let g : Weighted → Bool = λ c. f (c .clause) in
+        all-join g _ _
+        (all-listTo g (p .permissions) _ (λ q i. of-wanting a (p .roles + 1) (permissionVariable p q) (permission-in q i)))
+        (all-listTo g (p .roles) _ (λ r l. of-wanting b 1 (roleVariable r) (role-in r l)))
 
   -- the same clauses with a weight
   of-weighted : (w : ℕ) (cs : List Clause) → all f cs ≡ true → all (λ (c : Weighted). f (c .clause)) (weighing w cs) ≡ true
@@ -159,12 +153,9 @@ length-weighing w (c ∷ cs) = ap suc (length-weighing w cs)
 lines-append : (xs ys : List ℕ) → lineCount (xs ++ ys) ≡ lineCount xs + lineCount ys
 unfolding lineCount
 lines-append [] ys = omega arith
-lines-append (x ∷ xs) ys = go (eqb x 10) (lines-append xs ys)
-  where
-    go : (b : Bool) → lineCount (xs ++ ys) ≡ lineCount xs + lineCount ys
-        → elim b [ true ↦ suc (lineCount (xs ++ ys)) | false ↦ lineCount (xs ++ ys) ] ≡ elim b [ true ↦ suc (lineCount xs) | false ↦ lineCount xs ] + lineCount ys
-    go true e = omega arith
-    go false e = e
+lines-append (x ∷ xs) ys =
+    let h = lines-append xs ys in
+    cases (eqb x 10) (λ e. rw (e, lineCount) (omega arith)) (λ e. rw (e, lineCount) h)
 
 figure-line : (n : ℕ) → lineCount (figure n ∷ []) ≡ 0
 unfolding lineCount figure
@@ -173,12 +164,10 @@ figure-line n = rw (ne-eqb (48 + n % 10) 10 (λ e. omega arith), lineCount)
 digits-line : (k n : ℕ) → lineCount (digitsTo k n) ≡ 0
 unfolding digitsTo
 digits-line zero n = figure-line n
-digits-line (suc k) n = go (ltb n 10) (digits-line k (n / 10))
-  where
-    go : (b : Bool) → lineCount (digitsTo k (n / 10)) ≡ 0
-        → lineCount (elim b [ true ↦ figure n ∷ [] | false ↦ digitsTo k (n / 10) ++ (figure n ∷ []) ]) ≡ 0
-    go true e = figure-line n
-    go false e = omega (arith, lines-append (digitsTo k (n / 10)) (figure n ∷ []), figure-line n)
+digits-line (suc k) n =
+    let h = digits-line k (n / 10) in
+    cases (ltb n 10) (λ e. rw (e, digitsTo) (figure-line n))
+    (λ e. rw (e, digitsTo) (omega (arith, lines-append (digitsTo k (n / 10)) (figure n ∷ []), figure-line n)))
 
 decimal-line : (n : ℕ) → lineCount (decimal n) ≡ 0
 unfolding decimal
@@ -277,9 +266,9 @@ module _ (p : Meaning) (range : Meant p) (l : Line) (k lower upper : ℕ) (insid
   unfolding carriers numbered variableOf all
   carriers-numbered q i =
       let w = wide in
-      both (between 1 (permissionVariable p q) N) (all (λ t. between 1 (variableOf t) N) (carriers p q)) (in-range N (permissionVariable p q) (omega arith))
-      (all-listTo (λ t. between 1 (variableOf t) N) (p .roles) (λ r. when (carries p r q) (holds (roleVariable r))) (λ r l.
-      all-when (λ t. between 1 (variableOf t) N) (carries p r q) (holds (roleVariable r)) (λ e. in-range N (roleVariable r) (omega arith))))
+      let f : Literal → Bool = λ t. between 1 (variableOf t) N in
+      both (between 1 (permissionVariable p q) N) (all f (carriers p q)) (in-range N (permissionVariable p q) (omega arith))
+      (all-listTo f (p .roles) _ (λ r l. all-when f _ _ (λ e. in-range N (roleVariable r) (omega arith))))
 
   pub all-numbered : all (λ (c : Weighted). numbered N (c .clause)) (clausesOf p l k lower upper a b) ≡ true
   all-numbered = of-clauses (numbered N) (ok-must N) (ok-mustNot N) (ok-gives N) (ok-give N) carriers-numbered
@@ -291,7 +280,7 @@ module _ (p : Meaning) (range : Meant p) (l : Line) (k lower upper : ℕ) (insid
         variables = all-numbered;
         clauses = length-append (weighing (top (soft p a b)) (hard p l k lower upper)) (soft p a b)
             ∙ ap (λ (n : ℕ). n + length (soft p a b)) (length-weighing (top (soft p a b)) (hard p l k lower upper));
-        lines = lines-append (headText (variablesOf p l k) (length (clausesOf p l k lower upper a b)) (top (soft p a b))) (clausesText (clausesOf p l k lower upper a b))
+        lines = lines-append _ (clausesText (clausesOf p l k lower upper a b))
             ∙ ap₂ (λ (x y : ℕ). x + y) (head-line (variablesOf p l k) (length (clausesOf p l k lower upper a b)) (top (soft p a b)))
             (clauses-lines (clausesOf p l k lower upper a b));
       }

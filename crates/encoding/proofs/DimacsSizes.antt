@@ -8,7 +8,7 @@ use native.Mathlib.Nat.{mul-le-mul, div-lt-iff-lt-mul}
 use native.Mathlib.Omega.{arith}
 use lib.Dec.{ltb, leb}
 use lib.ListN.{length, length-append}
-use borrow.Author.Tests.{ltb-false, leb-true, le-leb}
+use borrow.Author.Tests.{leb-true, le-leb, lt-ltb}
 use Rattle.model.specs.declared.Exclusion.{Exclusion}
 use Rattle.model.specs.declared.Line.{Line}
 use Rattle.model.specs.Tests.{between, all}
@@ -20,23 +20,12 @@ use Rattle.model.specs.Reduced.{stays, roomOf}
 use Rattle.model.specs.Clauses.{Literal, holds, fails, Clause, must, mustNot, gives, give, listTo, when, roleVariable, permissionVariable, lastPlain, barring, carries, carrying, carriers, carried, bounding, keeping, adding, row, rows, counter, uncounted, room, excluding, helpers, excludingAll, hard, Weighted, wanting, soft, weightOf, top}
 use Rattle.model.specs.Dimacs.{ascii, figure, digitsTo, decimal, literalText, literalsText, clauseText, clausesText, headText, helpersOf, variablesOf, weighing, clausesOf, textOf}
 use Rattle.encoding.specs.Texts.{variableOf, numbered, TextSmall}
-use Rattle.model.proofs.Bools.{and-l, and-r, both}
+use borrow.Table.Steps.{cases}
+use Rattle.model_laws.proofs.Bools.{and-l, and-r, both}
 use Rattle.encoding.proofs.Meant.{Meant}
-use Rattle.encoding.proofs.ClauseLaws.{all-join, all-listTo, length-singles, counter-length}
+use Rattle.encoding.proofs.ClauseLaws.{all-join, all-listTo, counter-length}
 use Rattle.encoding.proofs.ClauseProof.{uncounted-length}
 use Rattle.encoding.proofs.DimacsProof.{length-weighing, all-numbered}
-
--- ---- lists by number
-length-listTo : {A : Type 0} (c n : ℕ) (f : ℕ → List A) → ((k : ℕ) → k < n → length (f k) ≤ c) → length (listTo n f) ≤ n * c
-unfolding listTo
-length-listTo c zero f h = omega arith
-length-listTo c (suc n) f h =
-    omega (arith, length-append (listTo n f) (f n), length-listTo c n f (λ k l. h k (omega arith)), h n (omega arith))
-
-length-when : {A : Type 0} (b : Bool) (x : A) → length (when b x) ≤ 1
-unfolding when
-length-when true x = omega arith
-length-when false x = omega arith
 
 -- ---- sums over lists
 unfoldable total : {A : Type 0} → (A → ℕ) → List A → ℕ
@@ -55,21 +44,29 @@ module _ {A : Type 0} (f : A → ℕ) where
   total-listTo c (suc n) g h =
       omega (arith, total-append (listTo n g) (g n), total-listTo c n g (λ k l. h k (omega arith)), h n (omega arith))
 
-  total-when : (b : Bool) (x : A) → total f (when b x) ≤ f x
+  total-when : (c : ℕ) (b : Bool) (x : A) → f x ≤ c → total f (when b x) ≤ c
   unfolding when total
-  total-when true x = omega arith
-  total-when false x = omega arith
+  total-when c true x h = omega arith
+  total-when c false x h = omega arith
 
--- ---- literals
+  total-one : (c : ℕ) (x : A) → f x ≤ c → total f (x ∷ []) ≤ c
+  unfolding total
+  total-one c x h = omega arith
+
+-- a length as a sum
+abbrev each : {A : Type 0} → A → ℕ
+each x = 1
+
+length-total : {A : Type 0} (xs : List A) → length xs ≡ total each xs
+unfolding total
+length-total [] = refl
+length-total (x ∷ xs) = omega (arith, length-total xs)
+
 widthOf : Clause → ℕ
 widthOf c = length c
 
 literals : List Clause → ℕ
 literals cs = total widthOf cs
-
-single : (x : Clause) → literals (x ∷ []) ≤ length x
-unfolding literals total widthOf
-single x = omega arith
 
 module _ (n N : ℕ) (small : n ≤ N) (positive : 1 ≤ N) where
   row-literals : (a x : ℕ) → literals (row n a x) ≤ 5 * N
@@ -78,8 +75,9 @@ module _ (n N : ℕ) (small : n ≤ N) (positive : 1 ≤ N) where
       omega (
         arith,
         total-append widthOf (keeping n a) (adding n a x),
-        total-listTo widthOf 2 n (λ j. gives (a + j + 1) (a + n + j + 1) ∷ []) (λ j l. single (gives (a + j + 1) (a + n + j + 1))),
-        total-listTo widthOf 3 (n - 1) (λ j. give x (a + j + 1) (a + n + j + 2) ∷ []) (λ j l. single (give x (a + j + 1) (a + n + j + 2))),
+        total-listTo widthOf 2 n (λ j. gives (a + j + 1) (a + n + j + 1) ∷ []) (λ j l. total-one widthOf 2 (gives (a + j + 1) (a + n + j + 1)) (omega arith)),
+        total-listTo widthOf 3 (n - 1) (λ j. give x (a + j + 1) (a + n + j + 2) ∷ [])
+            (λ j l. total-one widthOf 3 (give x (a + j + 1) (a + n + j + 2)) (omega arith)),
       )
 
   rows-literals : (a : ℕ) (xs : List ℕ) → literals (rows n a xs) ≤ 1 + 5 * (length xs * N)
@@ -117,18 +115,6 @@ module _ (l : Line) (k : ℕ) where
   all-helpers roles q [] h = omega arith
   all-helpers roles q (x ∷ xs) h = omega (arith, helpers-few roles x q (h .0), all-helpers roles q xs (h .1))
 
-  all-excluding : (roles : ℕ) → roles ≤ 64 → (a : ℕ) (xs : List Exclusion) → Each (ExclusionInRange roles) xs
-      → length (excludingAll l k a xs) ≤ length xs * 8192
-  unfolding excludingAll
-  all-excluding roles q a [] h = omega arith
-  all-excluding roles q a (x ∷ xs) h =
-      omega (
-        arith,
-        length-append (excluding l k a x) (excludingAll l k (a + helpers l k x) xs),
-        excluding-few roles a x q (h .0),
-        all-excluding roles q (a + helpers l k x) xs (h .1),
-      )
-
   excluding-literals : (roles a : ℕ) (x : Exclusion) → roles ≤ 64 → ExclusionInRange roles x → literals (excluding l k a x) ≤ 20480
   unfolding excluding room roomOf
   excluding-literals roles a x q h =
@@ -137,20 +123,21 @@ module _ (l : Line) (k : ℕ) where
       let c = counter-literals (room x base) 64 (omega arith) (omega arith) a (uncounted x base) in
       omega arith
 
-  all-literals : (roles : ℕ) → roles ≤ 64 → (a : ℕ) (xs : List Exclusion) → Each (ExclusionInRange roles) xs
-      → literals (excludingAll l k a xs) ≤ length xs * 20480
-  unfolding excludingAll literals total
-  all-literals roles q a [] h = omega arith
-  all-literals roles q a (x ∷ xs) h =
+  -- of all exclusions, where there is a bound for each
+  all-total : (f : Clause → ℕ) (c roles : ℕ) → ((a : ℕ) (x : Exclusion) → ExclusionInRange roles x → total f (excluding l k a x) ≤ c)
+      → (a : ℕ) (xs : List Exclusion) → Each (ExclusionInRange roles) xs → total f (excludingAll l k a xs) ≤ length xs * c
+  unfolding excludingAll total
+  all-total f c roles g a [] h = omega arith
+  all-total f c roles g a (x ∷ xs) h =
       omega (
         arith,
-        total-append widthOf (excluding l k a x) (excludingAll l k (a + helpers l k x) xs),
-        excluding-literals roles a x q (h .0),
-        all-literals roles q (a + helpers l k x) xs (h .1),
+        total-append f (excluding l k a x) (excludingAll l k (a + helpers l k x) xs),
+        g a x (h .0),
+        all-total f c roles g (a + helpers l k x) xs (h .1),
       )
 
 -- ---- soft clauses
-weight-append : (xs ys : List Weighted) → weightOf (xs ++ ys) ≡ weightOf xs + weightOf ys
+pub weight-append : (xs ys : List Weighted) → weightOf (xs ++ ys) ≡ weightOf xs + weightOf ys
 unfolding weightOf
 weight-append [] ys = omega arith
 weight-append (x ∷ xs) ys = omega (arith, weight-append xs ys)
@@ -167,27 +154,15 @@ weight-listTo a w x zero = omega arith
 weight-listTo a w x (suc n) =
     omega (arith, weight-append (listTo n (λ i. wanting a w (x i))) (wanting a w (x n)), weight-listTo a w x n, weight-wanting a w (x n))
 
-length-wanting : (a w x : ℕ) → length (wanting a w x) ≤ 1
-unfolding wanting
-length-wanting zero w x = omega arith
-length-wanting (suc zero) w x = omega arith
-length-wanting (suc (suc a)) w x = omega arith
-
 -- ---- text
 digits-length : (j k n : ℕ) → n < 10 ^ suc j → length (digitsTo k n) ≤ suc j
 unfolding digitsTo
 digits-length j zero n h = omega arith
-digits-length zero (suc k) n h = go (ltb n 10) refl
-  where
-    go : (b : Bool) → ltb n 10 ≡ b → length {A = ℕ} (elim b [ true ↦ figure n ∷ [] | false ↦ digitsTo k (n / 10) ++ (figure n ∷ []) ]) ≤ 1
-    go true e = omega arith
-    go false e = absurd (omega (arith, ltb-false n 10 e))
-digits-length (suc j) (suc k) n h = go (ltb n 10) (digits-length j k (n / 10) (div-lt-iff-lt-mul (omega arith) .1 (omega arith)))
-  where
-    go : (b : Bool) → length (digitsTo k (n / 10)) ≤ suc j
-        → length {A = ℕ} (elim b [ true ↦ figure n ∷ [] | false ↦ digitsTo k (n / 10) ++ (figure n ∷ []) ]) ≤ suc (suc j)
-    go true e = omega arith
-    go false e = omega (arith, length-append (digitsTo k (n / 10)) (figure n ∷ []))
+digits-length zero (suc k) n h = let e : ltb n 10 ≡ true = lt-ltb n 10 (omega arith) in rw (e, digitsTo) (omega arith)
+digits-length (suc j) (suc k) n h =
+    let i = digits-length j k (n / 10) (div-lt-iff-lt-mul (omega arith) .1 (omega arith)) in
+    cases (ltb n 10) (λ e. rw (e, digitsTo) (omega arith))
+    (λ e. rw (e, digitsTo) (omega (arith, length-append (digitsTo k (n / 10)) (figure n ∷ []))))
 
 decimal-length : (n : ℕ) → n < 1000000 → length (decimal n) ≤ 6
 unfolding decimal
@@ -245,11 +220,13 @@ unfolding weighing literals total breadth widthOf
 breadth-weighing w [] = refl
 breadth-weighing w (c ∷ cs) = ap (λ (n : ℕ). length c + n) (breadth-weighing w cs)
 
-breadth-wanting : (a w x : ℕ) → total breadth (wanting a w x) ≤ 1
-unfolding wanting total breadth
-breadth-wanting zero w x = omega arith
-breadth-wanting (suc zero) w x = omega arith
-breadth-wanting (suc (suc a)) w x = omega arith
+-- what an objective wants is one clause of one literal at most
+wanting-total : (f : Weighted → ℕ) → ((w x : ℕ) → (f (record { weight = w; clause = must x }) ≤ 1) × (f (record { weight = w; clause = mustNot x }) ≤ 1))
+    → (a w x : ℕ) → total f (wanting a w x) ≤ 1
+unfolding wanting total
+wanting-total f h zero w x = omega arith
+wanting-total f h (suc zero) w x = omega (arith, h w x .1)
+wanting-total f h (suc (suc a)) w x = omega (arith, h w x .0)
 
 head-length : (x y z : ℕ) → x < 1000000 → y < 1000000 → z < 1000000 → length (headText x y z) ≤ 28
 unfolding headText ascii
@@ -294,82 +271,89 @@ module _ (p : Meaning) (range : Meant p) where
         weight-listTo b 1 (λ r. roleVariable r) R,
       )
 
-  few-soft : (a b : ℕ) → length (soft p a b) ≤ 320
+  soft-total : (f : Weighted → ℕ) → ((w x : ℕ) → (f (record { weight = w; clause = must x }) ≤ 1) × (f (record { weight = w; clause = mustNot x }) ≤ 1))
+      → (a b : ℕ) → total f (soft p a b) ≤ 320
   unfolding soft
-  few-soft a b =
+  soft-total f h a b =
       let r = range .roles .1 in
       let q = range .permissions .1 in
+      let first : ℕ → List Weighted = λ q. wanting a (R + 1) (permissionVariable p q) in
+      let second : ℕ → List Weighted = λ r. wanting b 1 (roleVariable r) in
       omega (
         arith,
-        length-append (listTo P (λ q. wanting a (R + 1) (permissionVariable p q))) (listTo R (λ r. wanting b 1 (roleVariable r))),
-        length-listTo 1 P (λ q. wanting a (R + 1) (permissionVariable p q)) (λ q l. length-wanting a (R + 1) (permissionVariable p q)),
-        length-listTo 1 R (λ r. wanting b 1 (roleVariable r)) (λ r l. length-wanting b 1 (roleVariable r)),
+        total-append f (listTo P first) (listTo R second),
+        total-listTo f 1 P first (λ q l. wanting-total f h a (R + 1) (permissionVariable p q)),
+        total-listTo f 1 R second (λ r l. wanting-total f h b 1 (roleVariable r)),
       )
 
-  few-hard : (l : Line) (k lower upper : ℕ) → length (hard p l k lower upper) ≤ 279360
-  unfolding hard barring carrying carried bounding
-  few-hard l k lower upper =
-      let r = range .roles .1 in
-      let q = range .permissions .1 in
-      let e = range .few-exclusions in
-      let x = excludingAll l k (lastPlain p) (p .exclusions) in
-      let m : R * (P * 1) ≤ 64 * 256 = mul-le-mul {n₂ = 64} {m₂ = 256} r (omega arith) in
-      omega (
-        arith,
-        length-append (barring p) (carrying p ++ (carried p ++ (bounding p lower upper ++ x))),
-        length-append (carrying p) (carried p ++ (bounding p lower upper ++ x)),
-        length-append (carried p) (bounding p lower upper ++ x),
-        length-append (bounding p lower upper) x,
-        length-append (listTo P (λ q. when (has lower q) (must (permissionVariable p q)))) (listTo P (λ q. when (not (has upper q)) (mustNot (permissionVariable p q)))),
-        length-listTo 1 R (λ r. when (not (has (p .authorized) r)) (mustNot (roleVariable r))) (λ r l. length-when (not (has (p .authorized) r)) (mustNot (roleVariable r))),
-        length-listTo (P * 1) R (λ r. listTo P (λ q. when (carries p r q) (gives (roleVariable r) (permissionVariable p q)))) (λ r l.
-            length-listTo 1 P (λ q. when (carries p r q) (gives (roleVariable r) (permissionVariable p q))) (λ q l. length-when (carries p r q) (gives (roleVariable r) (permissionVariable p q)))),
-        length-singles P (λ q. fails (permissionVariable p q) ∷ carriers p q),
-        length-listTo 1 P (λ q. when (has lower q) (must (permissionVariable p q))) (λ q l. length-when (has lower q) (must (permissionVariable p q))),
-        length-listTo 1 P (λ q. when (not (has upper q)) (mustNot (permissionVariable p q))) (λ q l. length-when (not (has upper q)) (mustNot (permissionVariable p q))),
-        all-excluding l k R r (lastPlain p) (p .exclusions) (range .exclusions),
-      )
+  few-soft : (a b : ℕ) → length (soft p a b) ≤ 320
+  few-soft a b = omega (arith, length-total (soft p a b), soft-total each (λ w x. (omega arith, omega arith)) a b)
 
   narrow-soft : (a b : ℕ) → total breadth (soft p a b) ≤ 320
-  unfolding soft
-  narrow-soft a b =
-      let r = range .roles .1 in
-      let q = range .permissions .1 in
-      omega (
-        arith,
-        total-append breadth (listTo P (λ q. wanting a (R + 1) (permissionVariable p q))) (listTo R (λ r. wanting b 1 (roleVariable r))),
-        total-listTo breadth 1 P (λ q. wanting a (R + 1) (permissionVariable p q)) (λ q l. breadth-wanting a (R + 1) (permissionVariable p q)),
-        total-listTo breadth 1 R (λ r. wanting b 1 (roleVariable r)) (λ r l. breadth-wanting b 1 (roleVariable r)),
-      )
+  unfolding breadth
+  narrow-soft a b = soft-total breadth (λ w x. (omega arith, omega arith)) a b
 
   few-carriers : (q : ℕ) → length (carriers p q) ≤ 64
   unfolding carriers
   few-carriers q =
       let r = range .roles .1 in
-      omega (arith, length-listTo 1 R (λ r. when (carries p r q) (holds (roleVariable r))) (λ r l. length-when (carries p r q) (holds (roleVariable r))))
+      let one : ℕ → Clause = λ r. when (carries p r q) (holds (roleVariable r)) in
+      omega (arith, length-total (listTo R one), total-listTo each 1 R one (λ r l. total-when each 1 (carries p r q) (holds (roleVariable r)) (omega arith)))
+
+  -- of all hard clauses: a unit clause, one of two literals, and what a permission is carried by
+  module _ (f : Clause → ℕ) (unit : (x : ℕ) → (f (must x) ≤ 1) × (f (mustNot x) ≤ 1)) (two : ℕ) (pair : (x y : ℕ) → f (gives x y) ≤ two)
+      (most : ℕ) (wide : (q : ℕ) → f (fails (permissionVariable p q) ∷ carriers p q) ≤ most) where
+    hard-total : (l : Line) (k lower upper : ℕ) → total f (hard p l k lower upper)
+        ≤ R + R * (P * two) + P * most + 2 * P + total f (excludingAll l k (lastPlain p) (p .exclusions))
+    unfolding hard barring carrying carried bounding
+    hard-total l k lower upper =
+        let x = excludingAll l k (lastPlain p) (p .exclusions) in
+        let b = bounding p lower upper in
+        let barred : ℕ → List Clause = λ r. when (not (has (p .authorized) r)) (mustNot (roleVariable r)) in
+        let given : ℕ → ℕ → List Clause = λ r q. when (carries p r q) (gives (roleVariable r) (permissionVariable p q)) in
+        let by : ℕ → List Clause = λ q. (fails (permissionVariable p q) ∷ carriers p q) ∷ [] in
+        let low : ℕ → List Clause = λ q. when (has lower q) (must (permissionVariable p q)) in
+        let high : ℕ → List Clause = λ q. when (not (has upper q)) (mustNot (permissionVariable p q)) in
+        omega (
+          arith,
+          total-append f (barring p) (carrying p ++ (carried p ++ (b ++ x))),
+          total-append f (carrying p) (carried p ++ (b ++ x)),
+          total-append f (carried p) (b ++ x),
+          total-append f b x,
+          total-append f (listTo P low) (listTo P high),
+          total-listTo f 1 R barred (λ r l. total-when f 1 _ _ (unit (roleVariable r) .1)),
+          total-listTo f (P * two) R (λ r. listTo P (given r))
+              (λ r l. total-listTo f two P (given r) (λ q l. total-when f two _ _ (pair (roleVariable r) (permissionVariable p q)))),
+          total-listTo f most P by (λ q l. total-one f most _ (wide q)),
+          total-listTo f 1 P low (λ q l. total-when f 1 _ _ (unit (permissionVariable p q) .0)),
+          total-listTo f 1 P high (λ q l. total-when f 1 _ _ (unit (permissionVariable p q) .1)),
+        )
+
+  few-hard : (l : Line) (k lower upper : ℕ) → length (hard p l k lower upper) ≤ 279360
+  few-hard l k lower upper =
+      let r = range .roles .1 in
+      let q = range .permissions .1 in
+      let e = range .few-exclusions in
+      let m : R * (P * 1) ≤ 64 * 256 = mul-le-mul {n₂ = 64} {m₂ = 256} r (omega arith) in
+      omega (
+        arith,
+        length-total (hard p l k lower upper),
+        hard-total each (λ x. (omega arith, omega arith)) 1 (λ x y. omega arith) 1 (λ q. omega arith) l k lower upper,
+        all-total l k each 8192 R (λ a x h. omega (arith, length-total (excluding l k a x), excluding-few l k R a x r h)) (lastPlain p) (p .exclusions)
+            (range .exclusions),
+      )
 
   few-literals : (l : Line) (k lower upper : ℕ) → literals (hard p l k lower upper) ≤ 705344
-  unfolding hard barring carrying carried bounding literals widthOf
+  unfolding literals widthOf
   few-literals l k lower upper =
       let r = range .roles .1 in
       let q = range .permissions .1 in
       let e = range .few-exclusions in
-      let x = excludingAll l k (lastPlain p) (p .exclusions) in
       let m : R * (P * 2) ≤ 64 * 512 = mul-le-mul {n₂ = 64} {m₂ = 512} r (omega arith) in
       omega (
         arith,
-        total-append widthOf (barring p) (carrying p ++ (carried p ++ (bounding p lower upper ++ x))),
-        total-append widthOf (carrying p) (carried p ++ (bounding p lower upper ++ x)),
-        total-append widthOf (carried p) (bounding p lower upper ++ x),
-        total-append widthOf (bounding p lower upper) x,
-        total-append widthOf (listTo P (λ q. when (has lower q) (must (permissionVariable p q)))) (listTo P (λ q. when (not (has upper q)) (mustNot (permissionVariable p q)))),
-        total-listTo widthOf 1 R (λ r. when (not (has (p .authorized) r)) (mustNot (roleVariable r))) (λ r l. total-when widthOf (not (has (p .authorized) r)) (mustNot (roleVariable r))),
-        total-listTo widthOf (P * 2) R (λ r. listTo P (λ q. when (carries p r q) (gives (roleVariable r) (permissionVariable p q)))) (λ r l.
-            total-listTo widthOf 2 P (λ q. when (carries p r q) (gives (roleVariable r) (permissionVariable p q))) (λ q l. total-when widthOf (carries p r q) (gives (roleVariable r) (permissionVariable p q)))),
-        total-listTo widthOf 65 P (λ q. (fails (permissionVariable p q) ∷ carriers p q) ∷ []) (λ q l. omega (arith, single (fails (permissionVariable p q) ∷ carriers p q), few-carriers q)),
-        total-listTo widthOf 1 P (λ q. when (has lower q) (must (permissionVariable p q))) (λ q l. total-when widthOf (has lower q) (must (permissionVariable p q))),
-        total-listTo widthOf 1 P (λ q. when (not (has upper q)) (mustNot (permissionVariable p q))) (λ q l. total-when widthOf (not (has upper q)) (mustNot (permissionVariable p q))),
-        all-literals l k R r (lastPlain p) (p .exclusions) (range .exclusions),
+        hard-total widthOf (λ x. (omega arith, omega arith)) 2 (λ x y. omega arith) 65 (λ q. omega (arith, few-carriers q)) l k lower upper,
+        all-total l k widthOf 20480 R (λ a x h. excluding-literals l k R a x r h) (lastPlain p) (p .exclusions) (range .exclusions),
       )
 
   -- weights
@@ -390,9 +374,9 @@ module _ (p : Meaning) (range : Meant p) where
   unfolding soft
   heavy-soft a b =
       let r = range .roles .1 in
-      all-join (λ (c : Weighted). leb (c .weight) 16705) (listTo P (λ q. wanting a (R + 1) (permissionVariable p q))) (listTo R (λ r. wanting b 1 (roleVariable r)))
-      (all-listTo (λ (c : Weighted). leb (c .weight) 16705) P (λ q. wanting a (R + 1) (permissionVariable p q)) (λ q i. heavy-wanting a (R + 1) (permissionVariable p q) (omega arith)))
-      (all-listTo (λ (c : Weighted). leb (c .weight) 16705) R (λ r. wanting b 1 (roleVariable r)) (λ r l. heavy-wanting b 1 (roleVariable r) (omega arith)))
+      let light : Weighted → Bool = λ c. leb (c .weight) 16705 in
+      all-join light _ _ (all-listTo light P _ (λ q i. heavy-wanting a (R + 1) (permissionVariable p q) (omega arith)))
+      (all-listTo light R _ (λ r l. heavy-wanting b 1 (roleVariable r) (omega arith)))
 
   module _ (l : Line) (k lower upper : ℕ) (inside : k < length (l .sessions)) (met : exclusionsMet p l ≡ true) (a b : ℕ) where
     few-clauses : length (clausesOf p l k lower upper a b) ≤ 279680

@@ -3,7 +3,7 @@
 use mathlib.Core.Path.{_≡_, sym, ap, _∙_, subst}
 use mathlib.Core.Bool.{true}
 use mathlib.Core.Logic.{_↔_}
-use mathlib.Core.List.{List, List·Memᴰ}
+use mathlib.Core.List.{List·Memᴰ}
 use Prim.Native.Nat.{ℕ, _^_, _≤_, _<_}
 use lib.ListN.{length, getD, List·getD-map}
 use Rattle.model.specs.declared.Exclusion.{Exclusion}
@@ -15,11 +15,11 @@ use Rattle.model.specs.Limits.{Others, unbarred}
 use Rattle.model.specs.Choice.{carriedBy, admissible}
 use Rattle.model.specs.Conditions.{MetAfter}
 use Rattle.model.specs.Ranges.{Each, OneTo, ExclusionInRange, InRange}
-use Rattle.model.proofs.UnionLaws.{has-below, unionTo-lt, unionAt-none}
-use Rattle.model.proofs.AnyWidth.{within-iff, members-below}
-use Rattle.model.proofs.Reaches.{authorized-below}
-use Rattle.model.proofs.ConditionsProof.{Met, exclusionsMet-iff, solution}
-use Rattle.model.proofs.Barred.{change-first, first-of, left-own}
+use Rattle.model_laws.proofs.UnionLaws.{has-below, unionTo-lt, unionAt-none}
+use Rattle.model_laws.proofs.AnyWidth.{within-iff, members-below}
+use Rattle.model_laws.proofs.Reaches.{authorized-below}
+use Rattle.model_laws.proofs.ConditionsProof.{Met, exclusionsMet-iff, solution}
+use Rattle.model_laws.proofs.Barred.{change-first, first-of, left-own}
 
 -- 001's conditions for session k alone (specs/Conditions.antt), by a policy's meaning
 pub record Solved (p : Meaning) (l : Line) (k lb ub s : ℕ) : Type 0 where
@@ -35,7 +35,8 @@ pub record Meant (p : Meaning) : Type 0 where
   pub rows : (r : ℕ) → getD (p .carried) r 0 < 2 ^ p .permissions
   pub few-exclusions : length (p .exclusions) ≤ 32
   pub exclusions : Each (ExclusionInRange (p .roles)) (p .exclusions)
-  -- on a line that meets the exclusions each is met at each session, and the admissible sets are those that meet the conditions
+  -- on a line that meets the exclusions each is met at each session, and the admissible sets are those that meet the
+  -- conditions
   pub met-now : (l : Line) → exclusionsMet p l ≡ true → (x : Exclusion) → List·Memᴰ x (p .exclusions) → (j : ℕ) → j < length (l .sessions)
       → Met (counted l (sessionAt l j)) x
   pub solution : (l : Line) (k lb ub s : ℕ) → k < length (l .sessions) → exclusionsMet p l ≡ true

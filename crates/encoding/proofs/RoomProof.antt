@@ -1,7 +1,8 @@
--- No clause text into a buffer of `TEXT_ROOM` bytes is refused by 19: where the line is sound and the session there, the text fits.
+-- No clause text into a buffer of `TEXT_ROOM` bytes is refused by 19: where the line is sound and the session there,
+-- the text fits.
 -- Assumes nothing.
-use mathlib.Core.Path.{_≡_, refl, sym, ap, _∙_}
-use mathlib.Core.Bool.{Bool, true, false, not, true≢false}
+use mathlib.Core.Path.{_≡_}
+use mathlib.Core.Bool.{Bool, true, false}
 use mathlib.Core.Option.{Option, none, some}
 use mathlib.Core.List.{List, [], _∷_}
 use Prim.Native.Nat.{ℕ, _≤_, _<_}
@@ -13,9 +14,10 @@ use Rattle.model.specs.Bytes.{number}
 use Rattle.model.specs.Policy.{Meaning}
 use Rattle.model.specs.Line.{readLine, sound, exclusionsMet}
 use Rattle.model.specs.Limits.{Others, unbarred}
-use Rattle.model.specs.Session.{Query, clauses, refuse, wrote, Result, Refusal, bad-other, bad-line, bad-session, is-closed, bad-set, bad-permission, bad-bounds, bad-aim, too-long, refusalNumber, canGive, textFor, applies, perform, sessionOf, queryOf, unless, rule}
-use Rattle.model.proofs.LineLaws.{length-readSessions}
-use Rattle.model.proofs.SoundLaws.{sound-parts}
+use Rattle.model.specs.Session.{Query, clauses, refuse, wrote, Refusal, bad-other, bad-line, bad-session, is-closed, bad-set, bad-permission, bad-bounds, bad-aim, too-long, refusalNumber, canGive, textFor, applies, perform, sessionOf, queryOf, unless, rule}
+use borrow.Table.Steps.{cases}
+use Rattle.model_laws.proofs.LineLaws.{length-readSessions}
+use Rattle.model_laws.proofs.SoundLaws.{sound-parts}
 use Rattle.encoding.specs.Texts.{TEXT_ROOM, RoomEnough}
 use Rattle.encoding.proofs.Meant.{Meant, left-meant}
 use Rattle.encoding.proofs.DimacsSizes.{text-small}
@@ -29,19 +31,11 @@ Never19 (some f) = ¬ (refusalNumber f ≡ 19)
 passing : (f : Refusal → Bool) (x : Refusal) (xs : List Refusal) → ¬ (refusalNumber x ≡ 19) → (f x ≡ false → Never19 (first f xs))
     → Never19 (first f (x ∷ xs))
 unfolding first
-passing f x xs n h = go (f x) refl
-  where
-    go : (b : Bool) → f x ≡ b → Never19 (elim b [ true ↦ some x | false ↦ first f xs ])
-    go true e = n
-    go false e = h e
+passing f x xs n h = cases (f x) (λ e. rw (e, first) n) (λ e. rw (e, first) (h e))
 
 none-left : (f : Refusal → Bool) (x : Refusal) → f x ≡ false → Never19 (first f (x ∷ []))
 unfolding first
-none-left f x e = go (f x) refl
-  where
-    go : (b : Bool) → f x ≡ b → Never19 (elim b [ true ↦ some x | false ↦ none ])
-    go true p = absurd (true≢false (sym p ∙ e))
-    go false p = tt
+none-left f x e = rw (e, first) tt
 
 module _ (W : ℕ) (m : Meaning) (range : Meant m) (x : Others) (bs : List ℕ) (k : ℕ) (q : Query) (enough : TEXT_ROOM ≤ q .room) where
   abbrev tests : Refusal → Bool
@@ -54,7 +48,8 @@ module _ (W : ℕ) (m : Meaning) (range : Meant m) (x : Others) (bs : List ℕ) 
       le-ltb (q .room) _
       (omega (
         arith,
-        text-small (unbarred m x (readLine W bs) k) (left-meant m range x (readLine W bs) k) (readLine W bs) k (number (q .lower)) (number (q .upper)) inside (sound-parts m (readLine W bs) W s .met) (q .permissionAim) (q .roleAim)
+        text-small (unbarred m x (readLine W bs) k) (left-meant m range x (readLine W bs) k) (readLine W bs) k (number (q .lower))
+            (number (q .upper)) inside (sound-parts m (readLine W bs) W s .met) (q .permissionAim) (q .roleAim)
             .bytes,
       ))
 

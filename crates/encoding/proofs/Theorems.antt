@@ -1,5 +1,5 @@
--- The theorems on the clauses of an ask, each one claim. The arguments stand in the files that are cited; docs/PROOFS.md says which demand
--- each one meets.
+-- The theorems on the clauses of an ask, each one claim. The arguments stand in the files that are cited;
+-- docs/PROOFS.md says which demand each one meets.
 -- Assumes nothing.
 use mathlib.Core.Path.{_≡_}
 use mathlib.Core.Bool.{true}
@@ -19,8 +19,8 @@ use Rattle.model.specs.Choice.{admissible}
 use Rattle.model.specs.Chosen.{Unbarred}
 use Rattle.model.specs.Line.{exclusionsMet}
 use Rattle.model.specs.Ranges.{Each}
-use Rattle.model.proofs.Judgements.{accepted-in-range}
-use Rattle.model.proofs.Barred.{admissible-unbarred}
+use Rattle.model_laws.proofs.Judgements.{accepted-in-range}
+use Rattle.model_laws.proofs.Barred.{admissible-unbarred}
 use Rattle.encoding.specs.Satisfied.{HardIs, SoftIs, FewClauses}
 use Rattle.encoding.specs.Texts.{TextIs, TextSmall, RoomEnough}
 use Rattle.encoding.proofs.Meant.{Meant, meant, left-meant}
@@ -34,7 +34,8 @@ module _ (s : List ℕ) (h : Head) (accepted : judge s ≡ Accepted h) where
   by-policy : (u : ℕ) → Meant (meaning (policyOf s) u)
   by-policy = meant (policyOf s) (accepted-in-range s h accepted)
 
-  -- what the policy means to user u for a choice for session k of the line, given what is told of the other users: barred roles are not u's
+  -- what the policy means to user u for a choice for session k of the line, given what is told of the other users:
+  -- barred roles are not u's
   abbrev pub left : ℕ → Others → Line → ℕ → Meaning
   left u x l k = unbarred (meaning (policyOf s) u) x l k
 

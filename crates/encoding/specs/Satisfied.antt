@@ -1,4 +1,5 @@
--- What the clauses of an ask say: which valuations satisfy the hard ones, and what weight of the soft ones they violate.
+-- What the clauses of an ask say: which valuations satisfy the hard ones, and what weight of the soft ones they
+-- violate.
 -- Assumes nothing.
 use mathlib.Core.Path.{_≡_}
 use mathlib.Core.Bool.{Bool, true, not}
@@ -47,8 +48,8 @@ pub record Says (m : Meaning) (v : Valuation) (s : ℕ) : Type 0 where
   pub roles : (r : ℕ) → r < m .roles → v (roleVariable r) ≡ has s r
   pub permissions : (q : ℕ) → q < m .permissions → v (permissionVariable m q) ≡ has (carriedBy m s) q
 
--- each admissible set is named by some valuation that satisfies the hard clauses, and each valuation that does names an admissible set and
--- says what it carries
+-- each admissible set is named by some valuation that satisfies the hard clauses, and each valuation that does names
+-- an admissible set and says what it carries
 pub record HardIs (m : Meaning) (l : Line) (k lower upper : ℕ) : Type 0 where
   pub extends : (s : ℕ) → admissible m l k lower upper s ≡ true
       → (v : Valuation) × (satisfiesAll v (hard m l k lower upper) ≡ true) × (named m v ≡ s) × Says m v s
@@ -61,8 +62,9 @@ Before m a b s t =
     (permissionCost m a s < permissionCost m a t)
     ⊎ ((permissionCost m a s ≡ permissionCost m a t) × (roleCost b s < roleCost b t))
 
--- among the valuations that satisfy the hard clauses, less weight is violated exactly where the set named is better by the objectives. So
--- it is the least where the set is the chosen one, and where it is the least no admissible set is better by the objectives
+-- among the valuations that satisfy the hard clauses, less weight is violated exactly where the set named is better by
+-- the objectives. So it is the least where the set is the chosen one, and where it is the least no admissible set is
+-- better by the objectives
 pub record SoftIs (m : Meaning) (l : Line) (k lower upper a b : ℕ) : Type 0 where
   pub less : (v w : Valuation) → satisfiesAll v (hard m l k lower upper) ≡ true → satisfiesAll w (hard m l k lower upper) ≡ true
       → (violated v (soft m a b) < violated w (soft m a b)) ↔ Before m a b (named m v) (named m w)

@@ -27,7 +27,8 @@ unfoldable pub lineCount : List ℕ → ℕ
 lineCount [] = 0
 lineCount (b ∷ bs) = elim (eqb b 10) [ true ↦ suc (lineCount bs) | false ↦ lineCount bs ]
 
--- the head's numbers are right: every variable of the clauses is one of those that it counts, and it counts the lines that follow
+-- the head's numbers are right: every variable of the clauses is one of those that it counts, and it counts the lines
+-- that follow
 pub record TextIs (m : Meaning) (l : Line) (k lower upper a b : ℕ) : Type 0 where
   pub variables : all (λ (c : Weighted). numbered (variablesOf m l k) (c .clause)) (clausesOf m l k lower upper a b) ≡ true
   pub clauses : length (clausesOf m l k lower upper a b) ≡ length (hard m l k lower upper) + length (soft m a b)

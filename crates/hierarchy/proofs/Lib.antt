@@ -1,7 +1,5 @@
 -- The laws that the proofs of seniority's code use.
 pub mod Closing
-pub mod Looping
-pub mod Judging
-pub mod Reaching
-pub mod Showing
 pub mod Naming
+pub mod Joining
+pub mod Filling

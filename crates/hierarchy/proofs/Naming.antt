@@ -8,11 +8,11 @@ use native.Mathlib.Omega.{arith}
 use lib.ListN.{getD}
 use Rattle.model.specs.Sets.{has, inter, with, lowestIn}
 use Rattle.model.specs.Policy.{withSelves, granterBy}
-use Rattle.model.proofs.Bools.{and-l, and-r, both, not-both}
-use Rattle.model.proofs.SetLaws.{has-inter}
-use Rattle.model.proofs.UnionLaws.{has-none}
-use Rattle.model.proofs.LowestLaws.{lowest-some, lowest-named, unnamed-none}
-use Rattle.model.proofs.Closure.{getD-tableOf}
+use Rattle.model_laws.proofs.Bools.{and-l, and-r, both, not-both}
+use Rattle.model_laws.proofs.SetLaws.{has-inter}
+use Rattle.model_laws.proofs.UnionLaws.{has-none}
+use Rattle.model_laws.proofs.LowestLaws.{lowest-some, lowest-named, unnamed-none}
+use Rattle.model_laws.proofs.Closure.{getD-tableOf}
 use Rattle.sets.specs.Members.{Lowest}
 use Rattle.sets.proofs.Taken.{lowest-least}
 

@@ -7,6 +7,7 @@ use Prim.Native.Nat.{ℕ, suc, _+_, _-_, _/_, _%_, _^_, _≤_, _<_}
 use native.Mathlib.Omega.{arith}
 use lib.Dec.{eqb, leb}
 use lib.ListN.{length}
+use borrow.Table.Steps.{cases}
 use borrow.Author.Tests.{eq-eqb, ne-eqb, eqb-true, eqb-false, leb-false}
 use Rattle.model.specs.declared.Head.{Head}
 use Rattle.model.specs.declared.Exclusion.{Exclusion}
@@ -18,9 +19,9 @@ use Rattle.model.specs.declared.Checked.{Checked}
 use Rattle.model.specs.declared.Checked.the-variants.{Accepted, Refused}
 use Rattle.model.specs.Tests.{pick}
 use Rattle.model.specs.Image.{wordAt, decode, wrongKind, inRange, repeats, crowds, entryFault, sparing, fault, assigning, next, scan, balanced, behindHead, emptyRows}
-use Rattle.model.specs.Policy.{entryAt, entriesFrom, entriesOf, fold, ordering, policyOf}
-use Rattle.model.proofs.Tables.{assigning-length, ordering-length}
-use Rattle.image.specs.Bounds.{Due, Taken}
+use Rattle.model.specs.Policy.{entriesFrom, entriesOf, fold, ordering, policyOf}
+use Rattle.model_laws.proofs.Tables.{assigning-length, ordering-length}
+use Rattle.image.specs.Taken.{Due, Taken}
 
 -- ---- a word without fault is due
 
@@ -81,29 +82,36 @@ unfolding fault pick
 wrong-kind h rows t final w ek = ap (λ (b : Bool). pick b 3 (sparing (w .spare) (entryFault h rows t (w .entry)))) (sym ek)
 
 -- and so taken
-pub took : {h : Head} {a₀ j₀ : List ℕ} {t : Scan} {final : Bool} {w : Word} {n : ℕ} {a j : List ℕ} (e : Entry) → w .entry ≡ e
-    → wrongKind final (t .due) (w .entry) ≡ false → n ≡ sparing (w .spare) (entryFault h a₀ t e) → (n ≡ 0 → a ≡ assigning a₀ e)
-    → (n ≡ 0 → j ≡ ordering j₀ e) → Taken h a₀ j₀ t final w n a j
-took {h} {a₀} {j₀} {t} {final} {w} {n} e ee ek en fa fj =
+pub took : {h : Head} {a₀ j₀ : List ℕ} {t : Scan} {final : Bool} {w : Word} {n : ℕ} {a j : List ℕ} (e : Entry) (k : Bool)
+    → w .entry ≡ e → k ≡ wrongKind final (t .due) (w .entry) → k ≡ false → n ≡ sparing (w .spare) (entryFault h a₀ t e)
+    → (n ≡ 0 → a ≡ assigning a₀ e) → (n ≡ 0 → j ≡ ordering j₀ e) → Taken h a₀ j₀ t final w n a j
+took {h} {a₀} {j₀} {t} {final} {w} {n} e k ee ek z en fa fj =
     record {
-      faulty = right-kind h a₀ t final w n e ee ek en;
+      faulty = right-kind h a₀ t final w n e ee (sym ek ∙ z) en;
       assigned-is = λ z. fa z ∙ ap (assigning a₀) (sym ee);
       juniors-is = λ z. fj z ∙ ap (ordering j₀) (sym ee);
     }
 
-pub mistook : {h : Head} {a₀ j₀ : List ℕ} {t : Scan} {final : Bool} {w : Word} {a j : List ℕ} → wrongKind final (t .due) (w .entry) ≡ true
-    → Taken h a₀ j₀ t final w 3 a j
-mistook {h} {a₀} {j₀} {t} {final} {w} ek =
-    record { faulty = wrong-kind h a₀ t final w ek; assigned-is = λ z. absurd (omega arith); juniors-is = λ z. absurd (omega arith) }
+pub mistook : {h : Head} {a₀ j₀ : List ℕ} {t : Scan} {final : Bool} {w : Word} {a j : List ℕ} (k : Bool) → k ≡ wrongKind final (t .due) (w .entry)
+    → k ≡ true → Taken h a₀ j₀ t final w 3 a j
+mistook {h} {a₀} {j₀} {t} {final} {w} k ek z =
+    record { faulty = wrong-kind h a₀ t final w (sym ek ∙ z); assigned-is = λ z. absurd (omega arith); juniors-is = λ z. absurd (omega arith) }
 
 -- ---- one turn
 
 final-is : (n p : ℕ) → p < n → eqb (n - (p + 1)) 0 ≡ eqb (p + 1) n
-final-is n p l = go (eqb (p + 1) n) refl
-  where
-    go : (b : Bool) → eqb (p + 1) n ≡ b → eqb (n - (p + 1)) 0 ≡ b
-    go true e = eq-eqb (n - (p + 1)) 0 (omega (arith, eqb-true (p + 1) n e))
-    go false e = ne-eqb (n - (p + 1)) 0 (λ z. eqb-false (p + 1) n e (omega arith))
+final-is n p l =
+    cases (eqb (p + 1) n) (λ e. eq-eqb (n - (p + 1)) 0 (omega (arith, eqb-true (p + 1) n e)) ∙ sym e)
+    (λ e. ne-eqb (n - (p + 1)) 0 (λ z. eqb-false (p + 1) n e (omega arith)) ∙ sym e)
+
+-- the sum decides
+pub sum-right : (h : Head) (n sum : ℕ) → sum % 2 ^ 28 ≡ 0 → balanced h n sum ≡ Accepted h
+unfolding balanced pick
+sum-right h n sum e = rw (eq-eqb _ _ e)
+
+pub sum-wrong : (h : Head) (n sum : ℕ) → (sum % 2 ^ 28 ≡ 0 → ⊥) → balanced h n sum ≡ Refused 8 (n - 1)
+unfolding balanced pick
+sum-wrong h n sum e = rw (ne-eqb _ _ e)
 
 module _ (s : List ℕ) (h : Head) (n p : ℕ) (rows : List ℕ) (t : Scan) (sum : ℕ) where
   -- the word at p has the fault f, and m words stand behind it
@@ -130,37 +138,23 @@ module _ (s : List ℕ) (h : Head) (n p : ℕ) (rows : List ℕ) (t : Scan) (sum
     unfolding faultHere
     here = cc
 
-    pub stops : (f ≡ 0 → ⊥) → Refused f p ≡ scan s h (n - p) p rows t sum
-    stops z = sym (opened f l here ∙ ap (turn (n - (p + 1)) f) (ne-eqb f 0 z))
+    pub stops : (r : Checked) → (f ≡ 0 → ⊥) → scan s h (n - p) p rows t sum ≡ r → Refused f p ≡ r
+    stops r z e = sym (opened f l here ∙ ap (turn (n - (p + 1)) f) (ne-eqb f 0 z)) ∙ e
 
-    pub goes : f ≡ 0 → (rows′ : List ℕ) (t′ : Scan) (sum′ : ℕ) → rows′ ≡ assigning rows (d .entry) → t′ ≡ next t (d .entry)
-        → sum′ ≡ (sum + w) % 2 ^ 32 → scan s h (n - (p + 1)) (p + 1) rows′ t′ sum′ ≡ scan s h (n - p) p rows t sum
-    goes z rows′ t′ sum′ eh es em = rw (eh, es, em, ed, ew) (sym (opened f l here ∙ ap (turn (n - (p + 1)) f) (eq-eqb f 0 z)))
+    pub goes : (r : Checked) → f ≡ 0 → (rows′ : List ℕ) (t′ : Scan) (sum′ : ℕ) → rows′ ≡ assigning rows (d .entry) → t′ ≡ next t (d .entry)
+        → sum′ ≡ (sum + w) % 2 ^ 32 → scan s h (n - p) p rows t sum ≡ r → scan s h (n - (p + 1)) (p + 1) rows′ t′ sum′ ≡ r
+    goes r z rows′ t′ sum′ eh es em e = rw (eh, es, em, ed, ew) (sym (opened f l here ∙ ap (turn (n - (p + 1)) f) (eq-eqb f 0 z)) ∙ e)
 
   pub ends : n ≤ p → p ≤ n → scan s h (n - p) p rows t sum ≡ balanced h n sum
   unfolding scan
   ends l m = let k : p ≡ n = omega arith in let z : n - n ≡ 0 = omega arith in rw (k, z)
 
--- all words read: the sum decides
-pub sum-right : (h : Head) (n sum : ℕ) → sum % 2 ^ 28 ≡ 0 → balanced h n sum ≡ Accepted h
-unfolding balanced pick
-sum-right h n sum e = rw (eq-eqb _ _ e)
+  -- all words read: the sum decides
+  pub ends-right : (r : Checked) → n ≤ p → p ≤ n → sum % 2 ^ 28 ≡ 0 → scan s h (n - p) p rows t sum ≡ r → Accepted h ≡ r
+  ends-right r l m z e = sym (ends l m ∙ sum-right h n sum z) ∙ e
 
-pub sum-wrong : (h : Head) (n sum : ℕ) → (sum % 2 ^ 28 ≡ 0 → ⊥) → balanced h n sum ≡ Refused 8 (n - 1)
-unfolding balanced pick
-sum-wrong h n sum e = rw (ne-eqb _ _ e)
-
--- ---- a table, by any step: the fold of the rest from here
-
-module _ {A : Type 0} (step : A → Entry → A) (s : List ℕ) (n p : ℕ) (a : A) where
-  pub fold-next : (w : ℕ) (d : Word) (a′ : A) → p < n → w ≡ wordAt s p → d ≡ decode w → a′ ≡ step a (d .entry)
-      → fold step a′ (entriesFrom s (n - (p + 1)) (p + 1)) ≡ fold step a (entriesFrom s (n - p) p)
-  unfolding fold entriesFrom entryAt
-  fold-next w d a′ l ew ed ea = let k : n - p ≡ suc (n - (p + 1)) = omega arith in rw (k, ea, ed, ew)
-
-  pub fold-end : n ≤ p → a ≡ fold step a (entriesFrom s (n - p) p)
-  unfolding fold entriesFrom
-  fold-end l = let k : n - p ≡ 0 = omega arith in rw k
+  pub ends-wrong : (r : Checked) → n ≤ p → p ≤ n → (sum % 2 ^ 28 ≡ 0 → ⊥) → scan s h (n - p) p rows t sum ≡ r → Refused 8 (n - 1) ≡ r
+  ends-wrong r l m z e = sym (ends l m ∙ sum-wrong h n sum z) ∙ e
 
 -- the tables of assigned roles and of juniors have 64 rows each
 assigning-keeps : (es : List Entry) (rows : List ℕ) → length (fold assigning rows es) ≡ length rows

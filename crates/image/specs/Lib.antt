@@ -1,2 +1,2 @@
 -- What the contracts of the image's code say, beside the model's definitions.
-pub mod Bounds
+pub mod Taken

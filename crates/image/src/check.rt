@@ -4,147 +4,28 @@ ghost use mathlib.Core.List.{List};
 ghost use Prim.Native.Nat.{ℕ, _+_, _-_, _*_, _≤_, _<_};
 ghost use lib.ListN.{length};
 ghost use Rattle.model.specs.declared.Head.{Head as HeadOf};
-ghost use Rattle.model.specs.Image.{wrongKind, sparing, entryFault, assigning, next as nextOf, scan, emptyRows, start, judgeWords};
+ghost use Rattle.model.specs.Image.{sparing, entryFault, assigning, next as nextOf, scan, emptyRows, start, judgeWords};
 ghost use Rattle.model.specs.Policy.{entriesFrom, fold, ordering, policyOf};
-ghost use Rattle.image.specs.Bounds.{Small, Due, Taken};
-use crate::word::decode;
-use crate::word::head_of;
-use crate::word::head_right;
+ghost use Rattle.image_words.specs.Bounds.{Small};
+ghost use Rattle.image.specs.Taken.{Due, Taken};
+use image_faults::fault::assignment_fault;
+use image_faults::fault::exclusion_fault;
+use image_faults::fault::grant_fault;
+use image_faults::fault::limit_fault;
+use image_faults::fault::member_fault;
+use image_faults::fault::senior_fault;
+use image_faults::fault::spared;
+use image_faults::fault::wrong_kind;
+use image_words::word::decode;
+use image_words::word::head_of;
+use image_words::word::head_right;
 use model::Checked;
 use model::Entry;
-use model::Exclusion;
 use model::Head;
-use model::Permission;
 use model::Role;
 use model::Scan;
 use model::User;
 use model::Word;
-
-// ---- the faults of a word behind the head; `assigned` has the roles assigned so far, a row a user
-
-// 3
-pub fn wrong_kind(last: bool, due: u32, e: Entry) -> bool
-    ensures { λ r. ⌜ r ≡ wrongKind last due e ⌝ }
-{
-    match e {
-        Entry::Member(_) => last | (due == 0),
-        Entry::End => !last | (due != 0),
-        Entry::Unknown => true,
-        Entry::Assignment(_, _) => last | (due != 0),
-        Entry::Grant(_, _) => last | (due != 0),
-        Entry::Senior(_, _) => last | (due != 0),
-        Entry::Exclude(_, _) => last | (due != 0),
-        Entry::Limit(_, _) => last | (due != 0),
-    }
-}
-
-// 5 to 7, or 0
-pub fn assignment_fault(h: Head, assigned: &[u64; 64], u: User, r: Role) -> u8
-    requires { ⌜ (u .0 < 64) × (r .0 < 64) ⌝ }
-    ensures { λ n. ⌜ ((t : Scan) → n ≡ entryFault h (now (assigned .entry)) t (Entry.Assignment u r)) ⌝ }
-{
-    if h.users <= u.0 {
-        return 5;
-    }
-    if h.roles <= r.0 {
-        return 5;
-    }
-    let who = u.0 as usize;
-    let mine = assigned[who];
-    if sets::has(mine, r) {
-        return 0;
-    }
-    if sets::size(mine) < 16 {
-        return 0;
-    }
-    7
-}
-
-pub fn grant_fault(h: Head, r: Role, p: Permission) -> u8
-    ensures { λ n. ⌜ ((rows : List ℕ) (t : Scan) → n ≡ entryFault h rows t (Entry.Grant r p)) ⌝ }
-{
-    if h.roles <= r.0 {
-        return 5;
-    }
-    if h.permissions <= p.0 as u16 {
-        return 5;
-    }
-    0
-}
-
-pub fn senior_fault(h: Head, a: Role, b: Role) -> u8
-    ensures { λ n. ⌜ ((rows : List ℕ) (t : Scan) → n ≡ entryFault h rows t (Entry.Senior a b)) ⌝ }
-{
-    if h.roles <= a.0 {
-        return 5;
-    }
-    if h.roles <= b.0 {
-        return 5;
-    }
-    if a.0 == b.0 {
-        return 6;
-    }
-    0
-}
-
-pub fn exclusion_fault(h: Head, t: Scan, x: Exclusion, m: u8) -> u8
-    ensures { λ n. ⌜ ((rows : List ℕ) → n ≡ entryFault h rows t (Entry.Exclude x m)) ⌝ }
-{
-    if m < 1 {
-        return 5;
-    }
-    if h.roles < m {
-        return 5;
-    }
-    if x.limit < 2 {
-        return 5;
-    }
-    if m < x.limit {
-        return 5;
-    }
-    if 32 <= t.exclusions {
-        return 7;
-    }
-    0
-}
-
-pub fn member_fault(h: Head, t: Scan, r: Role) -> u8
-    requires { ⌜ r .0 < 64 ⌝ }
-    ensures { λ n. ⌜ ((rows : List ℕ) → n ≡ entryFault h rows t (Entry.Member r)) ⌝ }
-{
-    if h.roles <= r.0 {
-        return 5;
-    }
-    if sets::has(t.members, r) {
-        return 6;
-    }
-    0
-}
-
-pub fn limit_fault(h: Head, r: Role, t: u16) -> u8
-    ensures { λ n. ⌜ ((rows : List ℕ) (s : Scan) → n ≡ entryFault h rows s (Entry.Limit r t)) ⌝ }
-{
-    if h.roles <= r.0 {
-        return 5;
-    }
-    if t < 2 {
-        return 5;
-    }
-    if 256 < t {
-        return 5;
-    }
-    0
-}
-
-// 4 where there are spare bits, else the number.
-pub fn spared(spare: u32, number: u8) -> u8
-    ensures { λ n. ⌜ n ≡ sparing spare number ⌝ }
-{
-    if spare != 0 {
-        return 4;
-    }
-    number
-}
 
 // ---- a word judged and, where it has no fault, taken in
 

@@ -1,3 +1,2 @@
-// The policy image: its words decoded, and the check that judges it.
-pub mod check; // check.rt: the faults of words, and the check
-pub mod word; // word.rt: words decoded
+// The policy image judged by its words.
+pub mod check; // check.rt: words judged and taken in, and the check

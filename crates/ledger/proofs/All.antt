@@ -1,41 +1,46 @@
 -- Laws of a test of every member of a list: one turn of a loop over it, two such tests in either order, tests that say the same.
 -- Assumes nothing.
 use mathlib.Core.Path.{_≡_, refl, sym, ap, ap₂, _∙_}
-use mathlib.Core.Bool.{Bool, true, false, _&&_}
+use mathlib.Core.Bool.{Bool, true, false, _&&_, not}
 use mathlib.Core.List.{List, [], _∷_}
 use Prim.Native.Nat.{ℕ, _+_, _≤_, _<_}
 use native.Mathlib.Numerals.{add-one}
 use native.Mathlib.Omega.{arith}
 use lib.ListN.{length, getD, take, drop, length-take, drop-of-length-le}
 use lib.Seq.{drop-cons, getD-take, length-take-le}
+use borrow.Author.Tests.{not-true, not-false}
 use Rattle.model.specs.Tests.{all}
 
--- the member at k and those behind it
+-- the member at k and those behind it, by a test b of that member
 module _ {A : Type 0} (f : A → Bool) (d : A) (xs : List A) (k : ℕ) where
   all-at : k < length xs → all f (drop k xs) ≡ (f (getD xs k d) && all f (drop (k + 1) xs))
   unfolding all
   all-at h = rw (add-one k, drop-cons xs k d h)
 
-  pub all-next : k < length xs → f (getD xs k d) ≡ true → all f (drop (k + 1) xs) ≡ all f (drop k xs)
-  all-next h e = sym (all-at h ∙ ap (λ (x : Bool). x && all f (drop (k + 1) xs)) e)
+  pub all-next : {b : Bool} → k < length xs → b ≡ f (getD xs k d) → not b ≡ false → all f (drop (k + 1) xs) ≡ all f (drop k xs)
+  all-next h e t = sym (all-at h ∙ ap (λ (x : Bool). x && all f (drop (k + 1) xs)) (sym e ∙ not-false _ t))
 
-  pub all-stop : k < length xs → f (getD xs k d) ≡ false → false ≡ all f (drop k xs)
-  all-stop h e = sym (all-at h ∙ ap (λ (x : Bool). x && all f (drop (k + 1) xs)) e)
+  pub all-stop : {b : Bool} → k < length xs → b ≡ f (getD xs k d) → not b ≡ true → false ≡ all f (drop k xs)
+  all-stop h e t = sym (all-at h ∙ ap (λ (x : Bool). x && all f (drop (k + 1) xs)) (sym e ∙ not-true _ t))
 
   pub all-end : length xs ≤ k → true ≡ all f (drop k xs)
   unfolding all
   all-end h = rw (drop-of-length-le xs h)
 
--- the first n of a list
-module _ {A : Type 0} (f : A → Bool) (d : A) (xs : List A) (n k : ℕ) (fits : n ≤ length xs) (h : k < n) where
+-- the first n of a list, by a test b of y, the member at k
+module _ {A : Type 0} (f : A → Bool) (d : A) (xs : List A) (n k : ℕ) {b : Bool} {y : A} (fits : n ≤ length xs) (h : k < n)
+    (at : y ≡ getD xs k d) (e : b ≡ f y) where
   inside : k < length (take n xs)
   inside = rw (length-take-le n xs fits) h
 
-  pub listed-next : f (getD xs k d) ≡ true → all f (drop (k + 1) (take n xs)) ≡ all f (drop k (take n xs))
-  listed-next e = all-next f d (take n xs) k inside (ap f (getD-take n xs k d h) ∙ e)
+  tested : b ≡ f (getD (take n xs) k d)
+  tested = e ∙ ap f (at ∙ sym (getD-take n xs k d h))
 
-  pub listed-stop : f (getD xs k d) ≡ false → false ≡ all f (drop k (take n xs))
-  listed-stop e = all-stop f d (take n xs) k inside (ap f (getD-take n xs k d h) ∙ e)
+  pub listed-next : not b ≡ false → all f (drop (k + 1) (take n xs)) ≡ all f (drop k (take n xs))
+  listed-next = all-next f d (take n xs) k inside tested
+
+  pub listed-stop : not b ≡ true → false ≡ all f (drop k (take n xs))
+  listed-stop = all-stop f d (take n xs) k inside tested
 
 pub listed-end : {A : Type 0} (f : A → Bool) (xs : List A) (n k : ℕ) → n ≤ k → true ≡ all f (drop k (take n xs))
 unfolding all

@@ -1,5 +1,4 @@
 -- The laws that the proofs of the functions cite.
-pub mod Sessions
 pub mod All
 pub mod Soundness
 pub mod Places

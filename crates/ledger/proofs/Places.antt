@@ -13,7 +13,7 @@ use Rattle.model.specs.declared.Line.{Line}
 use Rattle.model.specs.Bytes.{number, bytesOf}
 use Rattle.model.specs.Line.{lineSize, readSessions, readLine, writeSessions, writeLine}
 use Rattle.model.specs.Run.{lineAt, withLine}
-use Rattle.model.proofs.LineLaws.{length-bytesOf, length-writeSessions, length-writeLine}
+use Rattle.model_laws.proofs.LineLaws.{length-bytesOf, length-writeSessions, length-writeLine}
 use Rattle.octets.specs.Splice.{splice, numberAt}
 use Rattle.octets.proofs.Splices.{splice-splice, splice-line}
 use Rattle.ledger.specs.Places.{sessionIn, sessionBytes}

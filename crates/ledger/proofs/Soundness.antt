@@ -2,7 +2,7 @@
 -- by one.
 -- Assumes nothing.
 use mathlib.Core.Path.{_≡_, sym, ap, _∙_}
-use mathlib.Core.Bool.{Bool, true, false, _&&_}
+use mathlib.Core.Bool.{Bool, true, false, _&&_, not}
 use mathlib.Core.List.{List}
 use Prim.Native.Nat.{ℕ, suc, _+_, _-_, _≤_, _<_}
 use native.Mathlib.Omega.{arith}
@@ -11,8 +11,8 @@ use lib.Bits.{bitOr, bitAnd, and-zero-r}
 use lib.Dec.{ltb}
 use lib.ListN.{length, getD, take, drop, drop-of-length-le}
 use lib.Seq.{drop-cons}
+use borrow.Author.Tests.{not-true, not-false}
 use Rattle.model.specs.declared.Kind.{Kind}
-use Rattle.model.specs.declared.Kind.the-variants.{MsDmer, MsHmer}
 use Rattle.model.specs.declared.Exclusion.{Exclusion}
 use Rattle.model.specs.declared.Exclusions.{Exclusions}
 use Rattle.model.specs.declared.Session.{Session}
@@ -21,7 +21,7 @@ use Rattle.model.specs.Tests.{all}
 use Rattle.model.specs.Sets.{count}
 use Rattle.model.specs.Policy.{Meaning, met}
 use Rattle.model.specs.Line.{activeIn, counted, exclusionsMet, sessionSound, sessionsSound}
-use Rattle.model.proofs.TableLaws.{count-empty}
+use Rattle.model_laws.proofs.TableLaws.{count-empty}
 use Rattle.ledger.specs.Held.{metAt, Listed}
 use Rattle.ledger.proofs.All.{all-cong, all-same, all-swap}
 
@@ -38,18 +38,18 @@ pub active-none : (ss : List Session) (k : ℕ) → length ss ≤ k → 0 ≡ ac
 unfolding activeIn
 active-none ss k h = rw (drop-of-length-le ss h)
 
--- ---- the sessions from k on are sound
+-- ---- the sessions from k on are sound, by a test b of session k
 module _ (m : Meaning) (l : Line) (d : Session) (ss : List Session) (k : ℕ) where
   sound-at : k < length ss → sessionsSound m l k (drop k ss) ≡ (sessionSound m l k (getD ss k d) && sessionsSound m l (k + 1) (drop (k + 1) ss))
   unfolding sessionsSound
   sound-at h = rw (add-one k, drop-cons ss k d h)
 
-  pub sound-next : k < length ss → sessionSound m l k (getD ss k d) ≡ true
+  pub sound-next : {b : Bool} → k < length ss → b ≡ sessionSound m l k (getD ss k d) → not b ≡ false
       → sessionsSound m l (k + 1) (drop (k + 1) ss) ≡ sessionsSound m l k (drop k ss)
-  sound-next h e = sym (sound-at h ∙ ap (λ (x : Bool). x && sessionsSound m l (k + 1) (drop (k + 1) ss)) e)
+  sound-next h e t = sym (sound-at h ∙ ap (λ (x : Bool). x && sessionsSound m l (k + 1) (drop (k + 1) ss)) (sym e ∙ not-false _ t))
 
-  pub sound-stop : k < length ss → sessionSound m l k (getD ss k d) ≡ false → false ≡ sessionsSound m l k (drop k ss)
-  sound-stop h e = sym (sound-at h ∙ ap (λ (x : Bool). x && sessionsSound m l (k + 1) (drop (k + 1) ss)) e)
+  pub sound-stop : {b : Bool} → k < length ss → b ≡ sessionSound m l k (getD ss k d) → not b ≡ true → false ≡ sessionsSound m l k (drop k ss)
+  sound-stop h e t = sym (sound-at h ∙ ap (λ (x : Bool). x && sessionsSound m l (k + 1) (drop (k + 1) ss)) (sym e ∙ not-true _ t))
 
   pub sound-end : length ss ≤ k → true ≡ sessionsSound m l k (drop k ss)
   unfolding sessionsSound
@@ -61,15 +61,11 @@ unfolding met
 met-none counted x e =
     ap (λ (n : ℕ). ltb n (x .limit)) (sym (ap (λ (s : ℕ). count 64 (bitAnd (x .members) s)) e ∙ ap (count 64) (and-zero-r (x .members)) ∙ count-empty 64))
 
--- ---- an exclusion of a kind over all sessions, tested at one of them
-module _ (l : Line) (x : Exclusion) (s : Session) (some : 0 < length (l .sessions)) where
-  pub met-once-active : x .kind ≡ MsDmer → met (counted l s) x ≡ metAt l x
-  unfolding metAt met counted
-  met-once-active e = sym (all-same (λ t. met (counted l t) x) (met (counted l s) x) (l .sessions) some (λ t. rw e))
-
-  pub met-once-history : x .kind ≡ MsHmer → met (counted l s) x ≡ metAt l x
-  unfolding metAt met counted
-  met-once-history e = sym (all-same (λ t. met (counted l t) x) (met (counted l s) x) (l .sessions) some (λ t. rw e))
+-- ---- an exclusion of a kind that counts the same at all sessions, tested at one of them
+pub met-once : (l : Line) (x : Exclusion) (s : Session) (n : ℕ) → length (l .sessions) ≡ suc n
+    → ((t : Session) → counted l t (x .kind) ≡ counted l s (x .kind)) → met (counted l s) x ≡ metAt l x
+unfolding metAt met
+met-once l x s n some same = sym (all-same (λ t. met (counted l t) x) (met (counted l s) x) (l .sessions) (omega arith) (λ t. rw (same t)))
 
 -- ---- every exclusion at every session, by the exclusions
 pub by-exclusion : (m : Meaning) (l : Line) (xs : Exclusions) → Listed xs m → all (metAt l) (take (xs .count) (xs .list)) ≡ exclusionsMet m l

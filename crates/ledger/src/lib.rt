@@ -1,4 +1,3 @@
-// A user's line of the ledger as a value: read from its bytes and written to them, judged sound, and changed as the calls change it.
+// A user's line of the ledger as a value: read from its bytes and written to them, and judged sound.
 pub mod bytes;
-pub mod change;
 pub mod sound;

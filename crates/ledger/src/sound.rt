@@ -105,7 +105,7 @@ fn session_sound(l: Line, k: usize, s: Session, authorized: u64) -> bool
     ensures { λ r. ⌜ ((m : Meaning) → m .authorized ≡ authorized → r ≡ sessionSound m l k s) ⌝ }
 {
     let zero = (s.active == 0) & (s.history == 0);
-    let formed = crate::change::is_open(l, k) | zero;
+    let formed = ledger_change::is_open(l, k) | zero;
     let inner = sets::within(s.active, s.history);
     let outer = sets::within(s.history, l.history);
     formed & inner & outer & sets::within(s.active, authorized)

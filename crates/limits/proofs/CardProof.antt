@@ -11,29 +11,30 @@ use native.Mathlib.Omega.{arith}
 use lib.Dec.{eqb, ltb}
 use lib.ListN.{length, getD, replicate}
 use borrow.Author.Tests.{eqb-true, eqb-false, eq-eqb, ne-eqb, ltb-true, not-true, not-false}
+use borrow.Table.Steps.{cases}
 use Rattle.model.specs.declared.Head.{Head}
 use Rattle.model.specs.declared.Line.{Line}
-use Rattle.model.specs.declared.Checked.{Checked}
 use Rattle.model.specs.declared.Checked.the-variants.{Accepted}
 use Rattle.model.specs.Tests.{pick, first}
 use Rattle.model.specs.Sets.{has, sumTo}
 use Rattle.model.specs.Judgement.{judge}
 use Rattle.model.specs.Policy.{Policy, policyOf, limited, hasLimits, Meaning, meaning, authorized}
 use Rattle.model.specs.Line.{lineSize, readLine, sessionAt, holding, sound}
-use Rattle.model.specs.Limits.{Others, nobody}
+use Rattle.model.specs.Limits.{Others}
 use Rattle.model.specs.Session.{Operation, open-session, close-session, ask, short-ask, show, explain, clauses, sessionOf, queryOf, isText, isAsk, refuse, Result, Refusal, bad-other, bad-line, bad-session, is-closed, is-full, bad-set, bad-permission, bad-bounds, bad-aim, bad-room, no-set, not-below, not-carried, too-long, refusalNumber, canGive, applies, perform, unless, rule}
-use Rattle.model.specs.Run.{Call, Event, lineAt, lineOf, holdingOf, heldByOthers, othersOf, told, ruled, stepOn, stepBy, step, run}
+use Rattle.model.specs.Run.{Call, Event, lineAt, lineOf, holdingOf, heldByOthers, othersOf, told, ruled, stepOn, step, run}
 use Rattle.model.specs.Ranges.{Each, InRange}
 use Rattle.model.specs.Kept.{Antitone}
 use Rattle.limits.specs.Card.{holdingAll, WithinLimit, WithinLimits, activeAt, LimitsKept}
-use Rattle.model.proofs.LedgerLaws.{step-below, step-own, step-other}
-use Rattle.model.proofs.Reaches.{authorized-below}
-use Rattle.model.proofs.Judgements.{accepted-in-range}
-use Rattle.model.proofs.MetLaws.{meaning-antitone}
-use Rattle.model.proofs.ZeroLaws.{zero-holding, zero-lines}
-use Rattle.model.proofs.CallLaws.{first-none}
-use Rattle.model.proofs.Barred.{some-limited}
-use Rattle.model.proofs.CallsKept.{Carded, RoleKept, line, performed-kept, performed-card}
+use Rattle.model_laws.proofs.Bools.{pick-case}
+use Rattle.model_laws.proofs.LedgerLaws.{step-below, step-own, step-other, step-on}
+use Rattle.model_laws.proofs.Reaches.{few-roles, own-below}
+use Rattle.model_laws.proofs.Judgements.{accepted-in-range}
+use Rattle.model_laws.proofs.MetLaws.{meaning-antitone}
+use Rattle.model_laws.proofs.ZeroLaws.{zero-holding, zero-lines}
+use Rattle.model_laws.proofs.CallLaws.{first-none}
+use Rattle.model_laws.proofs.Barred.{some-limited}
+use Rattle.model_laws.proofs.CallsKept.{Carded, RoleKept, line, performed-kept, performed-card}
 
 -- ---- sums over users
 pub sum-same : (f g : ℕ → ℕ) (n : ℕ) → ((v : ℕ) → f v ≡ g v) → sumTo f n ≡ sumTo g n
@@ -58,16 +59,10 @@ sum-none f u (suc n) h =
 pub sum-split : (f : ℕ → ℕ) (u n : ℕ) → u < n → sumTo f n ≡ f u + sumTo (λ v. pick (eqb v u) 0 (f v)) n
 unfolding sumTo pick
 sum-split f u zero h = absurd (omega arith)
-sum-split f u (suc n) h = go (eqb n u) refl (λ k. sum-split f u n k)
-  where
-    others : ℕ
-    others = sumTo (λ v. pick (eqb v u) 0 (f v)) n
-
-    go : (b : Bool) → eqb n u ≡ b → (u < n → sumTo f n ≡ f u + others) → f n + sumTo f n ≡ f u + (pick b 0 (f n) + others)
-    go true e ih =
-        let q = eqb-true n u e in
-        ap (λ (k : ℕ). f k + sumTo f n) q ∙ omega (arith, sum-none f u n (omega arith))
-    go false e ih = let q = eqb-false n u e in omega (arith, ih (omega arith))
+sum-split f u (suc n) h =
+    cases (eqb n u)
+    (λ e. rw e (ap (λ (k : ℕ). f k + sumTo f n) (eqb-true n u e) ∙ omega (arith, eqb-true n u e, sum-none f u n (omega (arith, eqb-true n u e)))))
+    (λ e. let q = eqb-false n u e in rw e (omega (arith, sum-split f u n (omega arith))))
 
 -- no refusal has the number 0
 refusal-number : (f : Refusal) → ¬ (refusalNumber f ≡ 0)
@@ -130,14 +125,6 @@ module _ (W : ℕ) (m : Meaning) (wide : W ≤ 64) (small : m .roles ≤ 64) (ow
 -- ---- one call on a ledger, under a policy in range
 
 module _ (W : ℕ) (wide : W ≤ 64) (p : Policy) (g : InRange p) (l : List ℕ) (c : Call) where
-  own-below : (u : ℕ) → meaning p u .authorized < 2 ^ meaning p u .roles
-  unfolding meaning
-  own-below u = authorized-below p g u
-
-  few-roles : (u : ℕ) → meaning p u .roles ≤ 64
-  unfolding meaning
-  few-roles u = g .roles .1
-
   -- what an ask is told of a limited role
   told-held : (r : ℕ) → isAsk (c .operation) ≡ true → limited (p .limits) r ≡ true → told W p l c .held r ≡ heldByOthers W p (c .user) l r
   unfolding told othersOf hasLimits pick
@@ -158,15 +145,14 @@ module _ (W : ℕ) (wide : W ≤ 64) (p : Policy) (g : InRange p) (l : List ℕ)
     -- the others' sessions stay
     others-same : (r : ℕ) → heldByOthers W p (c .user) (stepOn W p l c .ledger) r ≡ heldByOthers W p (c .user) l r
     unfolding heldByOthers holdingOf lineOf pick
-    others-same r = sum-same _ _ (p .head .users) (λ v. go v (eqb v (c .user)) refl)
-      where
-        go : (v : ℕ) (b : Bool) → eqb v (c .user) ≡ b
-            → pick b 0 (holding r (readLine W (lineAt (lineSize W) v (stepOn W p l c .ledger)) .sessions))
-            ≡ pick b 0 (holding r (readLine W (lineAt (lineSize W) v l) .sessions))
-        go v true e = refl
-        go v false e =
-            ap (λ (ys : List ℕ). holding r (readLine W ys .sessions))
-            (step-other W p l hl c v (ne-eqb (c .user) v (λ q. eqb-false v (c .user) e (sym q))))
+    others-same r =
+        sum-same _ _ (p .head .users)
+        (λ v.
+        cases (eqb v (c .user)) (λ e. rw e)
+        (λ e.
+        rw e
+        (ap (λ (ys : List ℕ). holding r (readLine W ys .sessions))
+        (step-other W p l hl c v (ne-eqb (c .user) v (λ q. eqb-false v (c .user) e (sym q)))))))
 
     -- all of them: the user's and the others'
     all-split : (ledger : List ℕ) (r : ℕ)
@@ -190,18 +176,18 @@ module _ (W : ℕ) (wide : W ≤ 64) (p : Policy) (g : InRange p) (l : List ℕ)
     ruled-kept : WithinLimits W p l → WithinLimits W p (stepOn W p l c .ledger)
     unfolding meaning lineOf
     ruled-kept f r =
-        elim (rule-kept W (meaning p (c .user)) wide (few-roles (c .user)) (own-below (c .user)) (meaning-antitone p (c .user))
+        elim (rule-kept W (meaning p (c .user)) wide (few-roles p g (c .user)) (own-below p g (c .user)) (meaning-antitone p (c .user))
         (told W p l c) (lineAt (lineSize W) (c .user) l) (c .operation) r) [
           | inl k ↦ (λ e. let h = f r e in omega (arith, all-after r, all-split l r))
           | inr k ↦ carded r (k .0) (k .1)
         ]
 
-    ruled-card : (r : ℕ) → isAsk (c .operation) ≡ true → isText (c .operation) ≡ false → stepOn W p l c .reply .number ≡ 0 → has (activeAt W (stepOn W p l c .ledger) c) r ≡ true
-        → WithinLimit W p (stepOn W p l c .ledger) r
+    ruled-card : (r : ℕ) → isAsk (c .operation) ≡ true → isText (c .operation) ≡ false → stepOn W p l c .reply .number ≡ 0
+        → has (activeAt W (stepOn W p l c .ledger) c) r ≡ true → WithinLimit W p (stepOn W p l c .ledger) r
     unfolding activeAt
     ruled-card r a n z h =
         carded r a
-        (rule-card W (meaning p (c .user)) wide (few-roles (c .user)) (own-below (c .user)) (meaning-antitone p (c .user)) (told W p l c)
+        (rule-card W (meaning p (c .user)) wide (few-roles p g (c .user)) (own-below p g (c .user)) (meaning-antitone p (c .user)) (told W p l c)
         (lineAt (lineSize W) (c .user) l) (c .operation) r a n (ap (λ (x : Result). x .reply .number) (sym own-is) ∙ z)
         (ap (λ (y : Line). has (sessionAt y (sessionOf (c .operation)) .active) r) (sym own-line) ∙ h))
 
@@ -209,22 +195,20 @@ module _ (W : ℕ) (wide : W ≤ 64) (p : Policy) (g : InRange p) (l : List ℕ)
   step-cases : (P : Event → Type 0) → ((n : ℕ) → ¬ (n ≡ 0) → P (record { reply = refuse n 0; ledger = l }))
       → (length l ≡ lineSize W * p .head .users → c .user < p .head .users → P (stepOn W p l c)) → P (stepOn W p l c)
   unfolding stepOn pick
-  step-cases P f h = go (eqb (length l) (lineSize W * p .head .users)) refl (ltb (c .user) (p .head .users)) refl
-    where
-      go : (a : Bool) → eqb (length l) (lineSize W * p .head .users) ≡ a → (b : Bool) → ltb (c .user) (p .head .users) ≡ b
-          → P (pick (not a) (record { reply = refuse 9 0; ledger = l }) (pick (not b) (record { reply = refuse 10 0; ledger = l }) (ruled W p l c)))
-      go false e b k = f 9 (λ q. omega arith)
-      go true e false k = f 10 (λ q. omega arith)
-      go true e true k =
-          let hl = eqb-true (length l) (lineSize W * p .head .users) e in
-          let hu = ltb-true (c .user) (p .head .users) k in
-          subst P (step-below W p l hl c hu) (h hl hu)
+  step-cases P f h =
+      pick-case P (not (eqb (length l) (lineSize W * p .head .users))) _ _ (λ e. f 9 (λ q. omega arith))
+      (λ e.
+      pick-case P (not (ltb (c .user) (p .head .users))) _ _ (λ k. f 10 (λ q. omega arith))
+      (λ k.
+      let hl = eqb-true (length l) (lineSize W * p .head .users) (not-false _ e) in
+      let hu = ltb-true (c .user) (p .head .users) (not-false _ k) in
+      subst P (step-below W p l hl c hu) (h hl hu)))
 
   stepOn-kept : WithinLimits W p l → WithinLimits W p (stepOn W p l c .ledger)
   stepOn-kept f = step-cases (λ e. WithinLimits W p (e .ledger)) (λ n h. f) (λ hl hu. ruled-kept hl hu f)
 
-  stepOn-card : (r : ℕ) → isAsk (c .operation) ≡ true → isText (c .operation) ≡ false → stepOn W p l c .reply .number ≡ 0 → has (activeAt W (stepOn W p l c .ledger) c) r ≡ true
-      → WithinLimit W p (stepOn W p l c .ledger) r
+  stepOn-card : (r : ℕ) → isAsk (c .operation) ≡ true → isText (c .operation) ≡ false → stepOn W p l c .reply .number ≡ 0
+      → has (activeAt W (stepOn W p l c .ledger) c) r ≡ true → WithinLimit W p (stepOn W p l c .ledger) r
   stepOn-card r a n =
       step-cases (λ e. e .reply .number ≡ 0 → has (activeAt W (e .ledger) c) r ≡ true → WithinLimit W p (e .ledger) r)
       (λ i h z k. unfold refuse in absurd (h z)) (λ hl hu. ruled-card hl hu r a n)
@@ -234,20 +218,15 @@ module _ (W : ℕ) (wide : W ≤ 64) (s : List ℕ) (h : Head) (accepted : judge
   ranged : InRange (policyOf s)
   ranged = accepted-in-range s h accepted
 
-  -- the image ends no call
-  step-on : (l : List ℕ) (c : Call) → step W s l c ≡ stepOn W (policyOf s) l c
-  unfolding step stepBy
-  step-on l c = ap (λ (v : Checked). stepBy W v (policyOf s) l c) accepted
-
   call-kept : (l : List ℕ) → WithinLimits W (policyOf s) l → (c : Call) → WithinLimits W (policyOf s) (step W s l c .ledger)
-  call-kept l f c = subst (λ (e : Event). WithinLimits W (policyOf s) (e .ledger)) (sym (step-on l c)) (stepOn-kept W wide (policyOf s) ranged l c f)
+  call-kept l f c = rw (step-on W s h accepted l c) (stepOn-kept W wide (policyOf s) ranged l c f)
 
   call-card : (l : List ℕ) (c : Call) → isAsk (c .operation) ≡ true → isText (c .operation) ≡ false → step W s l c .reply .number ≡ 0
       → (r : ℕ) → has (activeAt W (step W s l c .ledger) c) r ≡ true → WithinLimit W (policyOf s) (step W s l c .ledger) r
   call-card l c a n z r =
       subst
       (λ (e : Event). e .reply .number ≡ 0 → has (activeAt W (e .ledger) c) r ≡ true → WithinLimit W (policyOf s) (e .ledger) r)
-      (sym (step-on l c)) (stepOn-card W wide (policyOf s) ranged l c r a n) z
+      (sym (step-on W s h accepted l c)) (stepOn-card W wide (policyOf s) ranged l c r a n) z
 
   along : (l : List ℕ) → WithinLimits W (policyOf s) l → (cs : List Call)
       → Each (λ e. WithinLimits W (policyOf s) (e .ledger)) (run W s l cs)

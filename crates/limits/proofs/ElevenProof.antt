@@ -11,6 +11,7 @@ use native.Mathlib.Decide.{decLt}
 use native.Mathlib.Omega.{arith}
 use lib.Dec.{eqb}
 use borrow.Author.Tests.{eqb-true, eqb-false, ne-eqb, lt-ltb, le-ltb, not-true}
+use borrow.Table.Steps.{cases}
 use Rattle.model.specs.declared.Head.{Head}
 use Rattle.model.specs.declared.Checked.{Checked}
 use Rattle.model.specs.declared.Checked.the-variants.{Accepted}
@@ -22,12 +23,12 @@ use Rattle.model.specs.Limits.{Others}
 use Rattle.model.specs.Session.{Operation, open-session, close-session, ask, short-ask, show, explain, clauses, isAsk, Result, refuse, refusalNumber, refusalExtra, numberAfter, canGive, otherFirst, applies, unless, rule}
 use Rattle.model.specs.Run.{Call, Event, lineAt, lineOf, unsoundOther, othersOf, told, ruled, stepOn, stepBy, step}
 use Rattle.limits.specs.Eleven.{LowestUnsound, AsksEleven}
-use Rattle.model.proofs.Bools.{and-r, both}
-use Rattle.model.proofs.UnionLaws.{below-or-last}
-use Rattle.model.proofs.CallLaws.{first-some, first-lowest}
-use Rattle.model.proofs.LedgerLaws.{step-below}
-use Rattle.model.proofs.Judgements.{accepted-in-range}
-use Rattle.model.proofs.KeptProof.{step-well}
+use Rattle.model_laws.proofs.Bools.{and-r, both}
+use Rattle.model_laws.proofs.UnionLaws.{below-or-last}
+use Rattle.model_laws.proofs.CallLaws.{first-some, first-lowest}
+use Rattle.model_laws.proofs.LedgerLaws.{step-below}
+use Rattle.model_laws.proofs.Judgements.{accepted-in-range}
+use Rattle.model_laws.proofs.KeptProof.{step-well}
 
 -- ---- of the numbers below n all pass a test, or there is a lowest that does not
 record Lowest (f : ℕ → Bool) (n : ℕ) : Type 0 where
@@ -121,20 +122,21 @@ module _ (W : ℕ) (p : Policy) (l : List ℕ) (c : Call) (limits : hasLimits p 
   refusedWith n = record { reply = refuse 11 n; line = lineAt (lineSize W) (c .user) l }
 
   pub answer : (v : ℕ) → LowestUnsound W p l v → result ≡ refusedWith (pick (eqb v (c .user)) 0 (v + 1))
-  unfolding lineOf meaning pick
-  answer v w = go (eqb v (c .user)) refl
-    where
-      go : (b : Bool) → eqb v (c .user) ≡ b → result ≡ refusedWith (pick b 0 (v + 1))
-      go true e =
-          let w' = subst (LowestUnsound W p l) (eqb-true v (c .user) e) w in
-          rule-own W (meaning p (c .user)) (told W p l c) (lineAt (lineSize W) (c .user) l) (c .operation) a
-          (ap (λ (b : Bool). otherFirst b (c .user) (told W p l c .unsound)) (w' .unsound) ∙ own-lowest w' _ refl) (w' .unsound)
-      go false e =
-          let n = eqb-false v (c .user) e in
-          let q = other-lowest v n w in
-          rule-other W (meaning p (c .user)) (told W p l c) (lineAt (lineSize W) (c .user) l) (c .operation) a
-          (ap (otherFirst (sound W (meaning p (c .user)) (lineOf W l (c .user))) (c .user)) q ∙ other-first v n w _ refl)
-          ∙ ap (λ (o : Option ℕ). refusedWith (numberAfter o)) q ∙ unfold numberAfter in refl
+  unfolding lineOf meaning pick numberAfter
+  answer v w =
+      cases (eqb v (c .user))
+      (λ e.
+      let w' = subst (LowestUnsound W p l) (eqb-true v (c .user) e) w in
+      rw e
+      (rule-own W (meaning p (c .user)) (told W p l c) (lineAt (lineSize W) (c .user) l) (c .operation) a
+      (ap (λ (b : Bool). otherFirst b (c .user) (told W p l c .unsound)) (w' .unsound) ∙ own-lowest w' _ refl) (w' .unsound)))
+      (λ e.
+      let n = eqb-false v (c .user) e in
+      let q = other-lowest v n w in
+      rw e
+      (rule-other W (meaning p (c .user)) (told W p l c) (lineAt (lineSize W) (c .user) l) (c .operation) a
+      (ap (otherFirst (sound W (meaning p (c .user)) (lineOf W l (c .user))) (c .user)) q ∙ other-first v n w _ refl)
+      ∙ ap (λ (o : Option ℕ). refusedWith (numberAfter o)) q))
 
   -- where some line is not sound, it is 11
   eleven : (v : ℕ) → v < p .head .users → sound W (meaning p v) (lineOf W l v) ≡ false → result .reply .number ≡ 11

@@ -9,7 +9,7 @@ use native.Mathlib.Nat.{le-refl}
 use native.Mathlib.Decide.{decLt, ℕ-discrete}
 use native.Mathlib.Omega.{arith}
 use lib.Dec.{eqb, ltb, leb}
-use lib.ListN.{getD, length, set, length-set, List·getD-eq-default}
+use lib.ListN.{getD, length, set, List·getD-eq-default}
 use lib.Seq.{getD-set-same, getD-set-other, ext-getD}
 use borrow.Author.Tests.{eqb-true, eqb-false, eq-eqb, ne-eqb, ltb-true, ltb-false, leb-true, not-true}
 use Rattle.model.specs.declared.Head.{Head}
@@ -21,22 +21,11 @@ use Rattle.model.specs.Image.{role, wordAt, inRange, headOf, emptyRows, judgeWo
 use Rattle.model.specs.Policy.{entriesOf, lesser, limiting, fold, policyOf, limited}
 use Rattle.model.specs.Ranges.{Each}
 use Rattle.model.specs.Read.{Smallest, LimitsRead}
-use Rattle.model.proofs.Bools.{and-l, and-r, or-cases}
-use Rattle.model.proofs.TableLaws.{getD-filled}
-use Rattle.model.proofs.Tables.{sort, rowOf, itemOf, entry-row, empty-length}
-use Rattle.model.proofs.Accepted.{words-entries}
-
--- the number of rows stays
-limiting-length : (rows : List ℕ) (e : Entry) → length (limiting rows e) ≡ length rows
-unfolding limiting
-limiting-length rows (Assignment u r) = refl
-limiting-length rows (Grant r p) = refl
-limiting-length rows (Senior a b) = refl
-limiting-length rows (Exclude x m) = refl
-limiting-length rows (Member r) = refl
-limiting-length rows (Limit r t) = length-set rows (r .0) (lesser (getD rows (r .0) 0) t)
-limiting-length rows End = refl
-limiting-length rows Unknown = refl
+use Rattle.model_laws.proofs.Bools.{and-l, and-r, or-cases, neither}
+use Rattle.model_laws.proofs.TableLaws.{getD-filled}
+use Rattle.model_laws.proofs.Entries.{sort, rowOf, itemOf}
+use Rattle.model_laws.proofs.Tables.{limiting-length, entry-row, empty-length}
+use Rattle.model_laws.proofs.Accepted.{words-entries}
 
 -- ---- role r
 module _ (r : ℕ) where
@@ -71,10 +60,6 @@ module _ (r : ℕ) where
       smaller (inl q) k = absurd (omega (arith, eqb-true a 0 q))
       smaller (inr q) k = omega (arith, ltb-true t a q)
 
-      or-none : (b c : Bool) → (b || c) ≡ false → (b ≡ false) × (c ≡ false)
-      or-none true c q = absurd (true≢false q)
-      or-none false c q = (refl, q)
-
       go : (b : Bool) → (eqb a 0 || ltb t a) ≡ b → Least a (e ∷ []) (pick b t a)
       go true q =
           record {
@@ -83,7 +68,7 @@ module _ (r : ℕ) where
             below = λ k. (smaller (or-cases (eqb a 0) (ltb t a) q) k, h);
           }
       go false q =
-          let c = or-none (eqb a 0) (ltb t a) q in
+          let c = neither (eqb a 0) (ltb t a) q in
           let z = eqb-false a 0 (c .0) in
           let l = ltb-false t a (c .1) in
           record {
@@ -172,11 +157,7 @@ least-same r es fs there back a b v w = go (v .from) (w .from)
     go (inr m) (inr n) =
         let x = there r a m in
         let y = back r b n in
-        let i = w .least (x .0) (x .1) .0 in
-        let j = v .least (y .0) (y .1) .0 in
-        let k = x .2 in
-        let l = y .2 in
-        omega arith
+        omega (arith, w .least (x .0) (x .1) .0, v .least (y .0) (y .1) .0, x .2, y .2)
 
 -- so they make the same table
 pub limits-matched : (h k : Head) (es fs : List Entry) → Each (λ e. inRange h e ≡ true) es → Each (λ e. inRange k e ≡ true) fs

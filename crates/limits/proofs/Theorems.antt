@@ -11,7 +11,7 @@ use Rattle.model.specs.Policy.{Meaning}
 use Rattle.model.specs.Limits.{Others}
 use Rattle.model.specs.Session.{Operation, isAsk, rule}
 use Rattle.model.specs.Read.{LimitsRead}
-use Rattle.model.proofs.Judgements.{words-pass}
+use Rattle.model_laws.proofs.Judgements.{words-pass}
 use Rattle.limits.specs.Card.{LimitsKept}
 use Rattle.limits.specs.Eleven.{AsksEleven}
 use Rattle.limits.proofs.LimitTable

@@ -17,11 +17,6 @@ pub mod Run
 pub mod OwnWords
 pub mod Independence
 pub mod Frames
-pub mod Ward
-pub mod Refusals
-pub mod Returned
-pub mod Texted
-pub mod Apart
 pub mod Chains
 pub mod Ordered
 pub mod Read
@@ -31,4 +26,5 @@ pub mod Ranges
 pub mod Kept
 pub mod Explained
 pub mod Moves
-pub mod MoveCases
+pub mod Computing
+pub mod Facts

@@ -4,7 +4,7 @@ use mathlib.Core.Bool.{Bool, true, false, _&&_, _||_}
 use mathlib.Core.Option.{Option, none, some}
 use mathlib.Core.List.{List, [], _∷_}
 use Prim.Native.Nat.{ℕ, zero, suc}
-use lib.Dec.{leb, ltb}
+use lib.Dec.{eqb, leb, ltb}
 
 -- the first where the test holds, else the second
 unfoldable pub pick {ℓ} : {X : Type ℓ} → Bool → X → X → X
@@ -43,3 +43,17 @@ ifBelow bound n = elim (ltb n bound) [ true ↦ some n | false ↦ none ]
 unfoldable pub isSome : Option ℕ → Bool
 isSome none = false
 isSome (some n) = true
+
+-- two lists of numbers are the same
+unfoldable pub sameList : List ℕ → List ℕ → Bool
+sameList [] [] = true
+sameList [] (y ∷ ys) = false
+sameList (x ∷ xs) [] = false
+sameList (x ∷ xs) (y ∷ ys) = eqb x y && sameList xs ys
+
+-- two lists of such lists are
+unfoldable pub sameLists : List (List ℕ) → List (List ℕ) → Bool
+sameLists [] [] = true
+sameLists [] (y ∷ ys) = false
+sameLists (x ∷ xs) [] = false
+sameLists (x ∷ xs) (y ∷ ys) = sameList x y && sameLists xs ys

@@ -10,16 +10,15 @@ use native.Mathlib.Omega.{arith}
 use lib.Dec.{eqb}
 use lib.ListN.{length}
 use borrow.Author.Tests.{eq-eqb, ne-eqb}
-use Rattle.model.specs.declared.Head.{Head}
 use Rattle.model.specs.Tests.{pick}
 use Rattle.model.specs.Policy.{Policy, meaning}
 use Rattle.model.specs.Line.{lineSize}
 use Rattle.model.specs.Session.{Reply, refuse, done}
 use Rattle.model.specs.Run.{Event, lineAt, returned}
 use Rattle.model.specs.Moves.{resized, lineFault, moveAnswer, resizedLines, writtenIf, moveOn}
-use Rattle.model.proofs.LedgerLaws.{apart, lineAt-length}
-use Rattle.model.proofs.Resizing.{length-resized}
-use Rattle.model.proofs.MoveLines.{length-lines, answer-done, done-answer}
+use Rattle.model_laws.proofs.LedgerLaws.{apart, lineAt-length}
+use Rattle.model_laws.proofs.Resizing.{length-resized}
+use Rattle.model_laws.proofs.MoveLines.{length-lines, answer-done, done-answer}
 use Rattle.octets.specs.Splice.{splice}
 use Rattle.octets.proofs.Splices.{splice-splice}
 use Rattle.calls.specs.Calls.{Gives}
@@ -41,25 +40,21 @@ size-most F W size e h = omega arith
 pub lines-most : (F W size n : ℕ) → size ≡ lineSize F → F ≤ W → n ≤ 64 → size * n ≤ lineSize W * 64
 lines-most F W size n e h i = mul-le-mul (size-most F W size e h) i
 
--- the same number of lines by other names
-pub lines-fit : (F size users : ℕ) (head other : Head) (l : List ℕ) → size ≡ lineSize F → users ≡ head .users → other ≡ head
-    → length l ≡ lineSize F * other .users → length l ≡ size * users
-lines-fit F size users head other l e f g h =
-    h ∙ ap₂ (λ (x y : ℕ). x * y) (sym e) (ap (λ (x : Head). x .users) g ∙ sym f)
-
-pub fits-lines : (F size users : ℕ) (head other : Head) (l : List ℕ) → size ≡ lineSize F → users ≡ head .users → other ≡ head
-    → length l ≡ size * users → length l ≡ lineSize F * other .users
-fits-lines F size users head other l e f g h =
-    h ∙ ap₂ (λ (x y : ℕ). x * y) e (f ∙ sym (ap (λ (x : Head). x .users) g))
+-- the fault of user u's line, by the bytes that code found
+pub fault-at : (F T : ℕ) (p : Policy) (old : List ℕ) (u : ℕ) {size n : ℕ} {bs : List ℕ} → size ≡ lineSize F → bs ≡ lineAt size u old
+    → n ≡ lineFault F T (meaning p u) bs → n ≡ lineFault F T (meaning p u) (lineAt (lineSize F) u old)
+fault-at F T p old u e k q = q ∙ ap (lineFault F T (meaning p u)) (k ∙ ap (λ (z : ℕ). lineAt z u old) e)
 
 -- ---- the answer, from user u on of n
 module _ (F W : ℕ) (p : Policy) (old : List ℕ) (u n : ℕ) where
   abbrev fault : ℕ
   fault = lineFault F W (meaning p u) (lineAt (lineSize F) u old)
 
-  answer-here : u < n
-      → moveAnswer F W p old u (n - u)
-      ≡ (let r : Reply = elim (eqb fault 0) [ true ↦ moveAnswer F W p old (suc u) (n - (u + 1)) | false ↦ refuse fault u ] in r)
+  -- by whether its line has none
+  abbrev answered : Bool → Reply
+  answered b = elim b [ true ↦ moveAnswer F W p old (suc u) (n - (u + 1)) | false ↦ refuse fault u ]
+
+  answer-here : u < n → moveAnswer F W p old u (n - u) ≡ answered (eqb fault 0)
   unfolding moveAnswer
   answer-here h =
       let e : n - u ≡ suc (n - (u + 1)) = omega arith in
@@ -67,14 +62,11 @@ module _ (F W : ℕ) (p : Policy) (old : List ℕ) (u n : ℕ) where
 
   pub answer-next : u < n → fault ≡ 0 → moveAnswer F W p old (u + 1) (n - (u + 1)) ≡ moveAnswer F W p old u (n - u)
   answer-next h e =
-      sym (answer-here h ∙ ap (λ (b : Bool). let r : Reply = elim b [ true ↦ moveAnswer F W p old (suc u) (n - (u + 1)) | false ↦ refuse fault u ] in r) (eq-eqb fault 0 e)
-      ∙ ap (λ (k : ℕ). moveAnswer F W p old k (n - (u + 1))) (sym (add-one u)))
+      sym (answer-here h ∙ ap answered (eq-eqb fault 0 e) ∙ ap (λ (k : ℕ). moveAnswer F W p old k (n - (u + 1))) (sym (add-one u)))
 
   pub answer-stop : u < n → (fault ≡ 0 → ⊥) → fault + 256 * u ≡ returned (moveAnswer F W p old u (n - u))
   unfolding returned refuse
-  answer-stop h e =
-      sym (ap returned
-      (answer-here h ∙ ap (λ (b : Bool). let r : Reply = elim b [ true ↦ moveAnswer F W p old (suc u) (n - (u + 1)) | false ↦ refuse fault u ] in r) (ne-eqb fault 0 e)))
+  answer-stop h e = sym (ap returned (answer-here h ∙ ap answered (ne-eqb fault 0 e)))
 
   pub answer-end : n ≤ u → 0 ≡ returned (moveAnswer F W p old u (n - u))
   unfolding moveAnswer returned done

@@ -8,12 +8,12 @@ ghost use Rattle.model.specs.Run.{returned};
 ghost use Rattle.model.specs.Moves.{moveAnswer, resizedLines, moveOn};
 ghost use Rattle.rows.specs.Rows.{exclusionsIn};
 ghost use Rattle.calls.specs.Calls.{Known, Gives};
-use crate::line::line_bytes;
-use crate::line::line_fault;
-use crate::line::line_size;
-use crate::line::put_resized;
 use calls::first::roles_of;
 use calls::given::Rules;
+use moves_line::line_bytes;
+use moves_line::line_fault;
+use moves_line::line_size;
+use moves_line::put_resized;
 
 // The first fault of a line, from user 0 up, with 256 times its user; 0 where none has one.
 fn first_fault(

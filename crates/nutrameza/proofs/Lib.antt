@@ -1,8 +1,2 @@
--- The laws that the proofs of the exported calls cite.
-pub mod Images
-pub mod Loops
-pub mod ShortAsks
-pub mod Tidying
-pub mod TableCalls
-pub mod Texts
+-- What the search reads of the grant table that a host may have.
 pub mod SearchTable

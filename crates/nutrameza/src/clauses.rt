@@ -3,10 +3,6 @@ ghost use mathlib.Core.Path.{_≡_};
 ghost use lib.ListN.{length};
 ghost use Rattle.model.specs.Line.{SESSIONS};
 ghost use Rattle.model.specs.Run.{step, clausesBy, returned, written};
-use crate::refusal_of;
-use calls::given::Rules;
-use calls::given::Window;
-use model::Checked;
 
 // Writes an ask as weighted clauses (docs/CLAUSES.md) to the front of the buffer, and returns the text's length as the extra. No session
 // changes; 19 where the text is longer than the buffer, 20 never.
@@ -22,38 +18,17 @@ pub extern "C" fn nutrameza_clauses(
     role_aim: u64,
     out: &mut [u8],
 ) -> u64
-    ensures { λ r. ⌜ (r ≡ returned (step SESSIONS (now (image .entry)) (now (ledger .entry)) (clausesBy user session (now (lower .entry)) (now (upper .entry)) «permission_aim» «role_aim» (length (now (out .entry)))) .reply))
-        × (now (out .exit) ≡ written (now (out .entry)) (step SESSIONS (now (image .entry)) (now (ledger .entry)) (clausesBy user session (now (lower .entry)) (now (upper .entry)) «permission_aim» «role_aim» (length (now (out .entry)))) .reply)) ⌝ }
+    ensures { λ r. ⌜ (r ≡ returned (step SESSIONS (now (image .entry)) (now (ledger .entry))
+        (clausesBy user session (now (lower .entry)) (now (upper .entry)) «permission_aim» «role_aim» (length (now (out .entry)))) .reply))
+        × (now (out .exit) ≡ written (now (out .entry))
+        (step SESSIONS (now (image .entry)) (now (ledger .entry))
+        (clausesBy user session (now (lower .entry)) (now (upper .entry)) «permission_aim» «role_aim» (length (now (out .entry)))) .reply)) ⌝ }
 {
-    let mut authorized = [0u64; 64];
-    let mut granted = [[0u64; 4]; 64];
-    let mut below = [0u64; 64];
-    let mut limits = [0u64; 64];
-    let mut xs = [[0u64; 2]; 32];
-    let all = tables::read::read(
+    session_calls::ask_clauses(
         image,
-        &mut authorized,
-        &mut granted,
-        &mut below,
-        &mut limits,
-        &mut xs,
-    );
-    let c = all.checked;
-    let Checked::Accepted(head) = c else {
-        return refusal_of(c);
-    };
-    let count = all.count;
-    let rules = Rules { head, count };
-    let window = Window { user, session };
-    clause_asks::ask_clauses(
         ledger,
-        rules,
-        &authorized,
-        &granted,
-        &below,
-        &limits,
-        &xs,
-        window,
+        user,
+        session,
         lower,
         upper,
         permission_aim,

@@ -1,32 +1,19 @@
 // The calls of the session kit, as a C host makes them: numbers are u64, a slice is a pointer and a length, and the answer is a number
 // plus 256 times an extra. No call requires anything of its arguments.
 ghost use mathlib.Core.Path.{_≡_};
-ghost use Prim.Native.Nat.{_≤_, _<_, _+_, _*_};
+ghost use Prim.Native.Nat.{_+_, _*_};
 ghost use lib.ListN.{length};
 ghost use Rattle.model.specs.Line.{SESSIONS};
 ghost use Rattle.model.specs.Image.{checkNumber};
 ghost use Rattle.model.specs.Judgement.{judge};
 ghost use Rattle.model.specs.Loop.{loopCall};
-ghost use Rattle.model.specs.Moves.{move, widened, narrowed};
+ghost use Rattle.model.specs.Moves.{widened, narrowed};
 ghost use Rattle.model.specs.Run.{step, openBy, closeBy, showBy, askBy, shortAskBy, explainBy, returned, answered};
-ghost use Rattle.calls.specs.Calls.{Gives};
 ghost use Rattle.tidying.specs.Tidy.{tidyCall};
-ghost use Rattle.turned.specs.Calls.{tableCall, turnCall, unturnCall};
-use calls::given::Rules;
-use calls::given::Window;
-use model::Checked;
+ghost use Rattle.turned_table.specs.TableCalls.{tableCall};
+ghost use Rattle.turned.specs.Calls.{turnCall, unturnCall};
 
 pub mod clauses; // clauses.rt: the clause text of an ask
-
-// What a call returns under a refused image.
-pub fn refusal_of(c: Checked) -> u64
-    ensures { λ r. ⌜ r ≡ checkNumber c ⌝ }
-{
-    let Checked::Refused(number, place) = c else {
-        return 0;
-    };
-    (number as u64) + 256 * (place as u64)
-}
 
 // Judges an image: 0, or the refusal's number plus 256 times the place of the refused word, by 22 the lowest role on a loop, or by 23 the
 // lowest user who may activate more than 16 roles.
@@ -34,7 +21,7 @@ pub fn refusal_of(c: Checked) -> u64
 pub extern "C" fn nutrameza_check(image: &[u8]) -> u64
     ensures { λ r. ⌜ r ≡ checkNumber (judge (now (image .entry))) ⌝ }
 {
-    refusal_of(tables::judge::judge(image))
+    image_calls::check_image(image)
 }
 
 // Shows the shortest loop of the lowest role on one: its roles from that role down and back to it, a byte each, and zeros after them. The
@@ -44,50 +31,18 @@ pub extern "C" fn nutrameza_loop(image: &[u8], chain: &mut [u8]) -> u64
     ensures { λ r. ⌜ (r ≡ returned (loopCall (now (image .entry)) (length (now (chain .entry)))))
         × (now (chain .exit) ≡ answered (now (chain .entry)) (loopCall (now (image .entry)) (length (now (chain .entry))))) ⌝ }
 {
-    let mut assigned = [0u64; 64];
-    let mut juniors = [0u64; 64];
-    let c = image::check::check(image, &mut assigned, &mut juniors);
-    let Checked::Accepted(head) = c else {
-        return refusal_of(c);
-    };
-    hierarchy::chain::show_loop(&juniors, head.roles, chain)
+    image_calls::show_loop(image, chain)
 }
 
 // Writes the tidy image of the image's policy at the front of the buffer: head, assignments, grants, seniors, exclusions, limits, each
-// group ascending by its fields and without repeats, of limits the smallest for a role. The extra is the number of words written; 19 for a buffer that is too small for them.
+// group ascending by its fields and without repeats, of limits the smallest for a role. The extra is the number of words written; 19
+// for a buffer that is too small for them.
 #[no_mangle]
 pub extern "C" fn nutrameza_tidy(image: &[u8], out: &mut [u8]) -> u64
     ensures { λ r. ⌜ (r ≡ tidyCall (now (image .entry)) (now (out .entry)) .number + 256 * tidyCall (now (image .entry)) (now (out .entry)) .extra)
         × (now (out .exit) ≡ tidyCall (now (image .entry)) (now (out .entry)) .out) ⌝ }
 {
-    let mut assigned = [0u64; 64];
-    let mut granted = [[0u64; 4]; 64];
-    let mut juniors = [0u64; 64];
-    let mut limits = [0u64; 64];
-    let mut xs = [[0u64; 2]; 32];
-    let all = tables::read::read_direct(
-        image,
-        &mut assigned,
-        &mut granted,
-        &mut juniors,
-        &mut limits,
-        &mut xs,
-    );
-    let c = all.checked;
-    let Checked::Accepted(head) = c else {
-        return refusal_of(c);
-    };
-    let count = all.count;
-    tidy::whole::tidy(
-        head,
-        &assigned,
-        &granted,
-        &juniors,
-        &xs,
-        &limits,
-        count,
-        out,
-    )
+    image_calls::write_tidy(image, out)
 }
 
 // Opens the user's lowest closed session, and returns it as the extra.
@@ -96,26 +51,7 @@ pub extern "C" fn nutrameza_open(image: &[u8], ledger: &mut [u8], user: u64) -> 
     ensures { λ r. ⌜ (r ≡ returned (step SESSIONS (now (image .entry)) (now (ledger .entry)) (openBy user) .reply))
         × (now (ledger .exit) ≡ step SESSIONS (now (image .entry)) (now (ledger .entry)) (openBy user) .ledger) ⌝ }
 {
-    let mut authorized = [0u64; 64];
-    let mut granted = [[0u64; 4]; 64];
-    let mut below = [0u64; 64];
-    let mut limits = [0u64; 64];
-    let mut xs = [[0u64; 2]; 32];
-    let all = tables::read::read(
-        image,
-        &mut authorized,
-        &mut granted,
-        &mut below,
-        &mut limits,
-        &mut xs,
-    );
-    let c = all.checked;
-    let Checked::Accepted(head) = c else {
-        return refusal_of(c);
-    };
-    let count = all.count;
-    let rules = Rules { head, count };
-    calls::open::open_session(ledger, rules, &authorized, &xs, user)
+    session_calls::open_session(image, ledger, user)
 }
 
 // Closes the user's session.
@@ -124,27 +60,7 @@ pub extern "C" fn nutrameza_close(image: &[u8], ledger: &mut [u8], user: u64, se
     ensures { λ r. ⌜ (r ≡ returned (step SESSIONS (now (image .entry)) (now (ledger .entry)) (closeBy user session) .reply))
         × (now (ledger .exit) ≡ step SESSIONS (now (image .entry)) (now (ledger .entry)) (closeBy user session) .ledger) ⌝ }
 {
-    let mut authorized = [0u64; 64];
-    let mut granted = [[0u64; 4]; 64];
-    let mut below = [0u64; 64];
-    let mut limits = [0u64; 64];
-    let mut xs = [[0u64; 2]; 32];
-    let all = tables::read::read(
-        image,
-        &mut authorized,
-        &mut granted,
-        &mut below,
-        &mut limits,
-        &mut xs,
-    );
-    let c = all.checked;
-    let Checked::Accepted(head) = c else {
-        return refusal_of(c);
-    };
-    let count = all.count;
-    let rules = Rules { head, count };
-    let window = Window { user, session };
-    calls::close::close_session(ledger, rules, &authorized, &xs, window)
+    session_calls::close_session(image, ledger, user, session)
 }
 
 // Shows the active roles of the user's session and the permissions that they carry.
@@ -160,36 +76,7 @@ pub extern "C" fn nutrameza_show(
         × (now (answer .exit) ≡ answered (now (answer .entry))
         (step SESSIONS (now (image .entry)) (now (ledger .entry)) (showBy user session (length (now (answer .entry)))) .reply)) ⌝ }
 {
-    let mut authorized = [0u64; 64];
-    let mut granted = [[0u64; 4]; 64];
-    let mut below = [0u64; 64];
-    let mut limits = [0u64; 64];
-    let mut xs = [[0u64; 2]; 32];
-    let all = tables::read::read(
-        image,
-        &mut authorized,
-        &mut granted,
-        &mut below,
-        &mut limits,
-        &mut xs,
-    );
-    let c = all.checked;
-    let Checked::Accepted(head) = c else {
-        return refusal_of(c);
-    };
-    let count = all.count;
-    let rules = Rules { head, count };
-    let window = Window { user, session };
-    calls::show::show_session(
-        ledger,
-        rules,
-        &authorized,
-        &granted,
-        &below,
-        &xs,
-        window,
-        answer,
-    )
+    session_calls::show_session(image, ledger, user, session, answer)
 }
 
 // Explains through which roles the active ones of the user's session carry the permission: the extra is 64 times the lowest that carries
@@ -204,36 +91,7 @@ pub extern "C" fn nutrameza_explain(
 ) -> u64
     ensures { λ r. ⌜ r ≡ returned (step SESSIONS (now (image .entry)) (now (ledger .entry)) (explainBy user session permission) .reply) ⌝ }
 {
-    let mut authorized = [0u64; 64];
-    let mut granted = [[0u64; 4]; 64];
-    let mut below = [0u64; 64];
-    let mut limits = [0u64; 64];
-    let mut xs = [[0u64; 2]; 32];
-    let all = tables::read::read(
-        image,
-        &mut authorized,
-        &mut granted,
-        &mut below,
-        &mut limits,
-        &mut xs,
-    );
-    let c = all.checked;
-    let Checked::Accepted(head) = c else {
-        return refusal_of(c);
-    };
-    let count = all.count;
-    let rules = Rules { head, count };
-    let window = Window { user, session };
-    calls::explain::explain_session(
-        ledger,
-        rules,
-        &authorized,
-        &granted,
-        &below,
-        &xs,
-        window,
-        permission,
-    )
+    session_calls::explain_session(image, ledger, user, session, permission)
 }
 
 // Asks for roles in the user's session: at least the lower permissions, none outside the upper, the best by both objectives.
@@ -249,39 +107,19 @@ pub extern "C" fn nutrameza_ask(
     role_aim: u64,
     answer: &mut [u8],
 ) -> u64
-    ensures { λ r. ⌜ (r ≡ returned (step SESSIONS (now (image .entry)) (now (ledger .entry)) (askBy user session (now (lower .entry)) (now (upper .entry)) «permission_aim» «role_aim» (length (now (answer .entry)))) .reply))
-        × (now (ledger .exit) ≡ step SESSIONS (now (image .entry)) (now (ledger .entry)) (askBy user session (now (lower .entry)) (now (upper .entry)) «permission_aim» «role_aim» (length (now (answer .entry)))) .ledger)
-        × (now (answer .exit) ≡ answered (now (answer .entry)) (step SESSIONS (now (image .entry)) (now (ledger .entry)) (askBy user session (now (lower .entry)) (now (upper .entry)) «permission_aim» «role_aim» (length (now (answer .entry)))) .reply)) ⌝ }
+    ensures { λ r. ⌜ (r ≡ returned (step SESSIONS (now (image .entry)) (now (ledger .entry))
+        (askBy user session (now (lower .entry)) (now (upper .entry)) «permission_aim» «role_aim» (length (now (answer .entry)))) .reply))
+        × (now (ledger .exit) ≡ step SESSIONS (now (image .entry)) (now (ledger .entry))
+        (askBy user session (now (lower .entry)) (now (upper .entry)) «permission_aim» «role_aim» (length (now (answer .entry)))) .ledger)
+        × (now (answer .exit) ≡ answered (now (answer .entry))
+        (step SESSIONS (now (image .entry)) (now (ledger .entry))
+        (askBy user session (now (lower .entry)) (now (upper .entry)) «permission_aim» «role_aim» (length (now (answer .entry)))) .reply)) ⌝ }
 {
-    let mut authorized = [0u64; 64];
-    let mut granted = [[0u64; 4]; 64];
-    let mut below = [0u64; 64];
-    let mut limits = [0u64; 64];
-    let mut xs = [[0u64; 2]; 32];
-    let all = tables::read::read(
+    session_calls::ask_roles(
         image,
-        &mut authorized,
-        &mut granted,
-        &mut below,
-        &mut limits,
-        &mut xs,
-    );
-    let c = all.checked;
-    let Checked::Accepted(head) = c else {
-        return refusal_of(c);
-    };
-    let count = all.count;
-    let rules = Rules { head, count };
-    let window = Window { user, session };
-    asks::ask::ask_roles(
         ledger,
-        rules,
-        &authorized,
-        &granted,
-        &below,
-        &limits,
-        &xs,
-        window,
+        user,
+        session,
         lower,
         upper,
         permission_aim,
@@ -301,38 +139,15 @@ pub extern "C" fn nutrameza_short_ask(
     upper: &[u8],
     answer: &mut [u8],
 ) -> u64
-    ensures { λ r. ⌜ (r ≡ returned (step SESSIONS (now (image .entry)) (now (ledger .entry)) (shortAskBy user session (now (lower .entry)) (now (upper .entry)) (length (now (answer .entry)))) .reply))
-        × (now (ledger .exit) ≡ step SESSIONS (now (image .entry)) (now (ledger .entry)) (shortAskBy user session (now (lower .entry)) (now (upper .entry)) (length (now (answer .entry)))) .ledger)
-        × (now (answer .exit) ≡ answered (now (answer .entry)) (step SESSIONS (now (image .entry)) (now (ledger .entry)) (shortAskBy user session (now (lower .entry)) (now (upper .entry)) (length (now (answer .entry)))) .reply)) ⌝ }
+    ensures { λ r. ⌜ (r ≡ returned (step SESSIONS (now (image .entry)) (now (ledger .entry))
+        (shortAskBy user session (now (lower .entry)) (now (upper .entry)) (length (now (answer .entry)))) .reply))
+        × (now (ledger .exit) ≡ step SESSIONS (now (image .entry)) (now (ledger .entry))
+        (shortAskBy user session (now (lower .entry)) (now (upper .entry)) (length (now (answer .entry)))) .ledger)
+        × (now (answer .exit) ≡ answered (now (answer .entry))
+        (step SESSIONS (now (image .entry)) (now (ledger .entry))
+        (shortAskBy user session (now (lower .entry)) (now (upper .entry)) (length (now (answer .entry)))) .reply)) ⌝ }
 {
-    nutrameza_ask(image, ledger, user, session, lower, upper, 1, 1, answer)
-}
-
-// Carries a ledger from so many sessions a user to so many.
-fn moved(image: &[u8], old: &[u8], new: &mut [u8], from: u8, to: u8) -> u64
-    requires { ⌜ (0 < from) × (from ≤ SESSIONS) × (to ≤ SESSIONS) ⌝ }
-    ensures { λ r. ⌜ Gives (move from to (now (image .entry)) (now (old .entry)) (now (new .entry))) r (now (new .exit)) ⌝ }
-{
-    let mut authorized = [0u64; 64];
-    let mut granted = [[0u64; 4]; 64];
-    let mut below = [0u64; 64];
-    let mut limits = [0u64; 64];
-    let mut xs = [[0u64; 2]; 32];
-    let all = tables::read::read(
-        image,
-        &mut authorized,
-        &mut granted,
-        &mut below,
-        &mut limits,
-        &mut xs,
-    );
-    let c = all.checked;
-    let Checked::Accepted(head) = c else {
-        return refusal_of(c);
-    };
-    let count = all.count;
-    let rules = Rules { head, count };
-    moves::lines::move_lines(old, from, to, rules, &authorized, &xs, new)
+    short_asks::short_ask(image, ledger, user, session, lower, upper, answer)
 }
 
 // Carries a ledger of four sessions a user over to one of eight: open bits, histories and each session's bytes stand as they were, and
@@ -342,7 +157,7 @@ pub extern "C" fn nutrameza_widen(image: &[u8], old: &[u8], new: &mut [u8]) -> u
     ensures { λ r. ⌜ (r ≡ returned (widened (now (image .entry)) (now (old .entry)) (now (new .entry)) .reply))
         × (now (new .exit) ≡ widened (now (image .entry)) (now (old .entry)) (now (new .entry)) .ledger) ⌝ }
 {
-    moved(image, old, new, 4, 8)
+    move_calls::widen(image, old, new)
 }
 
 // Carries a ledger of eight sessions a user back to one of four. 9 is by 144 bytes a user, 19 by 80; 24 where any of the sessions 4 to 7
@@ -352,7 +167,7 @@ pub extern "C" fn nutrameza_narrow(image: &[u8], old: &[u8], new: &mut [u8]) -> 
     ensures { λ r. ⌜ (r ≡ returned (narrowed (now (image .entry)) (now (old .entry)) (now (new .entry)) .reply))
         × (now (new .exit) ≡ narrowed (now (image .entry)) (now (old .entry)) (now (new .entry)) .ledger) ⌝ }
 {
-    moved(image, old, new, 8, 4)
+    move_calls::narrow(image, old, new)
 }
 
 // Fills the buffer with the closed grant table: 32 bytes for each of 64 roles, the permissions that the role carries.
@@ -361,24 +176,7 @@ pub extern "C" fn nutrameza_table(image: &[u8], table: &mut [u8]) -> u64
     ensures { λ r. ⌜ (r ≡ returned (tableCall (now (image .entry)) (length (now (table .entry)))))
         × (now (table .exit) ≡ answered (now (table .entry)) (tableCall (now (image .entry)) (length (now (table .entry))))) ⌝ }
 {
-    let mut authorized = [0u64; 64];
-    let mut granted = [[0u64; 4]; 64];
-    let mut below = [0u64; 64];
-    let mut limits = [0u64; 64];
-    let mut xs = [[0u64; 2]; 32];
-    let all = tables::read::read(
-        image,
-        &mut authorized,
-        &mut granted,
-        &mut below,
-        &mut limits,
-        &mut xs,
-    );
-    let c = all.checked;
-    let Checked::Accepted(head) = c else {
-        return refusal_of(c);
-    };
-    turned::table::grant_table(&granted, &below, head.roles, table)
+    image_calls::fill_table(image, table)
 }
 
 // Turns a table of 64 rows of 32 bytes into one of 256 rows of 8: bit p of row r goes to bit r of row p.

@@ -4,11 +4,11 @@ ghost use Prim.Native.Nat.{_+_, _≤_, _<_};
 ghost use lib.ListN.{length};
 ghost use Rattle.model.specs.Judgement.{judge};
 ghost use Rattle.script.specs.Script.{firstLedger};
-use crate::lines::Place;
-use crate::lines::answer_last;
-use crate::lines::answer_lines;
 use libc::STDIN_FILENO;
 use libc::STDOUT_FILENO;
+use script_answers::lines::Place;
+use script_answers::lines::answer_last;
+use script_answers::lines::answer_lines;
 
 // The run between two reads: how many bytes of the line are kept, how many calls are answered, and whether it goes on.
 struct Run {

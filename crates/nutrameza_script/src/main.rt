@@ -1,7 +1,6 @@
-// The program: a policy image from the file `policy.img`, a script from standard input, and for each line of it one line out. Modules:
-// `lines` answers the lines in a chunk of the script, `input` reads and writes.
+// The program: a policy image from the file `policy.img`, a script from standard input, and for each line of it one line out. Module
+// `input` reads and writes.
 mod input;
-mod lines;
 
 fn main() {
     let mut file = [0u8; 16385];

@@ -5,8 +5,8 @@ use mathlib.Core.List.{List}
 use Prim.Native.Nat.{ℕ}
 use native.Mathlib.Omega.{arith}
 use lib.ListN.{length, getD, replicate, length-replicate}
-use Rattle.survey.specs.Counting.{Most}
-use Rattle.survey.proofs.CountLaws.{most-none}
+use Rattle.survey_counts.specs.Counting.{Most}
+use Rattle.survey_counts.proofs.CountLaws.{most-none}
 
 pub zeros-size : (counts : List ℕ) → counts ≡ replicate 256 0 → length counts ≡ 256
 zeros-size counts e = ap length e ∙ length-replicate {A = ℕ} 256 0

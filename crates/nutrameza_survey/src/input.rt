@@ -4,10 +4,10 @@ ghost use Prim.Native.Nat.{_+_, _≤_, _<_};
 ghost use lib.ListN.{length, replicate};
 ghost use Rattle.model.specs.Judgement.{judge};
 ghost use Rattle.script.specs.Script.{firstLedger};
-ghost use Rattle.survey.specs.Counting.{Most};
+ghost use Rattle.survey_counts.specs.Counting.{Most};
 use libc::STDIN_FILENO;
-use survey::counts::count_chunk;
-use survey::counts::count_last;
+use survey_counts::counts::count_chunk;
+use survey_counts::counts::count_last;
 
 // The run between two reads: how many bytes of the line are kept, how many calls are answered, whether it goes on, and whether the input
 // is read to its end.

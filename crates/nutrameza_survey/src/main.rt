@@ -17,7 +17,7 @@ fn main() {
     let size = chunks::file::read_image(&mut file);
     let image = &file[..size];
     let mut out = [0u8; 16384];
-    let opening = survey::exclusions::put_opening(image, &mut out);
+    let opening = survey_exclusions::exclusions::put_opening(image, &mut out);
     let filled = opening.filled;
     if !opening.accepted {
         write_survey(&out[0..filled]);
@@ -28,7 +28,7 @@ fn main() {
     let mut counts = [0u64; 256];
     let is_read = input::count_all(image, &mut ledger[0..used], &mut counts);
     if is_read {
-        let end = survey::counts::put_counts(&mut out, filled, &counts);
+        let end = survey_counts::counts::put_counts(&mut out, filled, &counts);
         write_survey(&out[0..end]);
     }
 }

@@ -1,12 +1,12 @@
--- Laws of a splice: what was put in is there, all else is as it was, and splices one behind another are one.
+-- Laws of a splice: what it leaves as it was, and splices one behind another are one.
 -- Assumes nothing.
-use mathlib.Core.Path.{_≡_, refl, sym, ap, ap₂, _∙_}
+use mathlib.Core.Path.{_≡_, sym, ap, ap₂, _∙_}
 use mathlib.Core.List.{List, [], _++_, append-assoc, append-nil}
-use Prim.Native.Nat.{ℕ, _+_, _*_, _-_, _≤_, _<_}
+use Prim.Native.Nat.{ℕ, _+_, _*_, _-_, _≤_}
 use native.Mathlib.Nat.{add-zero}
 use native.Mathlib.Omega.{arith}
-use lib.ListN.{length, take, drop, getD, length-append, length-drop, take-append-drop, drop-of-length-le, List·getD-append}
-use lib.Seq.{paste, take-at, drop-at, length-take-le, take-length, drop-drop, take-take, take-append-le, getD-take, getD-drop, getD-append-add}
+use lib.ListN.{length, take, drop, length-append, length-drop, take-append-drop, drop-of-length-le}
+use lib.Seq.{paste, take-at, drop-at, length-take-le, take-length, drop-drop}
 use Rattle.model.specs.Run.{withLine}
 use Rattle.octets.specs.Splice.{splice}
 
@@ -47,25 +47,7 @@ module _ (s : List ℕ) (at : ℕ) (bs : List ℕ) (h : at + length bs ≤ lengt
   pub length-splice : length (splice s at bs) ≡ length s
   length-splice = rw grouped (length-append (take at s ++ bs) (drop (at + length bs) s) ∙ omega (arith, ahead, length-drop (at + length bs) s))
 
-  -- what was put in is there
-  pub read-splice : take (length bs) (drop at (splice s at bs)) ≡ bs
-  unfolding splice
-  read-splice =
-      rw (drop-at (take at s) (bs ++ drop (at + length bs) s) at taken) (take-at bs (drop (at + length bs) s) (length bs) refl)
-
-  -- as a part that was lent comes back
-  pub splice-part : take at s ++ (bs ++ drop (length bs) (drop at s)) ≡ splice s at bs
-  unfolding splice
-  splice-part = rw drop-drop
-
-  -- before it all is as it was
-  pub take-splice : (q : ℕ) → q ≤ at → take q (splice s at bs) ≡ take q s
-  unfolding splice
-  take-splice q k =
-      let l : q ≤ length (take at s) = omega (arith, taken) in
-      take-append-le q (take at s) (bs ++ drop (at + length bs) s) l ∙ take-take q at s k
-
-  -- and behind it
+  -- behind it all is as it was
   pub drop-splice : (q : ℕ) → at + length bs ≤ q → drop q (splice s at bs) ≡ drop q s
   drop-splice q k =
       let m : ℕ = q - (at + length bs) in
@@ -73,19 +55,6 @@ module _ (s : List ℕ) (at : ℕ) (bs : List ℕ) (h : at + length bs ≤ lengt
       ap (λ (n : ℕ). drop n (splice s at bs)) (sym e) ∙ sym (drop-drop m (at + length bs) (splice s at bs))
       ∙ ap (drop m) (ap (drop (at + length bs)) grouped ∙ drop-at (take at s ++ bs) (drop (at + length bs) s) (at + length bs) ahead)
       ∙ drop-drop m (at + length bs) s ∙ ap (λ (n : ℕ). drop n s) e
-
-  pub before-splice : (i : ℕ) → i < at → getD (splice s at bs) i 0 ≡ getD s i 0
-  unfolding splice
-  before-splice i k =
-      List·getD-append (take at s) (bs ++ drop (at + length bs) s) 0 i (omega (arith, taken)) ∙ getD-take at s i 0 k
-
-  pub behind-splice : (i : ℕ) → at + length bs ≤ i → getD (splice s at bs) i 0 ≡ getD s i 0
-  behind-splice i k =
-      let m : ℕ = i - (at + length bs) in
-      let e : i ≡ (at + length bs) + m = omega arith in
-      let f : i ≡ length (take at s ++ bs) + m = omega (arith, ahead) in
-      ap₂ (λ (l : List ℕ) (n : ℕ). getD l n 0) grouped f ∙ getD-append-add (take at s ++ bs) (drop (at + length bs) s) m 0
-      ∙ getD-drop (at + length bs) s m 0 ∙ ap (λ (n : ℕ). getD s n 0) (sym e)
 
 -- a splice right behind another is one splice
 pub splice-splice : (s : List ℕ) (at : ℕ) (xs ys : List ℕ) → at + length xs + length ys ≤ length s

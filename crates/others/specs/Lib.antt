@@ -1,3 +1,2 @@
--- What the functions here count, and what they tell an ask.
-pub mod Counted
+-- What a line that is not sound tells an ask.
 pub mod Lines

@@ -7,12 +7,12 @@ ghost use Rattle.model.specs.Line.{SESSIONS, lineSize};
 ghost use Rattle.rows.specs.Rows.{exclusionsIn};
 ghost use Rattle.calls.specs.Calls.{Known};
 ghost use Rattle.others.specs.Lines.{blamed as blamedFor, linesRefusal, othersRefusal};
-use crate::left::has_limits;
 use calls::first::roles_of;
 use calls::given::Rules;
 use ledger::bytes::LINE;
 use ledger::bytes::line_of;
 use ledger::sound::sound;
+use limits_left::has_limits;
 
 // 11 for the line of user v; the extra is that user plus 1, where it is not the asker.
 fn blamed(user: u64, v: usize) -> u64

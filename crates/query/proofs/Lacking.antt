@@ -12,10 +12,11 @@ use lib.Dec.{ltb, lit<}
 use lib.ListN.{getD}
 use borrow.Author.Tests.{ltb-true, ltb-false}
 use Rattle.model.specs.Sets.{has, within}
-use Rattle.model.proofs.Bools.{and-l, and-r, not-both}
-use Rattle.model.proofs.SetLaws.{has-beyond}
+use Rattle.model_laws.proofs.Bools.{and-l, and-r, not-both}
+use Rattle.model_laws.proofs.SetLaws.{has-beyond}
 use Rattle.sets.specs.Members.{Lowest}
-use Rattle.sets.specs.Words.{value, Splits}
+use Rattle.sets_split.specs.Split.{Splits}
+use Rattle.sets.specs.Words.{value}
 use Rattle.sets.proofs.Machine.{value-has, value-lt}
 use Rattle.sets.proofs.Taken.{lacking, has-lacking}
 use Rattle.query.specs.Carry.{Missing}

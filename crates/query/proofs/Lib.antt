@@ -1,11 +1,8 @@
--- The laws behind the contracts of a search's parts.
+-- The laws of sets by their members, and those behind what roles carry.
 pub mod Members
-pub mod Ranks
-pub mod Bounds
-pub mod RoomLaws
 pub mod Walks
 pub mod Turned
 pub mod Marks
 pub mod Lacking
 pub mod Meanings
-pub mod Reductions
+pub mod Reach

@@ -17,12 +17,13 @@ use Rattle.model.specs.Tests.{pick}
 use Rattle.model.specs.Sets.{has, inter, with, count}
 use Rattle.model.specs.Policy.{Policy, meaning}
 use Rattle.model.specs.Ranges.{InRange}
-use Rattle.model.proofs.Bools.{and-l, both, bool-ext}
-use Rattle.model.proofs.SetLaws.{has-inter}
-use Rattle.model.proofs.UnionLaws.{has-none, has-below}
-use Rattle.model.proofs.Closure.{carried-named}
+use Rattle.model_laws.proofs.Bools.{and-l, both, bool-ext}
+use Rattle.model_laws.proofs.SetLaws.{has-inter}
+use Rattle.model_laws.proofs.UnionLaws.{has-none, has-below}
+use Rattle.model_laws.proofs.Closure.{carried-named}
 use Rattle.sets.specs.Members.{without, Lowest}
-use Rattle.sets.specs.Words.{value, Splits}
+use Rattle.sets_split.specs.Split.{Splits}
+use Rattle.sets.specs.Words.{value}
 use Rattle.sets.proofs.Machine.{value-has}
 use Rattle.sets.proofs.Taken.{has-without, without-gone, without-other, without-lt, count-without}
 use Rattle.query.specs.Carry.{Carry, Sub, Turned, Named, Marked}
@@ -161,7 +162,8 @@ module _ (word : ℕ → ℕ) (r : ℕ) (before : List ℕ) where
   row-next place x now after w ex m = record { size = m .size; sets = λ q k l. m .sets q k l ∙ go q k l (eqb q place) refl }
     where
       go : (q k : ℕ) → k < 64 → (s : Bool) → eqb q place ≡ s
-          → pick (eqb q place && has x k) (with (getD now (q * 64 + k) 0) r) (getD now (q * 64 + k) 0) ≡ joinedAt before r q k (ltb q (place + 1) && has (word q) k)
+          → pick (eqb q place && has x k) (with (getD now (q * 64 + k) 0) r) (getD now (q * 64 + k) 0)
+          ≡ joinedAt before r q k (ltb q (place + 1) && has (word q) k)
       go q k l true e =
           let z : q ≡ place = eqb-true q place e in
           let old : getD now (q * 64 + k) 0 ≡ getD before (q * 64 + k) 0 =

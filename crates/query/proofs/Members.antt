@@ -7,11 +7,11 @@ use Prim.Native.Nat.{ℕ, _≤_}
 use borrow.Author.Tests.{eqb-true, eq-eqb}
 use lib.Dec.{eqb}
 use lib.Bits.{and-le-r}
-use Rattle.model.specs.Sets.{has, inter, with, within, count}
-use Rattle.model.proofs.Bools.{and-l, or-r, not-both}
-use Rattle.model.proofs.AnyWidth.{within-iff}
-use Rattle.model.proofs.SetLaws.{has-with, count-within}
-use Rattle.model.proofs.UnionLaws.{has-none}
+use Rattle.model.specs.Sets.{has, union, inter, with, within, count}
+use Rattle.model_laws.proofs.Bools.{and-l, or-l, or-r, not-both}
+use Rattle.model_laws.proofs.AnyWidth.{within-iff}
+use Rattle.model_laws.proofs.SetLaws.{has-with, has-union, count-within}
+use Rattle.model_laws.proofs.UnionLaws.{has-none}
 use Rattle.sets.specs.Members.{without}
 use Rattle.sets.proofs.Taken.{has-without}
 use Rattle.query.specs.Carry.{Sub}
@@ -41,6 +41,14 @@ none-sub a i m = no-member i m
 pub either : (b : Bool) → (b ≡ true) ⊎ (b ≡ false)
 either true = inl refl
 either false = inr refl
+
+-- ---- two sets joined
+module _ (a b : ℕ) where
+  pub left-sub : Sub a (union a b)
+  left-sub i m = has-union a b i ∙ or-l (has a i) (has b i) m
+
+  pub right-sub : Sub b (union a b)
+  right-sub i m = has-union a b i ∙ or-r (has a i) (has b i) m
 
 -- ---- one member more or fewer
 pub with-new : (s r : ℕ) → has (with s r) r ≡ true

@@ -6,7 +6,7 @@ use mathlib.Core.List.{List}
 use Prim.Native.Nat.{ℕ}
 use lib.ListN.{getD}
 use Rattle.model.specs.Sets.{has, inter}
-use Rattle.model.proofs.SetLaws.{has-inter}
+use Rattle.model_laws.proofs.SetLaws.{has-inter}
 use Rattle.sets.specs.Members.{without}
 use Rattle.query.specs.Carry.{Turned, Sub, Keeps}
 use Rattle.query.proofs.Members.{fewer-sub}

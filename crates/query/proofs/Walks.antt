@@ -9,9 +9,9 @@ use lib.Dec.{eqb}
 use borrow.Author.Tests.{eqb-true, eqb-false, ne-eqb}
 use Rattle.model.specs.Tests.{pick}
 use Rattle.model.specs.Sets.{has, with, count}
-use Rattle.model.proofs.Bools.{not-both}
-use Rattle.model.proofs.SetLaws.{has-with}
-use Rattle.model.proofs.UnionLaws.{has-none}
+use Rattle.model_laws.proofs.Bools.{not-both}
+use Rattle.model_laws.proofs.SetLaws.{has-with}
+use Rattle.model_laws.proofs.UnionLaws.{has-none}
 use Rattle.sets.specs.Members.{without, Lowest}
 use Rattle.sets.proofs.Taken.{without-gone, without-other, count-without}
 use Rattle.query.specs.Carry.{Sub, Keeps}

@@ -1,5 +1,2 @@
--- What the contracts of a search's parts say, over the model's definitions.
-pub mod Rooms
+-- What roles carry, over the model's definitions.
 pub mod Carry
-pub mod Ranks
-pub mod Reduction

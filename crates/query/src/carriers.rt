@@ -29,7 +29,8 @@ fn mark_word(table: &mut [u64; 256], place: usize, word: u64, r: Role)
 // Role r joins the carriers of the wanted permissions of its row.
 fn mark_row(table: &mut [u64; 256], row: [u64; 4], wanted: [u64; 4], r: Role)
     requires { ⌜ (r .0 < 64) × (length (now table) ≡ 256) ⌝ }
-    ensures { λ _. ⌜ Marked (λ q k. ltb q 4 && (has (value row) (q * 64 + k) && has (value wanted) (q * 64 + k))) (r .0) (now (table .entry)) (now (table .exit)) ⌝ }
+    ensures { λ _. ⌜ Marked (λ q k. ltb q 4 && (has (value row) (q * 64 + k) && has (value wanted) (q * 64 + k))) (r .0) (now (table .entry))
+        (now (table .exit)) ⌝ }
 {
     for place in 0..4usize {
         let word = sets::inter(row[place], wanted[place]);

@@ -25,7 +25,8 @@ unfolding foundAt pick
 behind-last s b place e h = simp (le-leb 1 place (omega (arith, h)), lt-leb place (behindHead s) (omega (arith, e, h)))
 
 -- between them stands the word w decoded, d
-pub word-found : (s : List ℕ) (b place w : ℕ) (d : Word) → b ≡ behindHead s → 1 ≤ place → place ≤ b → w ≡ wordAt s place → d ≡ decode w → Decoded d ≡ foundAt s place
+pub word-found : (s : List ℕ) (b place w : ℕ) (d : Word) → b ≡ behindHead s → 1 ≤ place → place ≤ b → w ≡ wordAt s place → d ≡ decode w
+    → Decoded d ≡ foundAt s place
 unfolding foundAt pick
 word-found s b place w d e f h g k = simp (le-leb 1 place f, le-leb place (behindHead s) (omega (arith, e, h)), k, g)
 

@@ -38,7 +38,7 @@ pub fn entry_at(image: &[u8], place: usize) -> Found
     if last < place {
         return Found::Nothing;
     }
-    Found::Decoded(image::word::decode(octets::word_at(image, place)))
+    Found::Decoded(image_words::word::decode(octets::word_at(image, place)))
 }
 
 // The place after the one given; behind the last word there is none, and it stays.
@@ -84,18 +84,18 @@ pub fn moved<'a>(r: Reader<'a>) -> Reader<'a>
 
 // ---- for callers that hold no reader
 
-// The first entry of the image.
-pub fn first_entry(image: &[u8]) -> Found
-    ensures { λ f. ⌜ f ≡ foundAt (now (image .entry)) 1 ⌝ }
-{
-    next(new(image))
-}
-
 // The entry behind the place.
 pub fn entry_after(image: &[u8], place: usize) -> Found
     ensures { λ f. ⌜ f ≡ foundAt (now (image .entry)) (place + 1) ⌝ }
 {
     next(moved(Reader { image, at: place }))
+}
+
+// The first entry of the image: the one behind its head.
+pub fn first_entry(image: &[u8]) -> Found
+    ensures { λ f. ⌜ f ≡ foundAt (now (image .entry)) 1 ⌝ }
+{
+    entry_after(image, 0)
 }
 
 // The entry is an exclusion.

@@ -1,3 +1,2 @@
--- The laws that the proofs of the replies' code use.
-pub mod CallLaws
+-- The output line of an answer.
 pub mod LineLaws

@@ -9,9 +9,9 @@ use Rattle.model.specs.Bytes.{number}
 use Rattle.model.specs.Line.{SESSIONS}
 use Rattle.model.specs.Session.{Reply, refuse}
 use Rattle.model.specs.Run.{Call, Event, step, returned, filledWith, answered}
-use Rattle.script.specs.declared.Parsed.{Parsed}
+use Rattle.script_parse.specs.declared.Parsed.{Parsed}
 use Rattle.script.specs.Script.{parse, lineOf, printed, answerBy, answerTo}
-use Rattle.script.specs.Reading.{callIn}
+use Rattle.script_parse.specs.Reading.{callIn}
 use Rattle.script.proofs.ReplyLaws.{step-small, number-returned, extra-returned}
 use Rattle.text.specs.Writing.{Puts}
 use Rattle.text.proofs.TextLaws.{puts-as}
@@ -69,7 +69,8 @@ module _ (image ledger line : List ℕ) (p : Parsed) (n code : ℕ) (after answe
   line-is =
       let r = answerBy image ledger (callIn p) .reply in
       let k = parts image ledger (callIn p) in
-      rw (a .number, a .buffer, k .number-is, k .extra-is, roles-filled (r .filled), permissions-filled (r .filled)) (ap (λ (x : Event). printed n (x .reply)) event-is)
+      let e = ap (λ (x : Event). printed n (x .reply)) event-is in
+      rw (a .number, a .buffer, k .number-is, k .extra-is, roles-filled (r .filled), permissions-filled (r .filled)) e
 
   pub line-written : (before out : List ℕ) (at next : ℕ)
       → Puts before at (lineOf n (code % 256) (code / 256) (number (take 8 answer)) (number (drop 8 answer))) out next

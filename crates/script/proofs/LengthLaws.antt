@@ -11,8 +11,8 @@ use lib.Dec.{eqb, leb}
 use lib.ListN.{length, take, length-take}
 use borrow.Author.Tests.{leb-true}
 use Rattle.model.specs.Tests.{pick, between, all}
-use Rattle.model.specs.Ward.{sameList}
-use Rattle.model.proofs.Bools.{and-l, and-r}
+use Rattle.model.specs.Tests.{sameList}
+use Rattle.model_laws.proofs.Bools.{and-l, and-r}
 use Rattle.script.specs.Script.{ascii, begun, words, isDigit, isNumeral, Part, keyword, decimal, hexadecimal, suits, matches, openForm, closeForm, showForm, shortAskForm, askForm, callOf, parse}
 
 -- ---- a line by its words

@@ -12,9 +12,9 @@ use Rattle.model.specs.Judgement.{judge}
 use Rattle.model.specs.Limits.{Others}
 use Rattle.model.specs.Session.{Operation, open-session, close-session, ask, short-ask, show, explain, clauses, Reply, refuse, done, given, wrote, Result, Refusal, bad-other, bad-line, bad-session, is-closed, is-full, bad-set, bad-permission, bad-bounds, bad-aim, bad-room, no-set, not-below, not-carried, too-long, refusalNumber, asked, explained, perform, unless, rule}
 use Rattle.model.specs.Run.{Call, Event, step, stepBy, stepOn, ruled, returned}
-use Rattle.model.proofs.Bools.{pick-case}
-use Rattle.model.proofs.ImageNumbers.{Numbered}
-use Rattle.model.proofs.Judgements.{judge-numbered}
+use Rattle.model_laws.proofs.Bools.{pick-case}
+use Rattle.model_laws.proofs.ImageNumbers.{Numbered}
+use Rattle.model_laws.proofs.Judgements.{judge-numbered}
 
 -- ---- of an image
 

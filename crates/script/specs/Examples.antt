@@ -6,8 +6,9 @@ use Prim.Native.String.{String}
 use Prim.Native.Nat.{ℕ}
 use lib.ListN.{take}
 use Rattle.model.specs.Words.{imageBytes}
-use Rattle.model.specs.Ward.{sameList, imageA, imageOfTwo, threeRoles, twoAndBoth}
-use Rattle.model.specs.Returned.{ranked}
+use Rattle.model.specs.Tests.{sameList}
+use Rattle.model_cases.specs.Ward.{imageA, imageOfTwo, threeRoles, twoAndBoth}
+use Rattle.model_cases.specs.Returned.{ranked}
 use Rattle.script.specs.Script.{ascii, parse, transcript, isUnreadable}
 
 pub record Example : Type 0 where
@@ -44,8 +45,11 @@ examples =
     ∷ underA "open 0\n\nopen 0" "1 0 0 0 0\n2 21 0 0 0\n3 0 1 0 0\n"
     -- sets up to role 63 and permission 255, and a bound of 64 digits
     ∷ under ranked
-    "open 0\nask 0 0 1000000000000000000000000000000010000000000000000 8000000000000001000000000000000180000000000000010000000000000000 1 0\nask 0 0 0 8000000000000001000000000000000180000000000000010000000000000000 2 0\nshow 0 8\n"
-    "1 0 0 0 0\n2 0 0 8000000000000000 1000000000000000100000000000000010000000000000000\n3 0 0 c000000000000000 8000000000000001000000000000000180000000000000010000000000000000\n4 12 0 0 0\n"
+    "open 0\nask 0 0 1000000000000000000000000000000010000000000000000 8000000000000001000000000000000180000000000000010000000000000000 1 0\n"
+    "1 0 0 0 0\n2 0 0 8000000000000000 1000000000000000100000000000000010000000000000000\n"
+    ∷ under ranked
+    "open 0\nask 0 0 0 8000000000000001000000000000000180000000000000010000000000000000 2 0\nshow 0 8\n"
+    "1 0 0 0 0\n2 0 0 c000000000000000 8000000000000001000000000000000180000000000000010000000000000000\n3 12 0 0 0\n"
     -- the first objective is that on permissions; a capital digit and a small one mean the same
     ∷ under (imageBytes threeRoles) "open 0\nask 0 0 1 f 2 0\nask 0 0 1 F 1 2\nask 0 0 A E 0 0\nask 0 0 a e 0 0\n"
     "1 0 0 0 0\n2 0 0 3 f\n3 0 0 1 5\n4 0 0 2 a\n5 0 0 2 a\n"
@@ -66,7 +70,8 @@ unreadable =
     "" ∷ " " ∷ "open" ∷ "open " ∷ "open 0 " ∷ " open 0" ∷ "open  0" ∷ "open 0 0" ∷ "open\t0" ∷ "open 0\r" ∷ "Open 0" ∷ "OPEN 0" ∷ "opens 0" ∷ "ope 0"
     ∷ "open -1" ∷ "open +1" ∷ "open 0x1" ∷ "open a" ∷ "open 0123456789" ∷ "open 1000000000" ∷ "check" ∷ "close 0" ∷ "close 0 0 0" ∷ "close 0  0"
     ∷ "show 0" ∷ "show 0 a" ∷ "show 0 0 0" ∷ "ask 0 0 3" ∷ "ask 0 0 3 1f 1" ∷ "ask 0 0 3 1f 1 0 0" ∷ "ask 0 0 3 1f 1 0 " ∷ "ask 0 0 3 1f  1 0"
-    ∷ "ask 0 0 3 1g 1 0" ∷ "ask 0 0 0x3 1f" ∷ "ask 0 0 3 1f a 0" ∷ "ask 0 0 3 1f 1 b" ∷ "ask 0 0 `3 1f" ∷ "ask 0 0 3 @f" ∷ "ask 0 0 3 1G" ∷ "open /" ∷ "open :" ∷ "ask 0 0 3 1f 1 0000000000"
+    ∷ "ask 0 0 3 1g 1 0" ∷ "ask 0 0 0x3 1f" ∷ "ask 0 0 3 1f a 0" ∷ "ask 0 0 3 1f 1 b" ∷ "ask 0 0 `3 1f" ∷ "ask 0 0 3 @f"
+    ∷ "ask 0 0 3 1G" ∷ "open /" ∷ "open :" ∷ "ask 0 0 3 1f 1 0000000000"
     ∷ "ask 0 0 00000000000000000000000000000000000000000000000000000000000000003 1f" ∷ []
 
 unfoldable pub isUnreadableText : String → Bool

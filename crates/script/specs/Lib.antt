@@ -1,4 +1,3 @@
--- The definitions of the script, and what the functions that read a line find on the way.
+-- The definitions of the script, and listed examples of it.
 pub mod Script
 pub mod Examples
-pub mod Reading

@@ -1,6 +1,7 @@
 -- The script of the program: its lines, the call that a line is, the line that is printed for an answer, and all that is printed for an
 -- input. In the order of 01's "Ward examples".
 -- Assumes nothing.
+use mathlib.Core.Path.{_≡_, refl}
 use mathlib.Core.Bool.{Bool, true, false, _&&_}
 use mathlib.Core.Option.{Option, none, some}
 use mathlib.Core.List.{List, [], _∷_, _++_}
@@ -18,7 +19,7 @@ use Rattle.model.specs.Judgement.{judge}
 use Rattle.model.specs.Line.{SESSIONS, lineSize}
 use Rattle.model.specs.Session.{Reply, refuse}
 use Rattle.model.specs.Run.{Call, Event, step, openBy, closeBy, askBy, shortAskBy, showBy}
-use Rattle.model.specs.Ward.{sameList}
+use Rattle.model.specs.Tests.{sameList}
 
 -- a text of ASCII letters as bytes
 unfoldable pub ascii : String → List ℕ
@@ -152,9 +153,20 @@ unfoldable pub lineOf : ℕ → ℕ → ℕ → ℕ → ℕ → List ℕ
 lineOf n number extra roles permissions =
     numeral 10 n ++ (32 ∷ numeral 10 number) ++ (32 ∷ numeral 10 extra) ++ (32 ∷ numeral 16 roles) ++ (32 ∷ numeral 16 permissions) ++ (10 ∷ [])
 
+-- call 10 and role set 18
+pub line-of-ten : lineOf 10 0 0 18 0 ≡ ascii "10 0 0 12 0\n"
+unfolding ascii pick glyph digitsOf numeral lineOf
+line-of-ten = refl
+
 -- the line for an answer; nothing fills the answer, and both sets are 0, unless an ask or a show is done
 unfoldable pub printed : ℕ → Reply → List ℕ
 printed n r = lineOf n (r .number) (r .extra) (number (take 8 (r .filled))) (number (drop 8 (r .filled)))
+
+-- permission 64 stands in the ninth byte behind the roles
+pub printed-sixty-four :
+    printed 1 (record { number = 0; extra = 0; filled = replicate 16 0 ++ (1 ∷ replicate 23 0) }) ≡ ascii "1 0 0 0 10000000000000000\n"
+unfolding ascii pick number glyph digitsOf numeral lineOf printed
+printed-sixty-four = refl
 
 -- ---- a run of the program
 
@@ -177,6 +189,11 @@ printedFor image ledger n (l ∷ ls) =
 unfoldable pub firstLedger : Checked → List ℕ
 firstLedger (Accepted h) = replicate (lineSize SESSIONS * h .users) 0
 firstLedger (Refused n place) = []
+
+-- two users have two lines
+pub ledger-of-two : length (firstLedger (Accepted (record { users = 2; roles = 1; permissions = 1 }))) ≡ 2 * lineSize SESSIONS
+unfolding lineSize firstLedger
+ledger-of-two = refl
 
 -- what the program prints for the bytes of an image and of an input; calls are numbered from 1
 unfoldable pub transcript : List ℕ → List ℕ → List ℕ

@@ -1,7 +1,2 @@
--- The laws behind the searches' contracts.
-pub mod Between
-pub mod Carried
-pub mod Costs
-pub mod Returns
-pub mod Turns
+-- The laws behind a query's answer.
 pub mod Solved

@@ -15,23 +15,23 @@ use Rattle.model.specs.Sets.{has, within, count}
 use Rattle.model.specs.Policy.{Meaning}
 use Rattle.model.specs.Line.{exclusionsMet, putIn}
 use Rattle.model.specs.Choice.{carriedBy, admissible, cost, permissionCost, roleCost, better, choose}
-use Rattle.model.proofs.Bools.{and-l, and-r, both, not-both}
-use Rattle.model.proofs.SetLaws.{has-beyond}
-use Rattle.model.proofs.Ranks.{Earlier, earlier-true}
-use Rattle.model.proofs.Choices.{choice}
-use Rattle.query.specs.declared.rank.Best.{Best}
+use Rattle.model_laws.proofs.Bools.{and-l, and-r, both, not-both}
+use Rattle.model_laws.proofs.SetLaws.{has-beyond}
+use Rattle.model_laws.proofs.Ranks.{Earlier, earlier-true}
+use Rattle.model_laws.proofs.Choices.{choice}
+use Rattle.query_rank.specs.declared.Best.{Best}
 use Rattle.query.specs.Carry.{Sub, Keeps}
-use Rattle.query.specs.Ranks.{keyBy, rank, rankAt, Between}
+use Rattle.query_rank.specs.Ranks.{keyBy, rank, rankAt, Between}
 use Rattle.query.proofs.Members.{sub-within, within-sub, sub-le, none-sub, no-member}
 use Rattle.query.proofs.Meanings.{carried-meaning}
-use Rattle.query.proofs.Ranks.{count-le}
+use Rattle.query_rank.proofs.Ranks.{count-le}
 use Rattle.search.specs.declared.Choice.{Choice}
 use Rattle.search.specs.declared.Choice.the-variants.{Nothing}
-use Rattle.search.specs.Search.{Task, carries, serves, rankOf, Served, Found}
+use Rattle.search_steps.specs.Search.{Task, carries, serves, rankOf, Served, Found}
 use Rattle.search.specs.Answer.{answered, noBest, answerOf, Given}
-use Rattle.search.proofs.Carried.{carried-least, row-sub}
-use Rattle.search.proofs.Costs.{cost-top}
-use Rattle.search.proofs.Turns.{Falls}
+use Rattle.search_steps.proofs.Carried.{carried-least, row-sub}
+use Rattle.search_steps.proofs.Costs.{cost-top}
+use Rattle.search_steps.proofs.Turns.{Falls}
 
 -- a key is below that of none
 key-small : (a b c s : ℕ) → keyBy a b c s < 1048576
@@ -159,7 +159,9 @@ module _ (t : Task) (upper authorized : ℕ) (small : authorized < 2 ^ 64) (m : 
 
       inside : Sub (carries t s) upper
       unfolding carries
-      inside = carried-least (t .row) 64 s upper (λ r _ n. within-sub (t .row r) upper (and-r (has authorized r) (within (t .row r) upper) (sym (keeps r) ∙ free-in r n)))
+      inside =
+          carried-least (t .row) 64 s upper
+          (λ r _ n. within-sub (t .row r) upper (and-r (has authorized r) (within (t .row r) upper) (sym (keeps r) ∙ free-in r n)))
 
       admits : serves t s ≡ true → admissible m l k (t .lower) upper s ≡ true
       unfolding admissible serves
@@ -203,5 +205,6 @@ module _ (t : Task) (upper authorized : ℕ) (small : authorized < 2 ^ 64) (m : 
             let q = below s (v .own) in
             omega arith))
         go (inr v) =
-            let n : eqb (r .key) 1048576 ≡ false = ne-eqb (r .key) 1048576 (λ x. let b = key-small (t .first) (t .second) (carries t (r .roles)) (r .roles) in omega (arith, v .keyed)) in
+            let n : eqb (r .key) 1048576 ≡ false = ne-eqb (r .key) 1048576
+            (λ x. let b = key-small (t .first) (t .second) (carries t (r .roles)) (r .roles) in omega (arith, v .keyed)) in
             rw n (chosen-some r v (f .least))

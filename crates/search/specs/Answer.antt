@@ -10,7 +10,7 @@ use Rattle.model.specs.Tests.{pick}
 use Rattle.model.specs.Sets.{within}
 use Rattle.model.specs.Policy.{Meaning}
 use Rattle.model.specs.Line.{exclusionsMet, putIn}
-use Rattle.query.specs.declared.rank.Best.{Best}
+use Rattle.query_rank.specs.declared.Best.{Best}
 use Rattle.query.specs.Carry.{Carry}
 use Rattle.search.specs.declared.Choice.{Choice}
 use Rattle.search.specs.declared.Choice.the-variants.{Nothing, Roles}

@@ -1,3 +1,2 @@
--- What the contracts of the searches say, over the model's definitions.
-pub mod Search
+-- What a query's answer says, over the model's definitions.
 pub mod Answer

@@ -1,4 +1,4 @@
-// The choice of a role set (the User Authorization Query): `solve`, and the two searches behind it.
+// The choice of a role set (the User Authorization Query): `solve`, by the two searches.
 ghost use mathlib.Core.Path.{_≡_};
 ghost use mathlib.Core.Bool.{true};
 ghost use Prim.Native.Nat.{ℕ, _≤_};
@@ -6,22 +6,19 @@ ghost use Rattle.model.specs.declared.Line.{Line};
 ghost use Rattle.model.specs.Policy.{Meaning};
 ghost use Rattle.model.specs.Choice.{choose};
 ghost use Rattle.sets.specs.Words.{value};
-ghost use Rattle.query.specs.Rooms.{roomy};
+ghost use Rattle.query_rooms.specs.Rooms.{roomy};
 ghost use Rattle.query.specs.Carry.{rowsOf};
-ghost use Rattle.search.specs.Search.{taskOf, Found};
+ghost use Rattle.search_steps.specs.Search.{taskOf, Found};
 ghost use Rattle.search.specs.Answer.{answered, answerOf, noBest, Given};
-
-pub mod steps; // steps.rt: the steps of the two searches
-
 use query::carriers::carriers;
 use query::carry::reach;
 use query::carry::usable;
-use query::rank::Best;
-use query::rank::Job;
-use query::rank::NONE;
-use query::rooms::room_for;
-use steps::permission_step;
-use steps::subset_step;
+use query_rank::Best;
+use query_rank::Job;
+use query_rank::NONE;
+use query_rooms::rooms::room_for;
+use search_steps::permission_step;
+use search_steps::subset_step;
 
 // The answer of a query: no set is admissible, or the best one.
 pub enum Choice {
@@ -72,7 +69,9 @@ pub fn solve(
     job: Job,
 ) -> Choice
     requires { ⌜ job .count ≤ 32 ⌝ }
-    ensures { λ r. ⌜ ((m : Meaning) (l : Line) (k : ℕ) → Given m l k authorized (rowsOf (now (rows .entry))) (roomy (now (masks .entry)) (now (rooms .entry)) (job .count)) → answered r ≡ choose m l k (value (job .lower)) (value upper) (job .first) (job .second)) ⌝ }
+    ensures { λ r. ⌜ ((m : Meaning) (l : Line) (k : ℕ)
+        → Given m l k authorized (rowsOf (now (rows .entry))) (roomy (now (masks .entry)) (now (rooms .entry)) (job .count))
+        → answered r ≡ choose m l k (value (job .lower)) (value upper) (job .first) (job .second)) ⌝ }
 {
     let count = job.count;
     if !room_for(masks, rooms, count, 0) {

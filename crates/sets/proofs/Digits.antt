@@ -1,22 +1,24 @@
 -- A number as d digits of w bits, and the operations on each digit apart: for `[u64; 4]` w is 64 and d is 4, for 32 bytes 8 and 32.
 -- Assumes nothing.
 use mathlib.Core.Path.{_≡_, refl, sym, ap, ap₂, _∙_, subst}
-use mathlib.Core.Bool.{Bool, true, false, _&&_, false≢true}
+use mathlib.Core.Bool.{Bool, true, false, _&&_}
 use mathlib.Core.List.{List}
 use Prim.Native.Nat.{ℕ, zero, suc, _+_, _*_, _/_, _%_, _^_, _≤_, _<_}
 use native.Mathlib.Nat.{zero-mul, mul-assoc, add-mul, add-assoc, add-suc, add-comm, suc-mul, mul-comm, add-zero, lt-suc-self, lt-of-lt-of-le, le-suc}
+use native.Mathlib.Decide.{decLt, ℕ-discrete}
 use native.Mathlib.Omega.{arith}
-use lib.Dec.{eqb, ltb}
+use lib.Dec.{eqb}
 use lib.Arith.{digits-lt, digits-div, digits-mod}
 use lib.Pow.{pow-pos, pow-add, high, low}
 use lib.Bits.{bitAnd, bitOr, and-block, or-block, or-zero-r}
 use lib.Count.{ones, ones-cat}
 use lib.ListN.{length, getD, set}
 use lib.Seq.{getD-set-same, getD-set-other}
-use borrow.Author.Tests.{eqb-true, eqb-false, eq-eqb, ne-eqb, ltb-true, ltb-false}
+use borrow.Author.Tests.{eqb-true, eqb-false, eq-eqb, ne-eqb}
 use Rattle.model.specs.Tests.{pick}
 use Rattle.model.specs.Sets.{has}
-use Rattle.model.proofs.SetLaws.{has-low, has-high}
+use Rattle.model_laws.proofs.Bools.{and-l, and-r, pick-case}
+use Rattle.model_laws.proofs.SetLaws.{has-low, has-high}
 use Rattle.sets.specs.Words.{joined}
 
 -- digit i of the number that a list's digits make
@@ -70,19 +72,15 @@ module _ (w : ℕ) where
     pub joined-has : (d i k : ℕ) → i < d → k < w → has (joined w f d) (i * w + k) ≡ has (f i) k
     unfolding joined
     joined-has zero i k hi hk = absurd (omega arith)
-    joined-has (suc d) i k hi hk = go (λ l. joined-has d i k l hk) (ltb i d) refl
-      where
-        go : (i < d → has (joined w f d) (i * w + k) ≡ has (f i) k) → (x : Bool) → ltb i d ≡ x
-            → has (f d * 2 ^ (d * w) + joined w f d) (i * w + k) ≡ has (f i) k
-        go ih true p =
-            let l : i < d = ltb-true i d p in
-            sym (has-low (f d * 2 ^ (d * w) + joined w f d) (d * w) (i * w + k) (digits-lt l hk))
-            ∙ ap (λ (x : ℕ). has x (i * w + k)) (low (f d) (d * w) (joined-lt f hf d)) ∙ ih l
-        go ih false p =
-            let e : i ≡ d = omega (arith, ltb-false i d p) in
-            ap (λ (x : ℕ). has (f d * 2 ^ (d * w) + joined w f d) (x * w + k)) e
-            ∙ has-high (f d * 2 ^ (d * w) + joined w f d) (d * w) k
-            ∙ ap (λ (x : ℕ). has x k) (high (f d) (d * w) (joined-lt f hf d) ∙ ap f (sym e))
+    joined-has (suc d) i k hi hk =
+        let n = f d * 2 ^ (d * w) + joined w f d in
+        elim (decLt i d) [
+          | yes l ↦ sym (has-low n (d * w) (i * w + k) (digits-lt l hk))
+              ∙ ap (λ (x : ℕ). has x (i * w + k)) (low (f d) (d * w) (joined-lt f hf d)) ∙ joined-has d i k l hk
+          | no l ↦ let e : i ≡ d = omega arith in
+              ap (λ (x : ℕ). has n (x * w + k)) e ∙ has-high n (d * w) k
+              ∙ ap (λ (x : ℕ). has x k) (high (f d) (d * w) (joined-lt f hf d) ∙ ap f (sym e))
+        ]
 
 -- equal numbers have equal digits, tested digit by digit
 eqb-digits : (m a b r s : ℕ) → r < m → s < m → eqb (a * m + r) (b * m + s) ≡ (eqb r s && eqb a b)
@@ -125,24 +123,16 @@ only-off j x i n = ap (λ (b : Bool). pick b x 0) (ne-eqb i j n)
 
 pub only-lt : (j x i m : ℕ) → x < m → onlyAt j x i < m
 unfolding onlyAt pick
-only-lt j x i m h = go (eqb i j)
-  where
-    go : (b : Bool) → pick b x 0 < m
-    go true = h
-    go false = omega arith
+only-lt j x i m h = pick-case (λ y. y < m) (eqb i j) x 0 (λ e. h) (λ e. omega arith)
 
 -- a digit joined with x, the others as they are
 pub word-put : (ws : List ℕ) (j x i : ℕ) → j < length ws → word (set ws j (bitOr (word ws j) x)) i ≡ bitOr (word ws i) (onlyAt j x i)
-word-put ws j x i l = go (eqb i j) refl
-  where
-    go : (b : Bool) → eqb i j ≡ b → word (set ws j (bitOr (word ws j) x)) i ≡ bitOr (word ws i) (onlyAt j x i)
-    go true p =
-        let e : i ≡ j = eqb-true i j p in
-        ap (word (set ws j (bitOr (word ws j) x))) e ∙ getD-set-same ws j (bitOr (word ws j) x) 0 l
-        ∙ ap₂ bitOr (ap (word ws) (sym e)) (sym (only-at j x i e))
-    go false p =
-        let n = eqb-false i j p in
-        getD-set-other ws j i (bitOr (word ws j) x) 0 n ∙ sym (or-zero-r (word ws i)) ∙ ap (bitOr (word ws i)) (sym (only-off j x i n))
+word-put ws j x i l =
+    elim (ℕ-discrete i j) [
+      | yes e ↦ ap (word (set ws j (bitOr (word ws j) x))) e ∙ getD-set-same ws j (bitOr (word ws j) x) 0 l
+          ∙ ap₂ bitOr (ap (word ws) (sym e)) (sym (only-at j x i e))
+      | no n ↦ getD-set-other ws j i (bitOr (word ws j) x) 0 n ∙ sym (or-zero-r (word ws i)) ∙ ap (bitOr (word ws i)) (sym (only-off j x i n))
+    ]
 
 only-none : (w j x d : ℕ) → d ≤ j → joined w (onlyAt j x) d ≡ 0
 unfolding joined
@@ -153,17 +143,13 @@ only-none w j x (suc d) l =
 pub joined-only : (w j x d : ℕ) → j < d → joined w (onlyAt j x) d ≡ x * 2 ^ (j * w)
 unfolding joined
 joined-only w j x zero l = absurd (omega arith)
-joined-only w j x (suc d) l = go (λ h. joined-only w j x d h) (ltb j d) refl
-  where
-    go : (j < d → joined w (onlyAt j x) d ≡ x * 2 ^ (j * w)) → (b : Bool) → ltb j d ≡ b
-        → onlyAt j x d * 2 ^ (d * w) + joined w (onlyAt j x) d ≡ x * 2 ^ (j * w)
-    go ih true p =
-        let h : j < d = ltb-true j d p in
-        ap₂ (λ (y z : ℕ). y * 2 ^ (d * w) + z) (only-off j x d (λ e. omega arith)) (ih h) ∙ omega arith
-    go ih false p =
-        let e : d ≡ j = omega (arith, ltb-false j d p) in
-        ap₂ (λ (y z : ℕ). y * 2 ^ (d * w) + z) (only-at j x d e) (only-none w j x d (omega arith))
-        ∙ add-zero (x * 2 ^ (d * w)) ∙ ap (λ (y : ℕ). x * 2 ^ (y * w)) e
+joined-only w j x (suc d) l =
+    elim (decLt j d) [
+      | yes h ↦ ap₂ (λ (y z : ℕ). y * 2 ^ (d * w) + z) (only-off j x d (λ e. omega arith)) (joined-only w j x d h) ∙ omega arith
+      | no h ↦ let e : d ≡ j = omega arith in
+          ap₂ (λ (y z : ℕ). y * 2 ^ (d * w) + z) (only-at j x d e) (only-none w j x d (omega arith))
+          ∙ add-zero (x * 2 ^ (d * w)) ∙ ap (λ (y : ℕ). x * 2 ^ (y * w)) e
+    ]
 
 -- ---- digits of digits: m digits of w bits are one of m * w bits
 module _ (w : ℕ) (f : ℕ → ℕ) where
@@ -188,16 +174,11 @@ module _ (w : ℕ) (f : ℕ → ℕ) where
 all-at : (f : ℕ → Bool) (d i : ℕ) → allTo f d ≡ true → i < d → f i ≡ true
 unfolding allTo
 all-at f zero i h l = absurd (omega arith)
-all-at f (suc d) i h l = go (λ p q. all-at f d i p q) (allTo f d) refl (f d) refl h
-  where
-    go : (allTo f d ≡ true → i < d → f i ≡ true) → (x : Bool) → allTo f d ≡ x → (y : Bool) → f d ≡ y → (x && y) ≡ true → f i ≡ true
-    go ih true p true q e = last (ltb i d) refl
-      where
-        last : (b : Bool) → ltb i d ≡ b → f i ≡ true
-        last true r = ih p (ltb-true i d r)
-        last false r = let n : i ≡ d = omega (arith, ltb-false i d r) in ap f n ∙ q
-    go ih true p false q e = absurd (false≢true e)
-    go ih false p y q e = absurd (false≢true e)
+all-at f (suc d) i h l =
+    elim (decLt i d) [
+      | yes k ↦ all-at f d i (and-l (allTo f d) (f d) h) k
+      | no k ↦ let n : i ≡ d = omega arith in ap f n ∙ and-r (allTo f d) (f d) h
+    ]
 
 pub joined-inj : (w : ℕ) (f g : ℕ → ℕ) → ((i : ℕ) → f i < 2 ^ w) → ((i : ℕ) → g i < 2 ^ w) → (d : ℕ)
     → joined w f d ≡ joined w g d → (i : ℕ) → i < d → f i ≡ g i

@@ -15,9 +15,10 @@ use lib.Count.{ones, ones-le}
 use lib.ListN.{length, set}
 use lib.Seq.{ext-getD}
 use Rattle.model.specs.Sets.{has, union, inter, with, within, count}
-use Rattle.model.proofs.SetLaws.{ones-count, shl-one}
+use Rattle.model_laws.proofs.SetLaws.{ones-count, shl-one}
 use Rattle.sets.specs.Members.{without}
-use Rattle.sets.specs.Words.{joined, value, FourWords, Splits}
+use Rattle.sets_split.specs.Split.{Splits}
+use Rattle.sets.specs.Words.{joined, value, FourWords}
 use Rattle.sets.proofs.Digits.{word, onlyAt, only-lt, word-put, sumTo, allTo, joined-cong, joined-lt, joined-has, joined-only, joined-ones, joined-or, joined-and, joined-eqb, joined-inj}
 
 -- ---- a role set, a word of 64 bits

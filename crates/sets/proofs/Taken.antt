@@ -1,9 +1,9 @@
 -- Laws of a member taken out of a set, and of the lowest member.
 -- Assumes nothing.
 use mathlib.Core.Path.{_≡_, refl, sym, ap, ap₂, subst, _∙_}
-use mathlib.Core.Bool.{Bool, true, false, _&&_, _||_, not, or-false, or-true}
+use mathlib.Core.Bool.{Bool, true, false, _&&_, _||_, not, and-true, or-false, or-true}
 use Prim.Native.Nat.{ℕ, zero, suc, _/_, _%_, _^_, _≤_, _<_, zero-le, suc-le-suc}
-use native.Mathlib.Nat.{div-one, mod-lt, not-suc-le-zero, le-of-suc-le-suc}
+use native.Mathlib.Nat.{div-one, mod-lt}
 use native.Mathlib.Numerals.{add-one, one-add}
 use native.Mathlib.Omega.{arith}
 use borrow.Author.Tests.{eqb-true, eqb-false, eq-eqb, ne-eqb}
@@ -12,7 +12,7 @@ use lib.Bits.{bitAnd, bitXor, xor-shr, xor-mod, xor-lt, or-lt}
 use lib.Pow.{pow-pos, pow-lt, shr-shr, shr-lt}
 use lib.Count.{trailingZeros, under}
 use Rattle.model.specs.Sets.{has, with, count}
-use Rattle.model.proofs.SetLaws.{has-power, has-inter, has-with, same-members, count-with}
+use Rattle.model_laws.proofs.SetLaws.{has-power, has-inter, has-with, same-members, count-with}
 use Rattle.sets.specs.Members.{without, lowestOf, Lowest}
 
 -- ---- a member taken out
@@ -22,17 +22,14 @@ abbrev pub apart : Bool → Bool → Bool
 apart true b = not b
 apart false b = b
 
-no-two : {x : ℕ} → suc (suc x) < 2 → ⊥
-no-two h = not-suc-le-zero (le-of-suc-le-suc (le-of-suc-le-suc h))
-
 xor-table : (x y : ℕ) → x < 2 → y < 2 → eqb (bitXor x y) 1 ≡ apart (eqb x 1) (eqb y 1)
 xor-table zero zero hx hy = refl
 xor-table zero (suc zero) hx hy = refl
 xor-table (suc zero) zero hx hy = refl
 xor-table (suc zero) (suc zero) hx hy = refl
-xor-table zero (suc (suc y)) hx hy = absurd (no-two hy)
-xor-table (suc zero) (suc (suc y)) hx hy = absurd (no-two hy)
-xor-table (suc (suc x)) y hx hy = absurd (no-two hx)
+xor-table zero (suc (suc y)) hx hy = absurd (omega arith)
+xor-table (suc zero) (suc (suc y)) hx hy = absurd (omega arith)
+xor-table (suc (suc x)) y hx hy = absurd (omega arith)
 
 -- the members of one of two sets and not of the other
 pub has-xor : (a b k : ℕ) → has (bitXor a b) k ≡ apart (has a k) (has b k)
@@ -75,10 +72,6 @@ without-gone s k m = has-without s k k m ∙ ap₂ (λ (a b : Bool). a && not b)
 -- the others stay
 pub without-other : (s k j : ℕ) → has s k ≡ true → (j ≡ k → ⊥) → has (without s k) j ≡ has s j
 without-other s k j m n = has-without s k j m ∙ ap (λ (b : Bool). has s j && not b) (ne-eqb j k n) ∙ and-true (has s j)
-  where
-    and-true : (a : Bool) → (a && true) ≡ a
-    and-true true = refl
-    and-true false = refl
 
 -- put back, it is the set
 pub with-without : (d s k : ℕ) → s < 2 ^ d → k < d → has s k ≡ true → with (without s k) k ≡ s

@@ -9,12 +9,13 @@ use native.Mathlib.Omega.{arith}
 use lib.Bits.{or-comm, or-self, or-zero-r}
 use lib.ListN.{getD, set, List·getD-map}
 use borrow.Author.Tests.{eqb-true, eq-eqb}
+use borrow.Table.Steps.{cases}
 use Rattle.model.specs.Tests.{pick}
 use Rattle.model.specs.Sets.{has, union, with, count, unionTo, unionAt}
-use Rattle.model.proofs.Bools.{bool-ext}
-use Rattle.model.proofs.SetLaws.{has-union, has-power}
-use Rattle.model.proofs.AnyWidth.{same-sets, union-swap}
-use Rattle.model.proofs.UnionLaws.{has-unionTo, unionTo-none, unionAt-none}
+use Rattle.model_laws.proofs.Bools.{bool-ext}
+use Rattle.model_laws.proofs.SetLaws.{has-union, has-power}
+use Rattle.model_laws.proofs.AnyWidth.{same-sets, union-swap}
+use Rattle.model_laws.proofs.UnionLaws.{has-unionTo, unionTo-none, unionAt-none}
 use Rattle.sets.specs.Members.{without, Lowest}
 use Rattle.sets.specs.Words.{value, values}
 use Rattle.sets.proofs.Taken.{without-lt, with-without, count-without}
@@ -23,11 +24,8 @@ use Rattle.sets.proofs.Taken.{without-lt, with-without, count-without}
 pub unionTo-same : (f g : ℕ → ℕ) (s d : ℕ) → ((r : ℕ) → r < d → has s r ≡ true → f r ≡ g r) → unionTo f s d ≡ unionTo g s d
 unfolding unionTo pick
 unionTo-same f g s zero h = refl
-unionTo-same f g s (suc d) h = ap₂ union (unionTo-same f g s d (λ r l m. h r (omega arith) m)) (go (has s d) refl)
-  where
-    go : (b : Bool) → has s d ≡ b → pick b (f d) 0 ≡ pick b (g d) 0
-    go true e = h d (omega arith) e
-    go false e = refl
+unionTo-same f g s (suc d) h =
+    ap₂ union (unionTo-same f g s d (λ r l m. h r (omega arith) m)) (cases (has s d) (λ e. rw e (h d (omega arith) e)) (λ e. rw e))
 
 -- ---- over two sets joined
 

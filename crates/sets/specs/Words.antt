@@ -26,9 +26,3 @@ values rows = map value rows
 pub record FourWords (ws : List ℕ) : Type 0 where
   pub long : length ws ≡ 4
   pub fit : (i : ℕ) → Fits w64 (getD ws i 0)
-
--- permission p is bit `bit` of the word at `place` of the four
-pub record Splits (p place bit : ℕ) : Type 0 where
-  pub whole : place * 64 + bit ≡ p
-  pub inside : place < 4
-  pub small : bit < 64

@@ -6,9 +6,10 @@ ghost use lib.Dec.{ltb};
 ghost use lib.ListN.{getD, set};
 ghost use Rattle.model.specs.Sets.{has as hasOf, union as unionOf, inter as interOf, with as withOf, within as withinOf, count, unionAt};
 ghost use Rattle.sets.specs.Members.{without as withoutOf, Lowest};
-ghost use Rattle.sets.specs.Words.{value, values, FourWords, Splits};
+ghost use Rattle.sets.specs.Words.{value, values, FourWords};
 use model::Permission;
 use model::Role;
+use sets_split::split;
 
 // ---- role sets
 
@@ -77,38 +78,6 @@ pub fn lowest(set: u64) -> Role
 }
 
 // ---- permission sets
-
-// Where a permission stands: bit `bit` of the word at `place` of the four.
-pub struct Spot {
-    pub place: usize,
-    pub bit: u8,
-}
-
-// There are 256 permissions, so that three comparisons find the place, and a subtraction the bit.
-pub fn split(p: Permission) -> Spot
-    ensures { λ s. ⌜ Splits (p .0) (s .place) (s .bit) ⌝ }
-{
-    let n = p.0;
-    if n < 64 {
-        return Spot { place: 0, bit: n };
-    }
-    if n < 128 {
-        return Spot {
-            place: 1,
-            bit: n - 64,
-        };
-    }
-    if n < 192 {
-        return Spot {
-            place: 2,
-            bit: n - 128,
-        };
-    }
-    Spot {
-        place: 3,
-        bit: n - 192,
-    }
-}
 
 pub fn perm_has(set: [u64; 4], p: Permission) -> bool
     ensures { λ a. ⌜ a ≡ hasOf (value set) (p .0) ⌝ }

@@ -1,9 +1,3 @@
--- The theorems of the survey, and the laws that the proofs of its code use.
-pub mod Theorems
+-- The answers that the survey counts, and that the counts add up.
 pub mod Answers
 pub mod AddUp
-pub mod Fit
-pub mod CasesProof
-pub mod OrderProof
-pub mod WriteLaws
-pub mod CountLaws

@@ -1,6 +1,3 @@
--- What the survey prints, listed cases of it, and what its functions do on the way.
+-- What the survey prints, whole and in two parts.
 pub mod Survey
-pub mod Cases
-pub mod Order
-pub mod Counting
-pub mod Writing
+pub mod Parts

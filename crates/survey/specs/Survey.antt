@@ -1,6 +1,7 @@
 -- The survey of an image and a script: the answers of the script, how many have each number, and all that is printed. In the order of 02's
 -- P12.
 -- Assumes nothing.
+use mathlib.Core.Path.{_≡_, refl}
 use mathlib.Core.List.{List, [], _∷_, _++_}
 use Prim.Native.Nat.{ℕ, zero, suc, _+_}
 use lib.Dec.{eqb}
@@ -11,7 +12,8 @@ use Rattle.model.specs.Sets.{one, count}
 use Rattle.model.specs.Judgement.{judge}
 use Rattle.model.specs.Policy.{policyOf, kindNumber}
 use Rattle.model.specs.Session.{Reply}
-use Rattle.script.specs.Script.{linesOf, numeral, printed, answerTo, firstLedger}
+use Rattle.script.specs.Script.{ascii, linesOf, numeral, printed, answerTo, firstLedger}
+use Rattle.script.proofs.Computing.{scripting}
 use Rattle.choose.specs.Choose.{choose, sumBelow}
 
 -- ---- the answers of a script
@@ -76,6 +78,11 @@ countLines f (suc d) = countLines f d ++ countLine d (f d)
 unfoldable pub surveyBy : Checked → List ℕ → List ℕ → List ℕ
 surveyBy (Refused n place) image input = twoFigures n place
 surveyBy (Accepted h) image input = exclusionLines (policyOf image .exclusions) ++ countLines (countOf (answersOf image input)) 256
+
+-- numbers ascend, in whatever order the answers have them: under no image an unreadable line is answered 21, and a readable one 1
+pub counts-ascend : surveyBy (Accepted (record { users = 1; roles = 1; permissions = 1 })) [] (ascii "\nopen 0\n") ≡ ascii "1 1\n21 1\n"
+unfolding scripting answersFor answersOf countOf twoFigures exclusionLines countLine countLines surveyBy
+counts-ascend = refl
 
 -- what the survey prints for the bytes of an image and of an input
 unfoldable pub survey : List ℕ → List ℕ → List ℕ

@@ -12,12 +12,12 @@ use Rattle.model.specs.Image.{behindHead, assigning, emptyRows, judgeWords}
 use Rattle.model.specs.Sets.{count}
 use Rattle.model.specs.Policy.{Policy, entriesFrom, entriesOf, fold, granting, ordering, limiting, policyOf}
 use Rattle.model.specs.Judgement.{judgeMeaning, judge}
-use Rattle.model.proofs.Accepted.{words-head, words-in-range}
-use Rattle.model.proofs.Judgements.{words-pass}
-use Rattle.model.proofs.Tables.{granting-length}
+use Rattle.model_laws.proofs.Accepted.{words-head, words-in-range}
+use Rattle.model_laws.proofs.Judgements.{words-pass}
+use Rattle.model_laws.proofs.Tables.{granting-length}
 use Rattle.limits.proofs.LimitTable.{fold-length}
 use Rattle.image.proofs.Turns.{length-assigned, length-juniors}
-use Rattle.hierarchy.specs.Loops.{Fit, Passed, Judged}
+use Rattle.hierarchy_judged.specs.Loops.{Fit, Passed, Judged}
 use Rattle.tables.specs.Tables.{Fresh, Gathered, Read, Tables}
 
 -- ---- the whole: what was gathered from empty tables is the policy's

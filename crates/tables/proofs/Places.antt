@@ -2,13 +2,13 @@
 -- Assumes nothing.
 use mathlib.Core.Path.{_≡_, refl, sym, ap, ap₂, subst, _∙_}
 use mathlib.Core.Bool.{Bool, true, false}
-use mathlib.Core.List.{List, [], _∷_, _++_, map, map-append, append-nil}
+use mathlib.Core.List.{List, [], _∷_, _++_, map, append-nil}
 use Prim.Native.Nat.{ℕ, zero, suc, _+_, _-_, _≤_, _<_}
 use native.Mathlib.Omega.{arith}
 use native.Mathlib.Numerals.{add-one}
 use lib.Dec.{eqb, ltb}
-use lib.ListN.{length, getD, set, take, replicate, length-set, length-map}
-use lib.Seq.{take-suc, take-suc-set, getD-set-same, getD-set-other, set-out, append-snoc}
+use lib.ListN.{length, getD, set, take, replicate, length-set}
+use lib.Seq.{take-suc-set, getD-set-same, getD-set-other, set-out, append-snoc}
 use borrow.Author.Tests.{eqb-true, eqb-false, ltb-true, ltb-false}
 use Rattle.model.specs.declared.Exclusion.{Exclusion}
 use Rattle.model.specs.declared.Scan.{Scan}
@@ -16,11 +16,10 @@ use Rattle.model.specs.declared.Entry.{Entry}
 use Rattle.model.specs.declared.Entry.the-variants.{Assignment, Grant, Senior, Exclude, Member, Limit, End, Unknown}
 use Rattle.model.specs.declared.Word.{Word}
 use Rattle.model.specs.Image.{wordAt, decode, next}
-use Rattle.model.specs.Policy.{entryAt, entriesFrom, fold, joining, withMembers, exclusionsOf}
-use Rattle.image.specs.Bounds.{Due}
-use Rattle.rows.specs.Rows.{exclusionOf}
-use Rattle.tables.specs.Tables.{noting, exclusionBy, exclusionAt}
-use Rattle.sets.proofs.Unions.{map-set}
+use Rattle.model.specs.Policy.{entryAt, entriesFrom, exclusionsOf}
+use Rattle.image.specs.Taken.{Due}
+use Rattle.tables_exclusions.specs.Exclusions.{exclusionBy, exclusionAt}
+use Rattle.tables_words.specs.Step.{noting}
 
 -- the place first, where the entry is an exclusion
 unfoldable pub placed : Entry → ℕ → List ℕ → List ℕ
@@ -148,45 +147,3 @@ next-few t (Member r) d h = h
 next-few t (Limit r n) d h = h
 next-few t End d h = h
 next-few t Unknown d h = h
-
--- ---- the members' entries: the m behind an exclusion word, or up to the last word
-
-pub take-entries : (s : List ℕ) (m n k p : ℕ) → k ≤ n → k ≤ m → (k < m → k ≡ n) → take m (entriesFrom s n p) ≡ entriesFrom s k p
-unfolding entriesFrom
-take-entries s zero n zero p a b h = refl
-take-entries s zero n (suc k) p a b h = absurd (omega arith)
-take-entries s (suc m) zero zero p a b h = refl
-take-entries s (suc m) zero (suc k) p a b h = absurd (omega arith)
-take-entries s (suc m) (suc n) zero p a b h = let z = h (omega arith) in absurd (omega arith)
-take-entries s (suc m) (suc n) (suc k) p a b h =
-    ap (λ (es : List Entry). entryAt s p ∷ es)
-    (take-entries s m n k (p + 1) (omega arith) (omega arith) (λ l. let z = h (omega arith) in omega arith))
-
--- the exclusion that an entry opens at a place
-pub exclusion-of : (s : List ℕ) (words place w : ℕ) (d : Word) (e : Entry) → w ≡ wordAt s place → d ≡ decode w → d .entry ≡ e
-    → exclusionBy e (entriesFrom s (words - (place + 1)) (place + 1)) ≡ exclusionAt s words place
-unfolding exclusionAt entryAt
-exclusion-of s words place w d e ew ed ee =
-    let k : e ≡ decode (wordAt s place) .entry = cc in
-    ap (λ (x : Entry). exclusionBy x (entriesFrom s (words - (place + 1)) (place + 1))) k
-
--- its members, read up to the place `to`
-pub members-of : (s : List ℕ) (words place to m : ℕ) (x : Exclusion) (set : ℕ) → place < words → to ≤ words → place + 1 ≤ to → to ≤ place + 1 + m
-    → (to < place + 1 + m → to ≡ words) → set ≡ fold joining (x .members) (entriesFrom s (to - (place + 1)) (place + 1))
-    → record { kind = x .kind; limit = x .limit; members = set } ≡ exclusionBy (Exclude x m) (entriesFrom s (words - (place + 1)) (place + 1))
-unfolding exclusionBy withMembers
-members-of s words place to m x set lt le ge lm all e =
-    let k = take-entries s m (words - (place + 1)) (to - (place + 1)) (place + 1) (omega arith) (omega arith) (λ l. let z = all (omega arith) in omega arith) in
-    rw (e, k)
-
--- ---- a turn of the loop that reads the exclusions at the places, a row each
-module _ (f : ℕ → Exclusion) (places : List ℕ) (rows : List (List ℕ)) (i : ℕ) (e : take i (map exclusionOf rows) ≡ map f (take i places)) where
-  pub one-read : (row : List ℕ) → i < length rows → i < length places → exclusionOf row ≡ f (getD places i 0)
-      → take (i + 1) (map exclusionOf (set rows i row)) ≡ map f (take (i + 1) places)
-  one-read row hl hp ex =
-      let h : i < length (map exclusionOf rows) = rw length-map hl in
-      ap₂ (λ (n : ℕ) (xs : List Exclusion). take n xs) (add-one i) (map-set exclusionOf rows i row)
-      ∙ take-suc-set (map exclusionOf rows) i (exclusionOf row) h
-      ∙ ap₂ (λ (ys : List Exclusion) (y : Exclusion). ys ++ (y ∷ [])) e ex
-      ∙ sym (map-append f (take i places) (getD places i 0 ∷ []))
-      ∙ ap (map f) (sym (ap (λ (n : ℕ). take n places) (add-one i) ∙ take-suc places i 0 hp))

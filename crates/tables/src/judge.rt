@@ -1,7 +1,7 @@
 // An image judged, with no table kept.
 ghost use mathlib.Core.Path.{_≡_};
 ghost use Rattle.model.specs.Judgement.{judge as judgeOf};
-use hierarchy::loops::judged;
+use hierarchy_judged::loops::judged;
 use image::check::check;
 use model::Checked;
 

@@ -2,18 +2,17 @@
 -- Assumes nothing.
 use mathlib.Core.Path.{_≡_, refl, sym, ap, subst, _∙_}
 use mathlib.Core.Bool.{Bool, true, false}
-use mathlib.Core.List.{List, [], _∷_, _++_, append-assoc, append-nil}
+use mathlib.Core.List.{List, [], _∷_, _++_, append-assoc}
 use Prim.Native.Nat.{ℕ, zero, suc, _+_, _-_, _*_, _/_, _%_, _^_, _≤_, _<_}
 use native.Mathlib.Nat.{add-zero, add-suc, suc-add, div-lt-self, div-lt-iff-lt-mul, pow-zero, pow-suc}
 use native.Mathlib.Omega.{arith}
 use lib.Dec.{ltb}
-use lib.ListN.{length, getD, set, take, drop, length-append, length-drop}
-use lib.Seq.{sets, sets-eq, drop-cons, drop-length, take-all, take-at, length-take-le}
+use lib.ListN.{length, set, take, drop, length-append}
+use lib.Seq.{sets, sets-eq, take-at, length-take-le}
 use borrow.Author.Tests.{lt-ltb, le-ltb, ltb-true, ltb-false}
 use Rattle.model.specs.Tests.{pick}
-use Rattle.model.specs.Bytes.{number}
-use Rattle.script.specs.Script.{glyph, digitsOf, numeral, lineOf}
-use Rattle.text.specs.Writing.{Puts, pairOf, pairsOf, Highest}
+use Rattle.script.specs.Script.{glyph, digitsOf, numeral}
+use Rattle.text.specs.Writing.{Puts, pairOf}
 
 -- ---- texts one behind the other
 
@@ -114,99 +113,3 @@ two≤16 = omega arith
 pub byte-pair : (d : ℕ) → 16 ≤ d → d < 256 → pairOf d ≡ numeral 16 d
 unfolding pairOf
 byte-pair d h l = sym (numeral-more 16 two≤16 d h ∙ rw (numeral-one 16 two≤16 (d / 16) (omega arith)))
-
-pub byte-length : (d : ℕ) → d < 256 → length (numeral 16 d) ≤ 2
-byte-length d l = numeral-length 16 two≤16 1 d l
-
--- a byte more
-numeral-pair : (d x : ℕ) → d < 256 → 0 < x → numeral 16 (d + 256 * x) ≡ numeral 16 x ++ pairOf d
-unfolding pairOf
-numeral-pair d x l h =
-    let n : ℕ = d + 256 * x in
-    let q : (d + 256 * x) / 16 ≡ d / 16 + 16 * x = omega arith in
-    let r : (d + 256 * x) % 16 ≡ d % 16 = omega arith in
-    let s : (d / 16 + 16 * x) / 16 ≡ x = omega arith in
-    let t : (d / 16 + 16 * x) % 16 ≡ d / 16 = omega arith in
-    numeral-more 16 two≤16 (d + 256 * x) (omega arith)
-    ∙ rw (q, r, numeral-more 16 two≤16 (d / 16 + 16 * x) (omega arith), s, t) (append-assoc (numeral 16 x) (glyph (d / 16) ∷ []) (glyph (d % 16) ∷ []))
-
-number-drop : (bs : List ℕ) (k : ℕ) → k < length bs → number (drop k bs) ≡ getD bs k 0 + 256 * number (drop (suc k) bs)
-unfolding number
-number-drop bs k h = rw (drop-cons bs k 0 h)
-
--- the digits of the bytes from k on, and those of the k bytes before them
-pub bytes-numeral :
-    (bs : List ℕ) → ((i : ℕ) → getD bs i 0 < 256) → (k : ℕ) → k ≤ length bs → 0 < number (drop k bs)
-    → numeral 16 (number (drop k bs)) ++ pairsOf k bs ≡ numeral 16 (number bs)
-unfolding pairsOf
-bytes-numeral bs w zero h p = append-nil (numeral 16 (number bs))
-bytes-numeral bs w (suc k) h p =
-    let e = number-drop bs k (omega arith) in
-    sym (append-assoc (numeral 16 (number (drop (suc k) bs))) (pairOf (getD bs k 0)) (pairsOf k bs))
-    ∙ ap (λ x. x ++ pairsOf k bs) (sym (numeral-pair (getD bs k 0) (number (drop (suc k) bs)) (w k) p) ∙ ap (numeral 16) (sym e))
-    ∙ bytes-numeral bs w k (omega arith) (omega (arith, e))
-
-module _ (bs : List ℕ) (k : ℕ) (h : Highest bs k) where
-  -- no byte but zeros
-  pub numeral-none : k < 1 → 48 ∷ [] ≡ numeral 16 (number bs)
-  unfolding glyph pick
-  numeral-none l =
-      let z : k ≡ 0 = omega arith in
-      let e : number bs ≡ 0 = rw z at (h .zeros) in
-      sym (ap (numeral 16) e ∙ numeral-one 16 two≤16 0 (omega arith))
-
-  -- the highest byte, and the pairs of the others
-  pub numeral-some : ((i : ℕ) → getD bs i 0 < 256) → 1 ≤ k → numeral 16 (getD bs (k - 1) 0) ++ pairsOf (k - 1) bs ≡ numeral 16 (number bs)
-  numeral-some w l =
-      let s : suc (k - 1) ≡ k = omega arith in
-      let z : number (drop (suc (k - 1)) bs) ≡ 0 = rw s (h .zeros) in
-      let i : k - 1 < length bs = omega (arith, h .inside) in
-      let e : number (drop (k - 1) bs) ≡ getD bs (k - 1) 0 = number-drop bs (k - 1) i ∙ omega arith in
-      let q : 0 < number (drop (k - 1) bs) = rw e (h .some-byte (omega arith)) in
-      rw e at (bytes-numeral bs w (k - 1) (omega arith) q)
-
--- ---- the search for the highest byte
-
-module _ (bs : List ℕ) (k : ℕ) (i : 0 < k) (l : k ≤ length bs) (z : number (drop k bs) ≡ 0) where
-  pub highest-goes-on : getD bs (k - 1) 0 ≤ 0 → number (drop (k - 1) bs) ≡ 0
-  highest-goes-on h =
-      let s : suc (k - 1) ≡ k = omega arith in
-      let y : number (drop (suc (k - 1)) bs) ≡ 0 = rw s z in
-      number-drop bs (k - 1) (omega arith) ∙ omega arith
-
-pub highest-begins : (bs : List ℕ) → number (drop (length bs) bs) ≡ 0
-unfolding number
-highest-begins bs = rw (drop-length bs)
-
--- ---- pairs of digits, one behind the other
-
-pub pairs-next : (bs : List ℕ) (i : ℕ) → 0 < i → pairsOf i bs ≡ pairOf (getD bs (i - 1) 0) ++ pairsOf (i - 1) bs
-unfolding pairsOf
-pairs-next bs zero h = absurd (omega arith)
-pairs-next bs (suc i) h = let e : suc i - 1 ≡ i = omega arith in rw e
-
-pub length-pairs : (bs : List ℕ) (k : ℕ) → length (pairsOf k bs) ≡ 2 * k
-unfolding pairsOf pairOf
-length-pairs bs zero = refl
-length-pairs bs (suc k) = let e = length-pairs bs k in omega arith
-
--- ---- a whole line
-
--- a number of 64 bits has at most 20 digits
-pub decimal-length : (n : ℕ) → n < 2 ^ 64 → length (numeral 10 n) ≤ 20
-decimal-length n h = numeral-length 10 two≤10 19 n (omega arith)
-
-module _ (l : List ℕ) (h : length l ≡ 40) where
-  pub permissions-part : take 32 (drop 8 l) ≡ drop 8 l
-  permissions-part = take-all 32 (drop 8 l) (rw (length-drop 8 l) (omega arith))
-
-  pub permissions-length : length (take 32 (drop 8 l)) ≡ 32
-  permissions-length = ap length permissions-part ∙ length-drop 8 l ∙ ap (λ x. x - 8) h
-
-pub line-of :
-    (n a x : ℕ) (roles permissions l : List ℕ) → roles ≡ take 8 l → permissions ≡ drop 8 l
-    → numeral 10 n ++ (32 ∷ numeral 10 a) ++ (32 ∷ numeral 10 x) ++ (32 ∷ numeral 16 (number roles)) ++ (32 ∷ numeral 16 (number permissions))
-    ++ (10 ∷ [])
-    ≡ lineOf n a x (number (take 8 l)) (number (drop 8 l))
-unfolding lineOf
-line-of n a x roles permissions l e f = rw (e, f)

@@ -1,5 +1,2 @@
--- What the contracts of the tidy image's code say, beside the definition of the tidy image.
-pub mod Buffers
-pub mod Tables
-pub mod Placed
+-- What the contract of the call says, beside the definition of the tidy image.
 pub mod Whole

@@ -1,31 +1,13 @@
--- The words of the whole tidy image, by the tables of a policy.
+-- The policy that tables make, and what a call that writes its tidy image leaves.
 -- Assumes nothing.
 use mathlib.Core.Path.{_≡_}
-use mathlib.Core.List.{List, _∷_, _++_, map}
-use Prim.Native.Nat.{ℕ, _+_, _*_, _≤_}
+use mathlib.Core.List.{List, map}
+use Prim.Native.Nat.{ℕ, _+_, _*_}
 use lib.ListN.{take}
 use Rattle.model.specs.declared.Head.{Head}
-use Rattle.model.specs.declared.Exclusion.{Exclusion}
-use Rattle.model.specs.Words.{headWord, assignWord, grantWord, seniorWord}
 use Rattle.model.specs.Policy.{Policy}
 use Rattle.rows.specs.Rows.{exclusionOf}
-use Rattle.tidying.specs.Groups.{spread}
-use Rattle.tidying.specs.Tidy.{exclusionGroup, Written}
-use Rattle.tidy.specs.Tables.{tableWords, Table, limitWords, Limited}
-
--- the words of exclusions in their order, and of limits
-unfoldable pub restWords : List Exclusion → List ℕ → List ℕ
-restWords xs limits = spread (map exclusionGroup xs) ++ limitWords limits 0
-
--- behind those of the tables
-unfoldable pub groupWords : List ℕ → List ℕ → List ℕ → List Exclusion → List ℕ → List ℕ
-groupWords assigned granted juniors xs limits =
-    tableWords assignWord 64 assigned 0 ++ (tableWords grantWord 256 granted 0 ++ (tableWords seniorWord 64 juniors 0 ++ restWords xs limits))
-
--- behind the head
-unfoldable pub wordsBy : Head → List ℕ → List ℕ → List ℕ → List Exclusion → List ℕ → List ℕ
-wordsBy h assigned granted juniors xs limits =
-    headWord (h .users) (h .roles) (h .permissions) ∷ groupWords assigned granted juniors xs limits
+use Rattle.tidying.specs.Tidy.{Written}
 
 -- the policy of a head, three tables, the first n of the exclusions' rows and the limits
 unfoldable pub policyBy : Head → List ℕ → List ℕ → List ℕ → List (List ℕ) → ℕ → List ℕ → Policy
@@ -38,15 +20,6 @@ policyBy h assigned granted juniors rows n limits =
       exclusions = take n (map exclusionOf rows);
       limits = limits;
     }
-
--- the tables are those of so many users and roles
-pub record Fitted (h : Head) (assigned granted juniors limits : List ℕ) : Type 0 where
-  pub users : h .users ≤ 64
-  pub roles : h .roles ≤ 64
-  pub assigned-fits : Table (h .users) assigned
-  pub granted-fits : Table (h .roles) granted
-  pub juniors-fits : Table (h .roles) juniors
-  pub limits-fit : Limited (h .roles) limits
 
 -- what is returned and the buffer after the call are what the definition says
 pub record Writes (e : Written) (x : ℕ) (buffer : List ℕ) : Type 0 where

@@ -1,138 +1,19 @@
-// The tidy image as a whole: its words are counted, and written where there is room for them.
+// The tidy image as a whole: its exclusions sorted, its words counted, and written where there is room for them.
 ghost use mathlib.Core.Path.{_≡_};
-ghost use mathlib.Core.List.{map};
-ghost use Prim.Native.Nat.{_*_, _^_, _≤_, _<_};
-ghost use lib.ListN.{length, take};
-ghost use Rattle.model.specs.Words.{headWord, endWord as endWordOf, ended, imageBytes};
+ghost use Prim.Native.Nat.{_≤_};
+ghost use lib.ListN.{length};
 ghost use Rattle.sets.specs.Words.{values};
-ghost use Rattle.rows.specs.Rows.{exclusionOf};
 ghost use Rattle.tidying.specs.Tidy.{tidyBy};
-ghost use Rattle.octets.specs.Splice.{splice};
-ghost use Rattle.tidy.specs.Buffers.{buffer, puts, Room};
-ghost use Rattle.tidy.specs.Tables.{Limited};
-ghost use Rattle.tidy.specs.Whole.{restWords, groupWords, wordsBy, policyBy, Fitted, Writes};
-use crate::count::count_exclusions;
-use crate::count::count_grants;
-use crate::count::count_limits;
-use crate::count::count_table;
-use crate::groups::put_exclusions;
-use crate::groups::put_grants;
-use crate::groups::put_limits;
-use crate::groups::put_table;
-use crate::sort::sort;
-use crate::words::Cursor;
-use crate::words::put_word;
+ghost use Rattle.tidy_words.specs.Whole.{Fitted};
+ghost use Rattle.tidy.specs.Whole.{policyBy, Writes};
 use model::Checked;
 use model::Head;
+use tidy_order::sort::sort;
+use tidy_words::image::count_words;
+use tidy_words::image::put_image;
 
-// ---- the first word and the last
-
-fn head_word(h: Head) -> u32
-    ensures { λ w. ⌜ w ≡ headWord (h .users) (h .roles) (h .permissions) ⌝ }
-{
-    268435456 + 2097152 * (h.users as u32) + 16384 * (h.roles as u32) + 32 * (h.permissions as u32)
-}
-
-// The end word that balances words with this sum.
-fn end_word(sum: u32) -> u32
-    ensures { λ w. ⌜ w ≡ endWordOf sum ⌝ }
-{
-    4026531840 + (268435456 - sum % 268435456) % 268435456
-}
-
-// ---- all words
-
-// How many words the image has, head and end among them.
-fn count_words(
-    h: Head,
-    assigned: &[u64; 64],
-    granted: &[[u64; 4]; 64],
-    juniors: &[u64; 64],
-    xs: &[[u64; 2]; 32],
-    limits: &[u64; 64],
-    n: usize,
-) -> usize
-    requires { ⌜ Fitted h (now assigned) (values (now granted)) (now juniors) (now limits) × (n ≤ 32) × (length (now xs) ≡ 32) ⌝ }
-    ensures { λ m. ⌜ (m < 2 ^ 43)
-        × (m ≡ length (ended (wordsBy h (now (assigned .entry)) (values (now (granted .entry))) (now (juniors .entry)) (take n (map exclusionOf (now (xs .entry)))) (now (limits .entry))))) ⌝ }
-{
-    let users = h.users as usize;
-    let roles = h.roles as usize;
-    let a = count_table(assigned, users);
-    let g = count_grants(granted, roles);
-    let j = count_table(juniors, roles);
-    let x = count_exclusions(xs, n);
-    let l = count_limits(limits, roles);
-    2 + a + g + j + x + l
-}
-
-// Writes the words of the exclusions, and those of the limits.
-fn put_rest(
-    out: &mut [u8],
-    from: Cursor,
-    xs: &[[u64; 2]; 32],
-    limits: &[u64; 64],
-    n: usize,
-    roles: usize,
-) -> Cursor
-    requires { ⌜ (n ≤ 32) × (length (now xs) ≡ 32) × (roles ≤ 64) × Limited roles (now limits)
-        × Room (now out) from (restWords (take n (map exclusionOf (now xs))) (now limits)) ⌝ }
-    ensures { λ c. ⌜ buffer (now (out .exit)) c
-        ≡ puts (buffer (now (out .entry)) from) (restWords (take n (map exclusionOf (now (xs .entry)))) (now (limits .entry))) ⌝ }
-{
-    let x = put_exclusions(out, from, xs, n);
-    put_limits(out, x, limits, roles)
-}
-
-// Writes the words between head and end.
-fn put_groups(
-    out: &mut [u8],
-    from: Cursor,
-    h: Head,
-    assigned: &[u64; 64],
-    granted: &[[u64; 4]; 64],
-    juniors: &[u64; 64],
-    xs: &[[u64; 2]; 32],
-    limits: &[u64; 64],
-    n: usize,
-) -> Cursor
-    requires { ⌜ Fitted h (now assigned) (values (now granted)) (now juniors) (now limits) × (n ≤ 32) × (length (now xs) ≡ 32)
-        × Room (now out) from (groupWords (now assigned) (values (now granted)) (now juniors) (take n (map exclusionOf (now xs))) (now limits)) ⌝ }
-    ensures { λ c. ⌜ buffer (now (out .exit)) c
-        ≡ puts (buffer (now (out .entry)) from) (groupWords (now (assigned .entry)) (values (now (granted .entry))) (now (juniors .entry)) (take n (map exclusionOf (now (xs .entry)))) (now (limits .entry))) ⌝ }
-{
-    let users = h.users as usize;
-    let roles = h.roles as usize;
-    let a = put_table(out, from, 2, assigned, users);
-    let g = put_grants(out, a, granted, roles);
-    let j = put_table(out, g, 4, juniors, roles);
-    put_rest(out, j, xs, limits, n, roles)
-}
-
-// Writes the whole image at the front of the buffer.
-fn put_image(
-    out: &mut [u8],
-    h: Head,
-    assigned: &[u64; 64],
-    granted: &[[u64; 4]; 64],
-    juniors: &[u64; 64],
-    xs: &[[u64; 2]; 32],
-    limits: &[u64; 64],
-    n: usize,
-)
-    requires { ⌜ Fitted h (now assigned) (values (now granted)) (now juniors) (now limits) × (n ≤ 32) × (length (now xs) ≡ 32)
-        × (4 * length (ended (wordsBy h (now assigned) (values (now granted)) (now juniors) (take n (map exclusionOf (now xs))) (now limits))) ≤ length (now out)) ⌝ }
-    ensures { λ _. ⌜ now (out .exit)
-        ≡ splice (now (out .entry)) 0 (imageBytes (ended (wordsBy h (now (assigned .entry)) (values (now (granted .entry))) (now (juniors .entry)) (take n (map exclusionOf (now (xs .entry)))) (now (limits .entry))))) ⌝ }
-{
-    let start = Cursor { at: 0, sum: 0 };
-    let from = put_word(out, start, head_word(h));
-    let end = put_groups(out, from, h, assigned, granted, juniors, xs, limits, n);
-    put_word(out, end, end_word(end.sum));
-}
-
-// The tidy image of the policy that a head, three tables, the first `count` exclusions and the limits make: 256 times the number of its words, which
-// stand at the front of the buffer; 19 for a buffer that is too small for them.
+// The tidy image of the policy that a head, three tables, the first `count` exclusions and the limits make: 256 times the number of its
+// words, which stand at the front of the buffer; 19 for a buffer that is too small for them.
 pub fn tidy(
     h: Head,
     assigned: &[u64; 64],
@@ -144,8 +25,9 @@ pub fn tidy(
     out: &mut [u8],
 ) -> u64
     requires { ⌜ Fitted h (now assigned) (values (now granted)) (now juniors) (now limits) × (count ≤ 32) × (length (now xs) ≡ 32) ⌝ }
-    ensures { λ r. ⌜ Writes (tidyBy (Checked.Accepted h) (policyBy h (now (assigned .entry)) (values (now (granted .entry))) (now (juniors .entry)) (now (xs .entry)) count (now (limits .entry))) (now (out .entry)))
-        r (now (out .exit)) ⌝ }
+    ensures { λ r. ⌜ Writes (tidyBy (Checked.Accepted h)
+        (policyBy h (now (assigned .entry)) (values (now (granted .entry))) (now (juniors .entry)) (now (xs .entry)) count (now (limits .entry)))
+        (now (out .entry))) r (now (out .exit)) ⌝ }
 {
     let mut sorted = [[0u64; 2]; 32];
     let n = sort(xs, count, &mut sorted);

@@ -33,6 +33,10 @@ pub record SameGroup (g k : Group) : Type 0 where
   pub word : g .word ≡ k .word
   pub members : Permuted ℕ (g .members) (k .members)
 
+-- a member stays in its group
+pub members-kept : (g k : Group) → SameGroup g k → Permuted ℕ (g .members) (k .members)
+members-kept g k same = same .members
+
 -- ---- images
 
 -- whole groups of the image s are moved about between head and end, each exclusion together with its members, and the members of an
@@ -45,6 +49,17 @@ pub record Reordered (s t : List ℕ) : Type 0 where
   pub whole : Each Whole (from .groups)
   pub moved : Rearranged Group SameGroup (from .groups) (to .groups)
   pub last : from .last ≡ to .last
+
+-- every group is moved whole, and neither the head nor the end word is moved
+module _ (s t : List ℕ) (order : Reordered s t) where
+  pub whole-moved : Each Whole (order .from .groups)
+  whole-moved = order .whole
+
+  pub head-kept : wordAt s 0 ≡ wordAt t 0
+  head-kept = order .head
+
+  pub end-kept : order .from .last ≡ order .to .last
+  end-kept = order .last
 
 -- the last word of an image
 unfoldable pub endOf : List ℕ → ℕ

@@ -11,7 +11,7 @@ use Rattle.model.specs.Judgement.{judge}
 use Rattle.model.specs.Line.{SESSIONS}
 use Rattle.model.specs.Session.{Reply}
 use Rattle.model.specs.Run.{Call, step, shortAskBy, clausesBy}
-use Rattle.model.specs.Ward.{activeRole}
+use Rattle.model_cases.specs.Ward.{activeRole}
 use Rattle.tidying.specs.Order.{Reordered}
 
 -- ---- images

@@ -1,9 +1,9 @@
 -- Images that say the same and policies that are the same, order and repeats of entries aside, and images under which calls answer alike.
 -- Assumes nothing.
-use mathlib.Core.Path.{_≡_}
-use mathlib.Core.Bool.{Bool, false}
+use mathlib.Core.Path.{_≡_, refl}
+use mathlib.Core.Bool.{Bool, true, false}
 use mathlib.Core.Logic.{_↔_}
-use mathlib.Core.List.{List}
+use mathlib.Core.List.{List, []}
 use Prim.Native.Nat.{ℕ}
 use Rattle.model.specs.declared.Exclusion.{Exclusion}
 use Rattle.model.specs.declared.Entry.the-variants.{Assignment, Grant, Senior}
@@ -12,7 +12,7 @@ use Rattle.model.specs.Policy.{Policy, entriesOf, excludes}
 use Rattle.model.specs.Judgement.{judge}
 use Rattle.model.specs.Tests.{any}
 use Rattle.model.specs.Session.{isText}
-use Rattle.model.specs.Run.{Call, step, run}
+use Rattle.model.specs.Run.{Call, clausesBy, step, run}
 use Rattle.model.specs.Read.{Said, Excluded, Smallest}
 
 -- the images have the same head, the same sets of assignments, grants, senior pairs and exclusions, and the same smallest limit of each
@@ -37,6 +37,10 @@ pub record SamePolicy (p q : Policy) : Type 0 where
 -- the call is a clause text, which follows image order
 unfoldable pub asksText : Call → Bool
 asksText c = isText (c .operation)
+
+pub texts-ask : (user session room : ℕ) → asksText (clausesBy user session [] [] 0 0 room) ≡ true
+unfolding asksText isText clausesBy
+texts-ask user session room = refl
 
 -- calls answer alike under two images: a check, and for every number of sessions and every ledger every call (open, close, ask, short
 -- ask, show, explain) and every list of them, with the same number, extra, filled bytes and ledger

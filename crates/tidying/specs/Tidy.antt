@@ -1,19 +1,23 @@
 -- The tidy image of a policy: head, assignments, grants, seniors, exclusions, limits, each sort ascending by its fields and
 -- without repeats, a limit for each role that has one.
 -- Assumes nothing.
-use mathlib.Core.Path.{_≡_}
+use mathlib.Core.Path.{_≡_, refl}
 use mathlib.Core.Logic.{_↔_}
 use mathlib.Core.Bool.{Bool, true, false, not}
 use mathlib.Core.List.{List, [], _∷_, _++_, map}
 use Prim.Native.Nat.{ℕ, zero, suc, _+_, _*_, _/_, _≤_, _<_}
 use lib.Dec.{ltb, eqb}
-use lib.ListN.{length, getD, take, drop}
+use lib.ListN.{length, getD, take, drop, replicate}
+use Rattle.model.specs.declared.Head.{Head}
+use Rattle.model.specs.declared.Kind.{Kind}
+use Rattle.model.specs.declared.Kind.the-variants.{SsDmer, MsDmer}
 use Rattle.model.specs.declared.Exclusion.{Exclusion}
 use Rattle.model.specs.declared.Checked.{Checked}
 use Rattle.model.specs.declared.Checked.the-variants.{Accepted, Refused}
 use Rattle.model.specs.Tests.{pick}
-use Rattle.model.specs.Sets.{has, count, one}
-use Rattle.model.specs.Words.{headWord, assignWord, grantWord, seniorWord, exclusionWord, memberWord, limitWord, ended, imageBytes}
+use Rattle.model.specs.Bytes.{bytesOf}
+use Rattle.model.specs.Sets.{has, count, countTo, one}
+use Rattle.model.specs.Words.{headWord, assignWord, grantWord, seniorWord, exclusionWord, memberWord, limitWord, sumOf, endWord, ended, imageBytes}
 use Rattle.model.specs.Policy.{Policy, policyOf, kindNumber}
 use Rattle.model.specs.Judgement.{judge}
 use Rattle.model.specs.Choice.{earlier}
@@ -27,6 +31,11 @@ use Rattle.tidying.specs.Same.{SameSets}
 unfoldable pub membersTo : ℕ → ℕ → List ℕ
 membersTo zero s = []
 membersTo (suc d) s = membersTo d s ++ pick (has s d) (d ∷ []) []
+
+-- those of the set 5
+pub members-of-five : membersTo 3 5 ≡ 0 ∷ 2 ∷ []
+unfolding membersTo has pick
+members-of-five = refl
 
 abbrev pub single : ℕ → Group
 single w = record { word = w; members = [] }
@@ -47,6 +56,15 @@ exclusionGroup x =
 unfoldable pub before : Exclusion → Exclusion → Bool
 before x y = earlier (kindNumber (x .kind)) (kindNumber (y .kind)) (x .limit) (y .limit) (x .members) (y .members)
 
+-- the roles 0 and 1 exclude each other, by a kind and a limit
+abbrev pub bothOf : Kind → ℕ → Exclusion
+bothOf kind limit = record { kind = kind; limit = limit; members = 3 }
+
+-- a lower kind comes first, though its limit is higher
+pub kind-first : before (bothOf SsDmer 3) (bothOf MsDmer 2) ≡ true
+unfolding before earlier kindNumber
+kind-first = refl
+
 -- x put into an ascending list, unless it is there
 unfoldable pub insert : Exclusion → List Exclusion → List Exclusion
 insert x [] = x ∷ []
@@ -56,6 +74,11 @@ insert x (y ∷ ys) = elim (before x y) [ true ↦ x ∷ y ∷ ys | false ↦ el
 unfoldable pub sorted : List Exclusion → List Exclusion
 sorted [] = []
 sorted (x ∷ xs) = insert x (sorted xs)
+
+-- one that stands twice is kept once
+pub kept-once : sorted (bothOf MsDmer 2 ∷ bothOf MsDmer 2 ∷ []) ≡ bothOf MsDmer 2 ∷ []
+unfolding sorted insert before earlier kindNumber
+kept-once = refl
 
 -- the roles that have a limit, as a table of one column
 unfoldable pub limitedRows : List ℕ → List ℕ
@@ -71,6 +94,25 @@ tidyGroups p =
     ++ (tableGroups grantWord 256 0 (p .granted)
     ++ (tableGroups seniorWord 64 0 (p .juniors) ++ (map exclusionGroup (sorted (p .exclusions)) ++ limitGroups (p .limits))))
 
+-- one user with role 1, a grant of each of two roles, role 1 over role 0, two exclusions of the two and a limit on role 1
+abbrev pub twoRoles : Policy
+twoRoles =
+    record {
+      head = record { users = 1; roles = 2; permissions = 2 };
+      assigned = 2 ∷ [];
+      granted = 2 ∷ 1 ∷ [];
+      juniors = 0 ∷ 1 ∷ [];
+      exclusions = bothOf MsDmer 2 ∷ bothOf SsDmer 2 ∷ [];
+      limits = 0 ∷ 3 ∷ [];
+    }
+
+-- role 0's grant first, though its permission is higher; the exclusions by kind, and the limit behind them
+pub two-roles-spread : spread (tidyGroups twoRoles)
+    ≡ assignWord 0 1 ∷ grantWord 0 1 ∷ grantWord 1 0 ∷ seniorWord 1 0 ∷ exclusionWord 0 2 2 ∷ memberWord 0 ∷ memberWord 1
+    ∷ exclusionWord 1 2 2 ∷ memberWord 0 ∷ memberWord 1 ∷ limitWord 1 3 ∷ []
+unfolding spread tidyGroups tableGroups membersTo has pick exclusionGroup count countTo sorted insert before earlier kindNumber limitGroups limitedRows
+two-roles-spread = refl
+
 -- ---- the image
 
 -- the words before the end word
@@ -79,6 +121,15 @@ tidyWords p = headWord (p .head .users) (p .head .roles) (p .head .permissions) 
 
 unfoldable pub tidy : Policy → List ℕ
 tidy p = imageBytes (ended (tidyWords p))
+
+-- a policy with a head and no entries
+abbrev pub bare : Head → Policy
+bare h = record { head = h; assigned = []; granted = []; juniors = []; exclusions = []; limits = [] }
+
+-- its end word balances the head
+pub bare-balanced : tidy (bare (record { users = 1; roles = 1; permissions = 1 })) ≡ imageBytes (headWord 1 1 1 ∷ endWord (headWord 1 1 1) ∷ [])
+unfolding tidy tidyWords ended sumOf headWord spread tidyGroups tableGroups sorted limitGroups limitedRows
+bare-balanced = refl
 
 -- the tidy image of an image
 unfoldable pub tidyOf : List ℕ → List ℕ
@@ -99,6 +150,11 @@ tidyBy (Refused n place) p out = record { number = n; extra = place; out = out }
 tidyBy (Accepted h) p out =
     let done : Written = record { number = 0; extra = length (tidy p) / 4; out = tidy p ++ drop (length (tidy p)) out } in
     pick (ltb (length out) (length (tidy p))) (record { number = 19; extra = 0; out = out }) done
+
+-- head and end are two words
+pub bare-extra : (h : Head) → tidyBy (Accepted h) (bare (record { users = 1; roles = 1; permissions = 1 })) (replicate 8 7) .extra ≡ 2
+unfolding tidyBy pick tidy tidyWords ended sumOf imageBytes bytesOf spread tidyGroups tableGroups sorted limitGroups limitedRows
+bare-extra h = refl
 
 unfoldable pub tidyCall : List ℕ → List ℕ → Written
 tidyCall image out = tidyBy (judge image) (policyOf image) out

@@ -1,11 +1,7 @@
--- The laws of turned tables, of the closed grant table and of the calls on them.
+-- The laws of rows of bytes, of tables turned, and the theorems.
 pub mod Rows
-pub mod TurnProof
-pub mod Shifts
-pub mod Exchanges
-pub mod Transposes
 pub mod Words
 pub mod Parts
-pub mod TableProof
+pub mod TurnProof
 pub mod CallProof
 pub mod Theorems

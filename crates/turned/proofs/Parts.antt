@@ -11,16 +11,18 @@ use lib.ListN.{length, getD, take, drop, drop-of-length-le}
 use Rattle.model.specs.Sets.{has, setOf}
 use Rattle.model.specs.Bytes.{number, bytesOf}
 use Rattle.model.specs.Run.{lineAt}
-use Rattle.model.proofs.SetLaws.{has-low, has-high, same-members}
-use Rattle.model.proofs.LineLaws.{length-bytesOf}
+use Rattle.model_laws.proofs.SetLaws.{has-low, has-high, same-members}
+use Rattle.model_laws.proofs.LineLaws.{length-bytesOf}
 use mir.Syntax.{w64}
 use mir.Val.{Fits}
 use Rattle.sets.specs.Words.{value}
 use Rattle.sets.proofs.Machine.{value-has}
 use Rattle.octets.specs.Splice.{splice, numberAt, bytesOfAll}
 use Rattle.turned.specs.Turned.{rowAt, having, joined, turn, unturned}
-use Rattle.turned.specs.Stages.{columnOf, Transposed, Group, Part}
-use Rattle.turned.proofs.Rows.{setOf-bit, setOf-members, setOf-same, joined-put}
+use Rattle.turned_words.specs.Stages.{columnOf, Transposed}
+use Rattle.turned.specs.Columns.{Group, Part}
+use Rattle.turned_words.proofs.SetTests.{setOf-bit, setOf-members, setOf-same}
+use Rattle.turned.proofs.Rows.{joined-put}
 use Rattle.turned.proofs.Words.{all-joined}
 
 -- ---- 64 of the rows, transposed

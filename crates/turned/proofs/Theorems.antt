@@ -1,4 +1,4 @@
--- The theorems about turned tables and the closed grant table, one claim each; the files named hold the arguments.
+-- The theorems about turned tables, one claim each; the files named hold the arguments.
 -- Assumes nothing.
 use mathlib.Core.Path.{_≡_}
 use mathlib.Core.Bool.{true}
@@ -6,30 +6,18 @@ use mathlib.Core.List.{List}
 use Prim.Native.Nat.{ℕ, _*_}
 use lib.Pow.{areBytes}
 use lib.ListN.{length}
-use Rattle.model.specs.declared.Head.{Head}
-use Rattle.model.specs.declared.Checked.the-variants.{Accepted}
-use Rattle.model.specs.Judgement.{judge}
-use Rattle.model.specs.Policy.{policyOf}
-use Rattle.model.proofs.Judgements.{accepted-in-range}
 use Rattle.turned.specs.Turned.{Turns}
-use Rattle.turned.specs.Table.{TableIs}
 use Rattle.turned.specs.Calls.{RoundTrips}
 use Rattle.turned.proofs.TurnProof as TurnProof
-use Rattle.turned.proofs.TableProof as TableProof
 use Rattle.turned.proofs.CallProof as CallProof
 
 -- ---- every 2,048 bytes, and not only tables of grants
 
--- a turned table has the bits of the table, bit k of row r at bit r of row k, and turned again is the table; at any size of whole bytes
+-- a turned table has the bits of the table, bit k of row r at bit r of row k, and turned again is the table; at any
+-- size of whole bytes
 pub turns : (z w : ℕ) (bs : List ℕ) → areBytes bs ≡ true → length bs ≡ z * (8 * w) → Turns z w bs
 turns = TurnProof.turns
 
 -- undoing what was done, and doing what was undone, give the bytes back
 pub round-trips : (bs : List ℕ) → areBytes bs ≡ true → length bs ≡ 2048 → RoundTrips bs
 round-trips = CallProof.round-trips
-
--- ---- the closed grant table of an accepted image
-
--- what the table, and the turned table, say of a role and a permission
-pub table-is : (s : List ℕ) (h : Head) → judge s ≡ Accepted h → TableIs (policyOf s)
-table-is s h accepted = TableProof.table-is (policyOf s) (accepted-in-range s h accepted)

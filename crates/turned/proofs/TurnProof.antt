@@ -13,12 +13,13 @@ use borrow.Author.Tests.{lt-ltb, ltb-true}
 use Rattle.model.specs.Sets.{has}
 use Rattle.model.specs.Bytes.{number, bytesOf}
 use Rattle.model.specs.Run.{lineAt}
-use Rattle.model.proofs.Bools.{and-l, and-r, both}
-use Rattle.model.proofs.LineLaws.{length-bytesOf}
-use Rattle.model.proofs.LedgerLaws.{lineAt-length}
-use Rattle.model.proofs.RoundTrip.{bytes-number, number-bytes, bytes-take, bytes-drop}
+use Rattle.model_laws.proofs.Bools.{and-l, and-r, both}
+use Rattle.model_laws.proofs.LineLaws.{length-bytesOf}
+use Rattle.model_laws.proofs.LedgerLaws.{lineAt-length}
+use Rattle.model_laws.proofs.RoundTrip.{bytes-number, number-bytes, bytes-take, bytes-drop}
 use Rattle.turned.specs.Turned.{rowAt, having, turn, turned, unturned, Turns}
-use Rattle.turned.proofs.Rows.{setOf-lt, setOf-bit, setOf-members, length-joined, line-joined, lines-joined, joined-bytes}
+use Rattle.turned_words.proofs.SetTests.{setOf-lt, setOf-bit, setOf-members}
+use Rattle.turned.proofs.Rows.{length-joined, line-joined, lines-joined, joined-bytes}
 
 -- what is written of a number is bytes
 pub bytesOf-bytes : (n v : ℕ) → areBytes (bytesOf n v) ≡ true

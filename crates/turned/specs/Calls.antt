@@ -1,4 +1,4 @@
--- The calls on tables of 2,048 bytes: the closed grant table of an image, a table turned, and a table turned back.
+-- The calls on tables of 2,048 bytes: a table turned, and a table turned back.
 -- Assumes nothing.
 use mathlib.Core.Path.{_≡_}
 use mathlib.Core.Bool.{true, false, _&&_}
@@ -6,13 +6,8 @@ use mathlib.Core.List.{List}
 use Prim.Native.Nat.{ℕ}
 use lib.Dec.{eqb}
 use lib.ListN.{length}
-use Rattle.model.specs.declared.Checked.{Checked}
-use Rattle.model.specs.declared.Checked.the-variants.{Accepted, Refused}
-use Rattle.model.specs.Judgement.{judge}
-use Rattle.model.specs.Policy.{Policy, policyOf}
 use Rattle.model.specs.Session.{Reply, refuse}
 use Rattle.turned.specs.Turned.{turned, unturned}
-use Rattle.turned.specs.Table.{grantTable}
 
 -- done: the bytes fill the buffer, and the extra is 0
 unfoldable pub filling : List ℕ → Reply
@@ -26,24 +21,10 @@ turnCall source room = elim (eqb (length source) 2048 && eqb room 2048) [ true �
 unfoldable pub unturnCall : List ℕ → ℕ → Reply
 unturnCall source room = elim (eqb (length source) 2048 && eqb room 2048) [ true ↦ filling (unturned source) | false ↦ refuse 19 0 ]
 
--- ---- the closed grant table
-
--- 19 where the buffer has not 2,048 bytes
-unfoldable pub tableOn : Policy → ℕ → Reply
-tableOn p room = elim (eqb room 2048) [ true ↦ filling (grantTable p) | false ↦ refuse 19 0 ]
-
--- a refused image ends the call
-unfoldable pub tableBy : Checked → Policy → ℕ → Reply
-tableBy (Refused n x) p room = refuse n x
-tableBy (Accepted h) p room = tableOn p room
-
--- the table call, given the bytes of an image and the buffer's length
-unfoldable pub tableCall : List ℕ → ℕ → Reply
-tableCall image room = tableBy (judge image) (policyOf image) room
-
 -- ---- claims
 
--- 2,048 bytes turned and turned back are these bytes, and so are they turned back and turned, both calls done with extra 0
+-- 2,048 bytes turned and turned back are these bytes, and so are they turned back and turned, both calls done with
+-- extra 0
 pub record RoundTrips (bs : List ℕ) : Type 0 where
   pub turned-back : unturnCall (turnCall bs 2048 .filled) 2048 ≡ filling bs
   pub unturned-back : turnCall (unturnCall bs 2048 .filled) 2048 ≡ filling bs

@@ -1,5 +1,4 @@
--- Tables of bits turned, the closed grant table in bytes and the calls on them, and what the contracts of their code say.
+-- Tables of bits turned and the calls on them, and what the contracts of their code say.
 pub mod Turned
-pub mod Table
 pub mod Calls
-pub mod Stages
+pub mod Columns

@@ -1,4 +1,5 @@
--- A table of bits turned (transposed): bit k of row r goes to bit r of row k. A row is a set, of whole bytes, the lowest first.
+-- A table of bits turned (transposed): bit k of row r goes to bit r of row k. A row is a set, of whole bytes, the
+-- lowest first.
 -- Assumes nothing.
 use mathlib.Core.Path.{_≡_}
 use mathlib.Core.Bool.{true}

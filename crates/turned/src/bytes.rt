@@ -7,8 +7,8 @@ ghost use lib.ListN.{length};
 ghost use Rattle.model.specs.Run.{returned, answered};
 ghost use Rattle.turned.specs.Turned.{turned, unturned};
 ghost use Rattle.turned.specs.Calls.{turnCall, unturnCall};
-ghost use Rattle.turned.specs.Stages.{Column, Group, Part};
-use crate::transpose::transpose;
+ghost use Rattle.turned.specs.Columns.{Column, Group, Part};
+use turned_words::transpose::transpose;
 
 // Word w of each of 64 rows of four words.
 fn column(source: &[u8], w: usize) -> [u64; 64]

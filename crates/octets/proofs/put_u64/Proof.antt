@@ -8,5 +8,4 @@ returns : tie.Need-returns
 returns c = cc
 
 pub put-u64-spec : {M : Type 1} → statement M
-put-u64-spec =
-    tie.close (tie.spec (λ c κs. search needs) (λ c. search needs) (λ c κs. search needs) (λ c. search needs) returns)
+put-u64-spec = tie.close (tie.spec (λ c κs. search needs) (λ c. search needs) (λ c κs. search needs) (λ c. search needs) returns)

@@ -14,20 +14,9 @@ Inv-loop image place last at₀ at = exclusionAmong image (last - at) at ≡ exc
 abbrev μ-loop : tie.MeasureT-loop
 μ-loop image place last at₀ at = last - at
 
-loop-holds : tie.Need-loop-holds Inv-loop μ-loop
-loop-holds c = search (needs, walk-begins)
-
-returns : tie.Need-returns Inv-loop μ-loop
-returns c = search (needs, walk-stops)
-
-loop-again : tie.Need-loop-again Inv-loop μ-loop
-loop-again c = search (needs, walk-goes)
-
-returns-2 : tie.Need-returns-2 Inv-loop μ-loop
-returns-2 c = search (needs, walk-ends)
-
 pub exclusion-after-spec : {M : Type 1} → statement M
 exclusion-after-spec =
     tie.close
-    (tie.spec Inv-loop μ-loop (λ c κs. search needs) loop-holds (λ c κs. search needs) (λ c κs. search needs) (λ c. search needs) returns (λ c. search needs)
-    (λ c. search needs) loop-again returns-2)
+    (tie.spec Inv-loop μ-loop (λ c κs. search needs) (λ c. search (needs, walk-begins)) (λ c κs. search needs) (λ c κs. search needs)
+    (λ c. search needs) (λ c. search (needs, walk-stops)) (λ c. search needs) (λ c. search needs) (λ c. search (needs, walk-goes))
+    (λ c. search (needs, walk-ends)))

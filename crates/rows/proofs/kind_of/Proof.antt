@@ -1,26 +1,12 @@
 -- `rows::kind_of` meets its contract.
 -- Assumes nothing.
-use Rattle.model.specs.Image.{kindOf}
-use Rattle.model.specs.Tests.{pick}
+use borrow.Author.Needs.{needs}
 use borrow.Author.Tests.{ne-eqb}
+use Rattle.model.specs.Tests.{pick}
+use Rattle.model.specs.Image.{kindOf}
 use Rattle.rows.proofs.kind_of.Statement.{statement}
 use Rattle.rows.proofs.kind_of.Tie as tie
 
-returns : tie.Need-returns
-unfolding kindOf pick
-returns c = rw (c .match .keys1)
-
-returns-2 : tie.Need-returns-2
-unfolding kindOf pick
-returns-2 c = rw (c .match .keys2)
-
-returns-3 : tie.Need-returns-3
-unfolding kindOf pick
-returns-3 c = rw (c .match .keys3)
-
-returns-4 : tie.Need-returns-4
-unfolding kindOf pick
-returns-4 c = let r = c .match .rest in simp (ne-eqb _ _ (r .0 .0 .1), ne-eqb _ _ (r .0 .1), ne-eqb _ _ (r .1))
-
 pub kind-of-spec : {M : Type 1} → statement M
-kind-of-spec = tie.close (tie.spec returns returns-2 returns-3 returns-4)
+unfolding kindOf pick
+kind-of-spec = tie.close (tie.spec (λ c. rw (c .match .keys1)) (λ c. rw (c .match .keys2)) (λ c. rw (c .match .keys3)) (λ c. search (needs, ne-eqb)))

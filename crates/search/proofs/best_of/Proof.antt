@@ -4,8 +4,8 @@ use mathlib.Core.Path.{refl}
 use borrow.Author.Needs.{needs}
 use denote.Ref.{now}
 use Rattle.sets.specs.Words.{joined, value}
-use Rattle.search.specs.Search.{taskOf}
-use Rattle.search.proofs.Turns.{ready-none}
+use Rattle.search_steps.specs.Search.{taskOf}
+use Rattle.search_steps.proofs.Turns.{ready-none}
 use Rattle.search.proofs.best_of.Statement.{statement}
 use Rattle.search.proofs.best_of.Tie as tie
 
@@ -30,4 +30,6 @@ subset-step-requires c κs =
     )
 
 pub best-of-spec : {M : Type 1} → statement M
-best-of-spec = tie.close (tie.spec (λ c κs. search needs) permission-step-requires (λ c. search needs) (λ c κs. search needs) subset-step-requires (λ c. search needs))
+best-of-spec =
+    tie.close
+    (tie.spec (λ c κs. search needs) permission-step-requires (λ c. search needs) (λ c κs. search needs) subset-step-requires (λ c. search needs))

@@ -5,8 +5,8 @@ use borrow.Author.Needs.{needs}
 use borrow.Author.Tests.{not-true, not-false}
 use denote.Ref.{now}
 use Rattle.sets.specs.Words.{value}
-use Rattle.search.specs.Search.{taskOf}
-use Rattle.query.proofs.RoomLaws.{roomy-less}
+use Rattle.search_steps.specs.Search.{taskOf}
+use Rattle.query_rooms.proofs.RoomLaws.{roomy-less}
 use Rattle.search.proofs.Solved.{is-chosen, none-chosen}
 use Rattle.search.proofs.solve.Statement.{statement}
 use Rattle.search.proofs.solve.Tie as tie
@@ -24,7 +24,8 @@ returns-2 c m l k given =
     let u = b .before in
     let s = u .before .before .before in
     let g = s .args in
-    is-chosen (taskOf (now (g .rows)) (now (g .masks)) (now (g .rooms)) (g .job)) (value (g .upper)) (g .authorized) (s .fits .authorized .fits) m l k given (u .usable .result) (u .usable .ensures)
+    is-chosen (taskOf (now (g .rows)) (now (g .masks)) (now (g .rooms)) (g .job)) (value (g .upper)) (g .authorized) (s .fits .authorized .fits) m l
+    k given (u .usable .result) (u .usable .ensures)
     (b .best-of .result) (c .answer .result) (c .answer .ensures) (b .best-of .ensures)
 
 pub solve-spec : {M : Type 1} → statement M

@@ -7,12 +7,9 @@ use Rattle.sets.proofs.Taken.{lowest-of}
 use Rattle.sets.proofs.lowest.Statement.{statement}
 use Rattle.sets.proofs.lowest.Tie as tie
 
-cast-t3 : tie.Need-cast-t3
-cast-t3 c = omega (arith, trailing-le 64 (c .args .set))
-
 returns : tie.Need-returns
 unfolding lowestOf
 returns c = lowest-of (c .args .set) (c .pre) (c .fits .set .fits)
 
 pub lowest-spec : {M : Type 1} → statement M
-lowest-spec = tie.close (tie.spec cast-t3 returns)
+lowest-spec = tie.close (tie.spec (λ c. omega (arith, trailing-le 64 (c .args .set))) returns)

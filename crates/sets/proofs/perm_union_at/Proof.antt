@@ -34,4 +34,7 @@ unfolding unionAt
 returns c = search (needs, joins-end)
 
 pub perm-union-at-spec : {M : Type 1} → statement M
-perm-union-at-spec = tie.close (tie.spec Inv-loop μ-loop loop-holds (λ c κs. search needs) (λ c. search needs) (λ c. search needs) (λ c. search needs) (λ c κs. search needs) (λ c κs. search needs) loop-less loop-again returns)
+perm-union-at-spec =
+    tie.close
+    (tie.spec Inv-loop μ-loop loop-holds (λ c κs. search needs) (λ c. search needs) (λ c. search needs) (λ c. search needs) (λ c κs. search needs)
+    (λ c κs. search needs) loop-less loop-again returns)

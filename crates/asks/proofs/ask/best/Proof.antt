@@ -10,9 +10,10 @@ use Rattle.asks.proofs.ask.best.Tie as tie
 returns : tie.Need-returns
 unfolding exclusionsIn
 returns c p u x g =
-    let d = c .before .before .before .before .before .before .before .reduce .ensures in
-    let a = c .before .before .before .before .before .before .before .before .args in
-    c .solve .ensures (leftTo p u x (a .l) (a .k)) (a .l) (a .k) (given-of p u x (a .authorized) (exclusionsIn (a .xs .now) (a .count)) (a .l) (a .k) _ _ _ _ (d .0) (d .1) g)
+    let m = c .before .before .before in
+    let d = m .before .before .before .before in
+    let a = d .before .args in
+    c .solve .ensures (leftTo p u x (a .l) (a .k)) (a .l) (a .k) (given-of p u x _ _ _ _ _ _ _ _ (d .reduce .ensures .0) (d .reduce .ensures .1) g)
 
 pub best-spec : {M : Type 1} → statement M
 best-spec = tie.close (tie.spec (λ c κs. search needs) (λ c κs. search needs) returns)

@@ -1,49 +1,58 @@
 -- `asks::ask::put_best` meets its contract: no set is admissible, or the best one is put in and answered.
 -- Assumes nothing.
-use mathlib.Core.Path.{ap, _∙_}
 use borrow.Author.Needs.{needs}
-use Rattle.model.specs.declared.Line.{Line}
-use Rattle.model.specs.Policy.{meaning}
-use Rattle.model.specs.Line.{SESSIONS, lineSize, putIn, writeLine}
-use Rattle.model.specs.Run.{withLine, lineOf}
-use Rattle.sets.specs.Words.{value, values}
+use Rattle.model.specs.Policy.{Policy, meaning}
+use Rattle.model.specs.Limits.{Others}
+use Rattle.model.specs.Run.{lineOf}
+use Rattle.sets.specs.Words.{values}
 use Rattle.rows.specs.Rows.{exclusionsIn}
+use Rattle.query.specs.Carry.{rowsOf}
+use Rattle.asks.specs.Asks.{Asked, Searched}
 use Rattle.asks.proofs.Asks.{answers-none, answers-some}
 use Rattle.asks.proofs.Rows.{asked-of, chosen-none, chosen-some, chosen-own, carry-within}
 use Rattle.asks.proofs.ask.put_best.Statement.{statement}
 use Rattle.asks.proofs.ask.put_best.Tie as tie
 
+abbrev start : tie.After-line-of → tie.Start
+start c = c .before .before .before .before .before
+
+-- what the search is given, with the rows and the line that are held
+asked : (c : tie.After-line-of) (p : Policy) (x : Others)
+    → (let a = start c .args in
+    let xs = exclusionsIn (a .xs .now) (a .count) in
+    Searched p (a .window .user) x (a .ledger .now) (a .window .session) (values (a .granted .now)) (a .below .now) (a .authorized) xs
+    → Asked p (a .window .user) x (c .line-of .result) (a .window .session) (a .authorized) xs (rowsOf (c .before .before .carried .result)))
+unfolding lineOf
+asked c p x g = asked-of p _ x _ _ _ _ _ _ _ _ g (start c .fits .authorized .fits) (c .before .before .carried .ensures) (c .line-of .ensures)
+
 returns : tie.Need-returns
 unfolding lineOf
 returns c p x g =
-    let s = c .before .before .before .before .before .before .before .before .before in
-    let a = s .args in
-    let l = c .before .before .before .before .line-of .ensures in
-    let q = asked-of p (a .window .user) x (a .ledger .now) (a .window .session) (values (a .granted .now)) (a .below .now) (a .authorized) (exclusionsIn (a .xs .now) (a .count)) _ _ g
-    (s .fits .authorized .fits) (c .before .before .before .before .before .before .carried .ensures) l in
-    answers-none p (a .ledger .now) (a .window .user) (a .window .session) _ _
-    (chosen-none p (a .window .user) x (a .ledger .now) _ l _ (a .window .session) (value (a .wanted .lower)) (value (a .wanted .upper)) (a .wanted .first) (a .wanted .second)
-    (c .before .before .best .ensures p (a .window .user) x q) (c .enum-told .given .1))
+    let n = c .before .before .before .before in
+    answers-none p _ _ _ _ _
+    (chosen-none p _ x _ _ (n .line-of .ensures) _ _ _ _ _ _ (c .before .before .best .ensures p _ x (asked n p x g)) (c .enum-told .given .1))
 
 returns-2 : tie.Need-returns-2
 unfolding lineOf
 returns-2 c p x g =
-    let s = c .before .before .before .before .before .before .before .before .before .before .before .before .before .before .before .before .before .before .before .before .before in
-    let a = s .args in
-    let l = c .before .before .before .before .before .before .before .before .before .before .before .before .before .before .before .before .line-of .ensures in
-    let q = asked-of p (a .window .user) x (a .ledger .now) (a .window .session) (values (a .granted .now)) (a .below .now) (a .authorized) (exclusionsIn (a .xs .now) (a .count)) _ _ g
-    (s .fits .authorized .fits) (c .before .before .before .before .before .before .before .before .before .before .before .before .before .before .before .before .before .before .carried .ensures) l in
-    let o = chosen-some p (a .window .user) x (a .ledger .now) _ l _ (a .window .session) (value (a .wanted .lower)) (value (a .wanted .upper)) (a .wanted .first) (a .wanted .second)
-    (c .before .before .before .before .before .before .before .before .before .before .before .before .before .before .best .ensures p (a .window .user) x q) _ (c .before .before .before .before .before .before .before .before .before .before .before .before .choice .given .1) in
-    let w = chosen-own p (a .window .user) x _ (a .window .session) (a .authorized) (value (a .wanted .lower)) (value (a .wanted .upper)) (a .wanted .first) (a .wanted .second) _ (g .own-is) o in
-    let k = c .before .before .before .carried-by .ensures (meaning p (a .window .user)) (carry-within p (a .window .user) (a .authorized) _ _ (q .carry) w) in
-    answers-some p (a .ledger .now) (a .window .user) (a .window .session) _ _ _ _ _ _ o k
-    (c .before .before .before .before .before .before .before .before .put-line .ensures
-    ∙ ap (λ (x : Line). withLine (lineSize SESSIONS) (a .window .user) (writeLine x) (a .ledger .now)) (c .before .before .before .before .before .before .before .before .before .before .put-in .ensures ∙ ap (putIn (a .window .session) _) l))
-    (c .before .before .fill .ensures)
+    let f = c .before .before in
+    let w = f .before .before .before .before .before .before in
+    let i = w .before .before in
+    let e = i .before .before in
+    let b = e .before .before in
+    let n = b .before .before in
+    let a = start n .args in
+    let q = asked n p x g in
+    let o = chosen-some p _ x _ _ (n .line-of .ensures) _ _ _ _ _ _ (b .best .ensures p _ x q) _ (e .choice .given .1) in
+    let v = chosen-own p _ x _ _ (a .authorized) _ _ _ _ _ (g .own-is) o in
+    let k = f .before .carried-by .ensures (meaning p (a .window .user)) (carry-within p _ _ _ _ (q .carry) v) in
+    answers-some p _ _ _ _ _ _ _ _ _ _ _ o k (n .line-of .ensures) (i .put-in .ensures) (w .put-line .ensures) (f .fill .ensures)
 
 fill-requires : tie.Need-fill-requires
-fill-requires c κs = c .before .before .before .before .before .before .before .before .before .before .before .before .before .before .before .before .before .before .pre .3
+fill-requires c κs =
+    let n = c .before .before .before .before .before .before in
+    let m = n .before .before .before .before .before .before in
+    start (m .before) .pre .3
 
 pub put-best-spec : {M : Type 1} → statement M
 put-best-spec =

@@ -40,7 +40,7 @@ returns-3 c p h =
     let a = l .before .before .before .before .before .before .args in
     let e : p .head .users ≡ a .rules .head .users = ap (λ (x : Head). x .users) (h .head-is) in
     let m = meaning p (a .user) in
-    let s = c .before .sound .ensures m (held (a .rules .head) (a .authorized .now) (exclusionsIn (a .xs .now) (a .rules .count)) p (a .user) _ h (omega arith) (o .roles-of .ensures)) in
+    let s = c .before .sound .ensures m (held _ _ (exclusionsIn (a .xs .now) (a .rules .count)) p (a .user) _ h (omega arith) (o .roles-of .ensures)) in
     first11 SESSIONS p _ _ (omega arith) (omega arith) (ap (sound SESSIONS m) (sym (l .line-of .ensures)) ∙ sym s ∙ not-true _ (c .if3 .taken))
 
 returns-4 : tie.Need-returns-4
@@ -51,7 +51,7 @@ returns-4 c p h =
     let a = l .before .before .before .before .before .before .args in
     let e : p .head .users ≡ a .rules .head .users = ap (λ (x : Head). x .users) (h .head-is) in
     let m = meaning p (a .user) in
-    let s = c .before .sound .ensures m (held (a .rules .head) (a .authorized .now) (exclusionsIn (a .xs .now) (a .rules .count)) p (a .user) _ h (omega arith) (o .roles-of .ensures)) in
+    let s = c .before .sound .ensures m (held _ _ (exclusionsIn (a .xs .now) (a .rules .count)) p (a .user) _ h (omega arith) (o .roles-of .ensures)) in
     first0 SESSIONS p _ _ (omega arith) (omega arith) (ap (sound SESSIONS m) (sym (l .line-of .ensures)) ∙ sym s ∙ not-false _ (c .if3 .left))
 
 pub first-refusal-spec : {M : Type 1} → statement M

@@ -19,7 +19,8 @@ returns c = search needs
 
 returns-2 : tie.Need-returns-2 Inv-loop μ-loop
 returns-2 c =
-    let r = c .before .before .before .before .before in (search needs, counts (r .before .before .before .loop .have) (r .read-more .last .1 .0) (search needs))
+    let r = c .before .before .before .before .before in
+    (search needs, counts (r .before .before .before .loop .have) (r .read-more .last .1 .0) (search needs))
 
 returns-3 : tie.Need-returns-3 Inv-loop μ-loop
 returns-3 c = (search needs, counts (c .before .loop .have) (c .before .loop .file) (search needs))

@@ -45,7 +45,9 @@ loop-again c =
       search needs,
       search needs,
       λ more.
-          l .loop .inv .6 more ∙ goes-on (a .chunk .now) (l .loop .i) (l .loop .line) (l .loop .kept) (k .keep .last .0) (k .keep .result) (search needs) (d .if1 .left) (k .keep .ensures .1) more,
+          l .loop .inv .6 more
+          ∙ goes-on (a .chunk .now) (l .loop .i) (l .loop .line) (l .loop .kept) (k .keep .last .0) (k .keep .result) (search needs)
+          (d .if1 .left) (k .keep .ensures .1) more,
     )
 
 returns-2 : tie.Need-returns-2 Inv-loop μ-loop

@@ -2,15 +2,13 @@
 -- Assumes nothing.
 use borrow.Author.Needs.{needs}
 use native.Mathlib.Omega.{arith}
-use Rattle.clauses.proofs.WritingLaws.{size-told, needs-none, needs-size}
+use Rattle.clauses.proofs.WrittenLaws.{size-told, needs-none, needs-size}
 use Rattle.clauses.proofs.whole.needed.Statement.{statement}
 use Rattle.clauses.proofs.whole.needed.Tie as tie
 
-returns : tie.Need-returns
-returns c = λ small. needs-none (c .before .args .room) _ (c .if1 .taken) small
-
-returns-2 : tie.Need-returns-2
-returns-2 c = λ small. needs-size _ _ _ (size-told _ (omega (arith, small)) (c .before .put-text .ensures))
-
 pub needed-spec : {M : Type 1} → statement M
-needed-spec = tie.close (tie.spec returns (λ c. search needs) (λ c. search needs) (λ c. search needs) (λ c κs. search needs) returns-2)
+needed-spec =
+    tie.close
+    (tie.spec (λ c. λ small. needs-none (c .before .args .room) _ (c .if1 .taken) small) (λ c. search needs) (λ c. search needs)
+    (λ c. search needs) (λ c κs. search needs)
+    (λ c. λ small. needs-size _ _ _ (size-told _ (omega (arith, small)) (c .before .put-text .ensures))))

@@ -32,4 +32,7 @@ returns-2 c =
     all-taken _ _ _ _ _ (l .loop .inv .1) (l .before .before .before .pre .1) (l .loop .inv .0) (c .loop-test .left) refl
 
 pub through-spec : {M : Type 1} → statement M
-through-spec = tie.close (tie.spec Inv-loop μ-loop (λ c. search needs) (λ c. search needs) returns loop-holds (λ c. search needs) (λ c. search needs) (λ c κs. search needs) (λ c. search needs) (λ c. search needs) (λ c. search needs) (λ c. search needs) loop-again returns-2)
+through-spec =
+    tie.close
+    (tie.spec Inv-loop μ-loop (λ c. search needs) (λ c. search needs) returns loop-holds (λ c. search needs) (λ c. search needs)
+    (λ c κs. search needs) (λ c. search needs) (λ c. search needs) (λ c. search needs) (λ c. search needs) loop-again returns-2)

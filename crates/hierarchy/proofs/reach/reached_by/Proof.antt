@@ -26,11 +26,15 @@ loop-again c =
     let u = c .before in
     let w = u .before .before in
     let l = w .before .before in
-    joins-next _ _ _ _ _ _ (l .loop .inv) (w .lowest .ensures) (c .without .ensures) _ (u .union .ensures ∙ ap (union (l .loop .all)) (u .before .reach .ensures))
+    joins-next _ _ _ _ _ _ (l .loop .inv) (w .lowest .ensures) (c .without .ensures) _
+    (u .union .ensures ∙ ap (union (l .loop .all)) (u .before .reach .ensures))
 
 returns : tie.Need-returns Inv-loop μ-loop
 unfolding unionAt
 returns c = search (needs, joins-end)
 
 pub reached-by-spec : {M : Type 1} → statement M
-reached-by-spec = tie.close (tie.spec Inv-loop μ-loop loop-holds (λ c κs. search needs) (λ c κs. search needs) (λ c κs. search needs) (λ c κs. search needs) loop-less loop-again returns)
+reached-by-spec =
+    tie.close
+    (tie.spec Inv-loop μ-loop loop-holds (λ c κs. search needs) (λ c κs. search needs) (λ c κs. search needs) (λ c κs. search needs) loop-less
+    loop-again returns)

@@ -9,16 +9,13 @@ use Rattle.image.proofs.check.check.Statement.{statement}
 use Rattle.image.proofs.check.check.Tie as tie
 
 returns : tie.Need-returns
-returns c = (sym (odd-length (c .before .before .args .image .now) (c .if1 .taken)), λ g e. never _ _ g e)
+returns c = (sym (odd-length _ (c .if1 .taken)), λ g e. never _ _ g e)
 
 returns-2 : tie.Need-returns-2
-returns-2 c = (sym (short-length (c .before .before .before .args .image .now) (c .before .if1 .left) (c .if2 .taken)), λ g e. never _ _ g e)
+returns-2 c = (sym (short-length _ (c .before .if1 .left) (c .if2 .taken)), λ g e. never _ _ g e)
 
 returns-3 : tie.Need-returns-3
-returns-3 c = (
-  sym (long-length (c .before .before .before .before .args .image .now) (c .before .before .if1 .left) (c .before .if2 .left) (c .if3 .taken)),
-  λ g e. never _ _ g e,
-)
+returns-3 c = (sym (long-length _ (c .before .before .if1 .left) (c .before .if2 .left) (c .if3 .taken)), λ g e. never _ _ g e)
 
 returns-4 : tie.Need-returns-4
 returns-4 c =
@@ -42,4 +39,7 @@ returns-5 c =
     )
 
 pub check-spec : {M : Type 1} → statement M
-check-spec = tie.close (tie.spec returns returns-2 returns-3 (λ c κs. search needs) (λ c κs. search needs) (λ c κs. search needs) (λ c κs. search needs) returns-4 returns-5)
+check-spec =
+    tie.close
+    (tie.spec returns returns-2 returns-3 (λ c κs. search needs) (λ c κs. search needs) (λ c κs. search needs) (λ c κs. search needs) returns-4
+    returns-5)

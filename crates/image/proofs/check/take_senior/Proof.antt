@@ -1,21 +1,15 @@
 -- `image::check::take_senior` meets its contract.
 -- Assumes nothing.
-use mathlib.Core.Path.{ap, _∙_}
 use borrow.Author.Needs.{needs}
-use Rattle.model.specs.Image.{sparing}
 use Rattle.model.specs.Policy.{ordering}
 use Rattle.image.proofs.check.take_senior.Statement.{statement}
 use Rattle.image.proofs.check.take_senior.Tie as tie
 
-returns : tie.Need-returns
-returns c =
-    (λ rows t. c .before .spared .ensures ∙ ap (sparing (c .before .before .before .args .spare)) (c .before .before .senior-fault .ensures rows t), λ z. absurd (c .if1 .taken z))
-
-returns-2 : tie.Need-returns-2
-unfolding ordering
-returns-2 c =
-    let f = c .before .before .before .before in
-    (λ rows t. f .spared .ensures ∙ ap (sparing (f .before .before .args .spare)) (f .before .senior-fault .ensures rows t), λ z. rw (c .with .ensures))
-
 pub take-senior-spec : {M : Type 1} → statement M
-take-senior-spec = tie.close (tie.spec (λ c κs. search needs) (λ c κs. search needs) returns (λ c. search needs) (λ c. search needs) (λ c. search needs) (λ c κs. search needs) (λ c. search needs) (λ c. search needs) returns-2)
+unfolding ordering
+take-senior-spec =
+    tie.close
+    (tie.spec (λ c κs. search needs) (λ c κs. search needs)
+    (λ c. (search (needs, ← c .before .before .senior-fault .ensures), λ z. absurd (c .if1 .taken z))) (λ c. search needs) (λ c. search needs)
+    (λ c. search needs) (λ c κs. search needs) (λ c. search needs) (λ c. search needs)
+    (λ c. (search (needs, ← c .before .before .before .before .before .senior-fault .ensures), λ z. rw (c .with .ensures))))

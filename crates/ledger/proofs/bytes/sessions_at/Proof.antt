@@ -39,4 +39,5 @@ returns c =
 pub sessions-at-spec : {M : Type 1} → statement M
 sessions-at-spec =
     tie.close
-    (tie.spec Inv-loop μ-loop loop-holds (λ c. omega arith) (λ c. omega arith) (λ c κs. omega arith) (λ c. search needs) (λ c. search needs) (λ c. omega arith) (λ c. omega arith) loop-again returns)
+    (tie.spec Inv-loop μ-loop loop-holds (λ c. omega arith) (λ c. omega arith) (λ c κs. omega arith) (λ c. search needs)
+    (λ c. search needs) (λ c. omega arith) (λ c. omega arith) loop-again returns)

@@ -7,7 +7,7 @@ use lib.Dec.{ltb}
 use lib.Pow.{pow-mono}
 use borrow.Author.Needs.{needs}
 use borrow.Author.Tests.{lt-ltb}
-use Rattle.model.proofs.SetLaws.{shl-one}
+use Rattle.model_laws.proofs.SetLaws.{shl-one}
 use Rattle.ledger.proofs.sound.below.Statement.{statement}
 use Rattle.ledger.proofs.sound.below.Tie as tie
 

@@ -5,7 +5,6 @@ use Prim.Native.Nat.{_-_, _≤_}
 use native.Mathlib.Omega.{arith}
 use lib.ListN.{length, drop, length-map}
 use borrow.Author.Needs.{needs}
-use borrow.Author.Tests.{not-true, not-false}
 use Rattle.model.specs.Tests.{all}
 use Rattle.model.specs.Policy.{met}
 use Rattle.model.specs.Line.{SESSIONS, counted, emptySession}
@@ -16,38 +15,35 @@ use Rattle.ledger.proofs.sound.met_at_each.Tie as tie
 
 abbrev Inv-loop : tie.InvT-loop
 Inv-loop x l k₀ k =
-    (k ≤ SESSIONS) × (all (λ s. met (counted l s) x) (drop k (l .sessions)) ≡ metAt l x)
+    (k ≤ SESSIONS) × (all (λ s. met (counted l s) x) (drop k (l .sessions)) ≡ metAt l x) × (length (l .sessions) ≡ SESSIONS)
 
 abbrev μ-loop : tie.MeasureT-loop
 μ-loop x l k₀ k = SESSIONS - k
 
 loop-holds : tie.Need-loop-holds Inv-loop μ-loop
 unfolding metAt
-loop-holds c = (omega arith, refl)
+loop-holds c = (omega arith, refl, sym (length-map (c .args .t1 .sessions) _) ∙ c .good .0 .1 .1 .1 .1 .0 .1 .0 .1)
 
 returns : tie.Need-returns Inv-loop μ-loop
 unfolding emptySession
 returns c =
     let s = c .before .before .before .before in
-    let ss = s .before .args .t1 .sessions in
-    let n : length ss ≡ SESSIONS = sym (length-map ss _) ∙ s .before .good .0 .1 .1 .1 .1 .0 .1 .0 .1 in
-    all-stop _ emptySession ss (s .loop .k) (omega arith) (sym (c .before .met-at .ensures) ∙ not-true _ (c .if1 .taken)) ∙ s .loop .inv .1
+    all-stop _ emptySession _ (s .loop .k) (omega arith) (c .before .met-at .ensures) (c .if1 .taken) ∙ s .loop .inv .1
 
 loop-again : tie.Need-loop-again Inv-loop μ-loop
 unfolding emptySession
 loop-again c =
-    let s = c .before .before .before .before in
-    let ss = s .before .args .t1 .sessions in
-    let n : length ss ≡ SESSIONS = sym (length-map ss _) ∙ s .before .good .0 .1 .1 .1 .1 .0 .1 .0 .1 in
-    (omega arith, all-next _ emptySession ss (s .loop .k) (omega arith) (sym (c .before .met-at .ensures) ∙ not-false _ (c .if1 .left)) ∙ s .loop .inv .1)
+    let s = c .before .before .before .before in (
+      omega arith,
+      all-next _ emptySession _ (s .loop .k) (omega arith) (c .before .met-at .ensures) (c .if1 .left) ∙ s .loop .inv .1,
+      s .loop .inv .2,
+    )
 
 returns-2 : tie.Need-returns-2 Inv-loop μ-loop
-returns-2 c =
-    let ss = c .before .before .args .t1 .sessions in
-    let n : length ss ≡ SESSIONS = sym (length-map ss _) ∙ c .before .before .good .0 .1 .1 .1 .1 .0 .1 .0 .1 in
-    all-end _ emptySession ss (c .before .loop .k) (omega arith) ∙ c .before .loop .inv .1
+returns-2 c = all-end _ emptySession _ (c .before .loop .k) (omega arith) ∙ c .before .loop .inv .1
 
 pub met-at-each-spec : {M : Type 1} → statement M
 met-at-each-spec =
     tie.close
-    (tie.spec Inv-loop μ-loop loop-holds (λ c. search needs) (λ c. search needs) (λ c κs. search needs) returns (λ c. search needs) (λ c. search needs) loop-again returns-2)
+    (tie.spec Inv-loop μ-loop loop-holds (λ c. search needs) (λ c. search needs) (λ c κs. search needs)
+    returns (λ c. search needs) (λ c. search needs) loop-again returns-2)

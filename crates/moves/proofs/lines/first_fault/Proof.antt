@@ -6,13 +6,13 @@ use native.Mathlib.Omega.{arith}
 use borrow.Author.Needs.{needs}
 use Rattle.model.specs.declared.Head.{Head}
 use Rattle.model.specs.Policy.{Policy, meaning}
-use Rattle.model.specs.Run.{lineAt, returned}
-use Rattle.model.specs.Moves.{lineFault, moveAnswer}
-use Rattle.model.proofs.MetLaws.{meaning-antitone}
+use Rattle.model.specs.Run.{returned}
+use Rattle.model.specs.Moves.{moveAnswer}
+use Rattle.model_laws.proofs.MetLaws.{meaning-antitone}
 use Rattle.rows.specs.Rows.{exclusionsIn}
 use Rattle.calls.specs.Calls.{Known}
 use Rattle.calls.proofs.FirstSteps.{held}
-use Rattle.moves.proofs.AllLines.{line-inside, line-whole, answer-next, answer-stop, answer-end}
+use Rattle.moves.proofs.AllLines.{line-inside, line-whole, fault-at, answer-next, answer-stop, answer-end}
 use Rattle.moves.proofs.lines.first_fault.Statement.{statement}
 use Rattle.moves.proofs.lines.first_fault.Tie as tie
 
@@ -39,8 +39,9 @@ line-bytes-requires c κs =
 line-fault-requires : tie.Need-line-fault-requires Inv-loop μ-loop
 line-fault-requires c κs =
     let b = c .before in
-    let s = b .before .before .before .before .before .before .before in
-    let n = line-whole _ _ _ (s .args .rules .head .users) _ (b .before .before .before .line-size .ensures) (s .pre .0) (omega arith) _ (b .line-bytes .ensures) in
+    let l = b .before .before .before in
+    let s = l .before .before .before .before in
+    let n = line-whole _ _ _ (s .args .rules .head .users) _ (l .line-size .ensures) (s .pre .0) (omega arith) _ (b .line-bytes .ensures) in
     (n, s .pre .1, s .pre .2, s .pre .4, s .pre .5)
 
 returns : tie.Need-returns Inv-loop μ-loop
@@ -51,9 +52,9 @@ returns c p h =
     let a = l .before .before .before .before .before .args in
     let u = l .loop .u in
     let e : p .head .users ≡ a .rules .head .users = ap (λ (x : Head). x .users) (h .head-is) in
-    let x = f .line-fault .ensures .1 (meaning p u) (meaning-antitone p u)
-    (held (a .rules .head) (a .authorized .now) (exclusionsIn (a .xs .now) (a .rules .count)) p u _ h (omega arith) (f .before .roles-of .ensures))
-    ∙ ap (lineFault (a .from) (a .to) (meaning p u)) (b .line-bytes .ensures ∙ ap (λ (z : ℕ). lineAt z u (a .old .now)) (l .before .line-size .ensures)) in
+    let k = held (a .rules .head) (a .authorized .now) _ p u _ h (omega arith) (f .before .roles-of .ensures) in
+    let y = f .line-fault .ensures .1 (meaning p u) (meaning-antitone p u) k in
+    let x = fault-at (a .from) (a .to) p (a .old .now) u (l .before .line-size .ensures) (b .line-bytes .ensures) y in
     ap (λ (k : ℕ). k + 256 * u) x
     ∙ answer-stop (a .from) (a .to) p (a .old .now) u (a .rules .head .users) (omega arith) (λ k. c .if1 .taken (x ∙ k))
     ∙ ap returned (l .loop .inv .1 p h)
@@ -68,9 +69,9 @@ loop-again c =
       omega arith,
       λ p h.
           let e : p .head .users ≡ a .rules .head .users = ap (λ (x : Head). x .users) (h .head-is) in
-          let x = f .line-fault .ensures .1 (meaning p u) (meaning-antitone p u)
-          (held (a .rules .head) (a .authorized .now) (exclusionsIn (a .xs .now) (a .rules .count)) p u _ h (omega arith) (f .before .roles-of .ensures))
-          ∙ ap (lineFault (a .from) (a .to) (meaning p u)) (b .line-bytes .ensures ∙ ap (λ (z : ℕ). lineAt z u (a .old .now)) (l .before .line-size .ensures)) in
+          let k = held (a .rules .head) (a .authorized .now) _ p u _ h (omega arith) (f .before .roles-of .ensures) in
+          let y = f .line-fault .ensures .1 (meaning p u) (meaning-antitone p u) k in
+          let x = fault-at (a .from) (a .to) p (a .old .now) u (l .before .line-size .ensures) (b .line-bytes .ensures) y in
           answer-next (a .from) (a .to) p (a .old .now) u (a .rules .head .users) (omega arith) (sym x ∙ c .if1 .left) ∙ l .loop .inv .1 p h,
     )
 
@@ -83,4 +84,5 @@ returns-2 c p h =
 pub first-fault-spec : {M : Type 1} → statement M
 first-fault-spec =
     tie.close
-    (tie.spec Inv-loop μ-loop (λ c. search needs) (λ c κs. search needs) loop-holds line-bytes-requires (λ c κs. search needs) line-fault-requires (λ c. search needs) (λ c. search needs) returns (λ c. search needs) (λ c. omega arith) loop-again returns-2)
+    (tie.spec Inv-loop μ-loop (λ c. search needs) (λ c κs. search needs) loop-holds line-bytes-requires (λ c κs. search needs)
+    line-fault-requires (λ c. search needs) (λ c. search needs) returns (λ c. search needs) (λ c. omega arith) loop-again returns-2)

@@ -7,7 +7,7 @@ use lib.ListN.{length}
 use borrow.Author.Needs.{needs}
 use Rattle.model.specs.Line.{lineSize}
 use Rattle.model.specs.Moves.{resizedLines}
-use Rattle.model.proofs.MoveLines.{length-lines}
+use Rattle.model_laws.proofs.MoveLines.{length-lines}
 use Rattle.octets.specs.Splice.{splice}
 use Rattle.octets.proofs.Splices.{splice-nil, splice-all}
 use Rattle.moves.proofs.AllLines.{line-inside, lines-put}
@@ -44,13 +44,10 @@ loop-again c =
     let s = l .before .before .before .before in
     let a = s .args in (
       omega arith,
-      lines-put (a .from) (a .to) (a .old .now) (a .new .now) _ _ _ _ (l .loop .u) (a .users) (l .before .line-size .ensures) (omega arith) (s .pre .1) (l .loop .inv .1)
-          (b .line-bytes .ensures) (p .put-resized .ensures),
+      lines-put (a .from) (a .to) (a .old .now) (a .new .now) _ _ _ _ (l .loop .u) (a .users) (l .before .line-size .ensures) (omega arith)
+          (s .pre .1) (l .loop .inv .1) (b .line-bytes .ensures) (p .put-resized .ensures),
       omega arith,
     )
-
-same-length : tie.Need-same-length Inv-loop μ-loop
-same-length c = c .before .loop .inv .2
 
 returns : tie.Need-returns Inv-loop μ-loop
 returns c =
@@ -58,10 +55,12 @@ returns c =
     let s = l .before .before .before .before in
     let a = s .args in
     let e : l .loop .u ≡ a .users = omega arith in
-    l .loop .inv .1 ∙ ap (λ (n : ℕ). splice (a .new .now) 0 (resizedLines (a .from) (a .to) (a .old .now) 0 n)) e
-    ∙ splice-all (a .new .now) (resizedLines (a .from) (a .to) (a .old .now) 0 (a .users)) (length-lines (a .from) (a .to) (a .old .now) 0 (a .users) ∙ sym (s .pre .1))
+    let lines = resizedLines (a .from) (a .to) (a .old .now) 0 in
+    l .loop .inv .1 ∙ ap (λ (n : ℕ). splice (a .new .now) 0 (lines n)) e
+    ∙ splice-all (a .new .now) (lines (a .users)) (length-lines (a .from) (a .to) (a .old .now) 0 (a .users) ∙ sym (s .pre .1))
 
 pub put-lines-spec : {M : Type 1} → statement M
 put-lines-spec =
     tie.close
-    (tie.spec Inv-loop μ-loop (λ c κs. search needs) loop-holds line-bytes-requires put-resized-requires (λ c. search needs) (λ c. omega arith) loop-again same-length returns)
+    (tie.spec Inv-loop μ-loop (λ c κs. search needs) loop-holds line-bytes-requires put-resized-requires (λ c. search needs)
+    (λ c. omega arith) loop-again (λ c. c .before .loop .inv .2) returns)

@@ -16,20 +16,24 @@ Inv-loop image ledger₀ line₀ chunk out₀ run p₀ ledger line out p =
 abbrev μ-loop : tie.MeasureT-loop
 μ-loop image ledger₀ line₀ chunk out₀ run p₀ ledger line out p = length chunk - p .next
 
-answer-lines-requires : tie.Need-answer-lines-requires Inv-loop μ-loop
-answer-lines-requires c κs = search needs
-
 part-write-answers-end : tie.Need-part-write-answers-end Inv-loop μ-loop
-part-write-answers-end c = omega (arith, c .before .before .before .before .before .before .before .answer-lines .ensures .room)
+part-write-answers-end c =
+    let r = c .before .before .before in
+    omega (arith, r .before .before .before .before .answer-lines .ensures .room)
 
 loop-less : tie.Need-loop-less Inv-loop μ-loop
-loop-less c = let a = c .before .before .before .before .before .before .before .before .before .before .answer-lines .ensures in omega (arith, a .onward, a .inside)
+loop-less c =
+    let t = c .before .before .before .before .before .before in
+    let a = t .before .before .before .before .answer-lines .ensures in
+    omega (arith, a .onward, a .inside)
 
 loop-again : tie.Need-loop-again Inv-loop μ-loop
 loop-again c =
-    let a = c .before .before .before .before .before .before .before .before .before .before .answer-lines in
+    let t = c .before .before .before .before .before .before in
+    let r = t .before .before .before .before in
+    let a = r .answer-lines in
     let e = a .ensures in
-    let inv = c .before .before .before .before .before .before .before .before .before .before .before .before .before .before .before .before .loop .inv in (
+    let inv = r .before .before .before .before .before .before .loop .inv in (
       e .inside,
       e .few,
       search needs,
@@ -51,7 +55,7 @@ answer-chunk-spec =
     Inv-loop
     μ-loop
     (λ c. search needs)
-    answer-lines-requires
+    (λ c κs. search needs)
     (λ c. search needs)
     (λ c. search needs)
     part-write-answers-end

@@ -5,7 +5,7 @@ use mathlib.Core.Path.{_≡_}
 use Prim.Native.Nat.{_+_, _*_, _≤_}
 use native.Mathlib.Omega.{arith}
 use lib.ListN.{length}
-use Rattle.survey.specs.Counting.{Most}
+use Rattle.survey_counts.specs.Counting.{Most}
 use Rattle.nutrameza_survey.proofs.input.count_each.Statement.{statement}
 use Rattle.nutrameza_survey.proofs.input.count_each.Tie as tie
 
@@ -20,10 +20,11 @@ abbrev μ-loop : tie.MeasureT-loop
 loop-again : tie.Need-loop-again Inv-loop μ-loop
 loop-again c =
     let k = c .before .before .before .before .before .before in
-    let inv = k .before .before .before .before .before .before .before .loop .inv in
+    let t = k .before .before .before .before .before .before in
+    let inv = t .before .loop .inv in
     let e = k .count-some .ensures in (
       e .0,
-      omega (arith, e .1, inv .1, inv .3, k .before .before .before .before .before .before .loop-test .taken),
+      omega (arith, e .1, inv .1, inv .3, t .loop-test .taken),
       omega (arith, k .count-some .kept, inv .2),
       omega (arith, k .count-some .kept, inv .3),
       omega (arith, k .count-some .kept, inv .4),

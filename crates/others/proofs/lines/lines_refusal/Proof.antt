@@ -1,14 +1,12 @@
 -- `others::lines::lines_refusal` meets its contract. The invariant: the lines from v on refuse as all do.
 -- Assumes nothing.
-use mathlib.Core.Path.{_≡_, sym, ap, _∙_}
-use mathlib.Core.Bool.{false, true}
-use Prim.Native.Nat.{ℕ, _-_, _≤_, _<_}
+use mathlib.Core.Path.{_≡_, ap, _∙_}
+use Prim.Native.Nat.{_-_, _≤_}
 use native.Mathlib.Omega.{arith}
 use borrow.Author.Needs.{needs}
-use borrow.Author.Tests.{not-true, not-false}
 use Rattle.model.specs.declared.Head.{Head}
 use Rattle.model.specs.Policy.{Policy, meaning}
-use Rattle.model.specs.Line.{SESSIONS, lineSize, sound}
+use Rattle.model.specs.Line.{SESSIONS, lineSize}
 use Rattle.model.specs.Run.{lineOf}
 use Rattle.rows.specs.Rows.{exclusionsIn}
 use Rattle.calls.specs.Calls.{Known}
@@ -40,32 +38,31 @@ roles-of-requires c κs = omega (arith, c .before .before .before .before .befor
 returns : tie.Need-returns Inv-loop μ-loop
 unfolding lineOf
 returns c p h =
-    let l = c .before .before .before .before .before .before in
+    let t = c .before .before in
+    let l = t .before .before .before .before in
     let a = l .before .before .before .before .args in
     let v = l .loop .v in
-    let e : p .head .users ≡ a .rules .head .users = ap (λ (x : Head). x .users) (h .head-is) in
-    let m = meaning p v in
-    let s = c .before .before .sound .ensures m
-    (held (a .rules .head) (a .authorized .now) (exclusionsIn (a .xs .now) (a .rules .count)) p v _ h (omega arith) (c .before .before .before .roles-of .ensures)) in
-    let u : sound SESSIONS m (lineOf SESSIONS (a .ledger .now) v) ≡ false =
-    ap (sound SESSIONS m) (sym (c .before .before .before .before .line-of .ensures)) ∙ sym s ∙ not-true _ (c .before .if1 .taken) in
-    c .blamed .ensures ∙ lines-stop SESSIONS p (a .ledger .now) (a .user) v _ (omega arith) u ∙ l .loop .inv .1 p h
+    let e = ap (λ (x : Head). x .users) (h .head-is) in
+    let k = held (a .rules .head) (a .authorized .now) _ p v _ h (omega arith) (t .before .roles-of .ensures) in
+    c .blamed .ensures
+    ∙ lines-stop SESSIONS p (a .ledger .now) (a .user) v _ (omega arith) (t .before .before .line-of .ensures) (t .sound .ensures (meaning p v) k)
+    (c .before .if1 .taken)
+    ∙ l .loop .inv .1 p h
 
 loop-again : tie.Need-loop-again Inv-loop μ-loop
 unfolding lineOf
 loop-again c =
-    let l = c .before .before .before .before .before in
+    let t = c .before in
+    let l = t .before .before .before .before in
     let a = l .before .before .before .before .args in
     let v = l .loop .v in (
       omega arith,
       λ p h.
-          let e : p .head .users ≡ a .rules .head .users = ap (λ (x : Head). x .users) (h .head-is) in
-          let m = meaning p v in
-          let s = c .before .sound .ensures m
-          (held (a .rules .head) (a .authorized .now) (exclusionsIn (a .xs .now) (a .rules .count)) p v _ h (omega arith) (c .before .before .roles-of .ensures)) in
-          let u : sound SESSIONS m (lineOf SESSIONS (a .ledger .now) v) ≡ true =
-          ap (sound SESSIONS m) (sym (c .before .before .before .line-of .ensures)) ∙ sym s ∙ not-false _ (c .if1 .left) in
-          lines-next SESSIONS p (a .ledger .now) (a .user) v _ (omega arith) u ∙ l .loop .inv .1 p h,
+          let e = ap (λ (x : Head). x .users) (h .head-is) in
+          let k = held (a .rules .head) (a .authorized .now) _ p v _ h (omega arith) (t .before .roles-of .ensures) in
+          lines-next SESSIONS p (a .ledger .now) (a .user) v _ (omega arith) (t .before .before .line-of .ensures) (t .sound .ensures (meaning p v) k)
+          (c .if1 .left)
+          ∙ l .loop .inv .1 p h,
     )
 
 returns-2 : tie.Need-returns-2 Inv-loop μ-loop
@@ -77,17 +74,5 @@ returns-2 c p h =
 pub lines-refusal-spec : {M : Type 1} → statement M
 lines-refusal-spec =
     tie.close
-    (tie.spec
-    Inv-loop
-    μ-loop
-    (λ c. search needs)
-    loop-holds
-    line-of-requires
-    roles-of-requires
-    (λ c κs. search needs)
-    (λ c κs. search needs)
-    returns
-    (λ c. search needs)
-    (λ c. search needs)
-    loop-again
-    returns-2)
+    (tie.spec Inv-loop μ-loop (λ c. search needs) loop-holds line-of-requires roles-of-requires (λ c κs. search needs) (λ c κs. search needs)
+    returns (λ c. search needs) (λ c. search needs) loop-again returns-2)

@@ -24,18 +24,21 @@ loop-less : tie.Need-loop-less Inv-loop μ-loop
 loop-less c =
     let w = c .before .before .before .before .before in
     let l = w .before .before in
-    fewer-left (l .before .args .set) (l .loop .left) (c .without .result) (w .lowest .result .0) (l .before .fits .set .fits) (l .loop .inv .inside) (w .lowest .ensures) (c .without .ensures)
+    fewer-left (l .before .args .set) (l .loop .left) (c .without .result) (w .lowest .result .0) (l .before .fits .set .fits) (l .loop .inv .inside)
+    (w .lowest .ensures) (c .without .ensures)
 
 loop-again : tie.Need-loop-again Inv-loop μ-loop
 loop-again c =
     let w = c .before .before .before .before .before in
     let l = w .before .before in
-    joined-next _ _ _ (l .loop .left) (w .lowest .result .0) _ (l .loop .table) _ _ (l .loop .inv) (w .lowest .ensures .member) (c .without .ensures) refl (c .before .mark-row .ensures)
+    joined-next _ _ _ (l .loop .left) (w .lowest .result .0) _ (l .loop .table) _ _ (l .loop .inv) (w .lowest .ensures .member)
+    (c .without .ensures) refl (c .before .mark-row .ensures)
 
 returns : tie.Need-returns Inv-loop μ-loop
 returns c =
     let a = c .before .before .args in
-    let t = joined-end (rowsOf (a .rows .now)) (value (a .wanted)) (a .set) (c .before .loop .left) _ (c .loop-test .left) (value-lt (a .wanted) (search needs)) (c .before .loop .inv) in
+    let t = joined-end (rowsOf (a .rows .now)) (value (a .wanted)) (a .set) (c .before .loop .left) _ (c .loop-test .left)
+    (value-lt (a .wanted) (search needs)) (c .before .loop .inv) in
     (t, λ p u range carry. named-of p u (rowsOf (a .rows .now)) (c .before .loop .table) (value (a .wanted)) (a .set) range carry t)
 
 pub carriers-spec : {M : Type 1} → statement M

@@ -23,7 +23,8 @@ loop-again : tie.Need-loop-again Inv-loop μ-loop
 loop-again c =
     let w = c .before .before .before .before in
     let l = w .before .before in
-    marks-next _ _ _ _ (l .loop .left) (w .lowest .result .0) _ (l .loop .table) (l .loop .inv) (w .lowest .ensures) (c .without .ensures) (l .before .pre .0) _ _ refl (c .before .with .ensures)
+    marks-next _ _ _ _ (l .loop .left) (w .lowest .result .0) _ (l .loop .table) (l .loop .inv) (w .lowest .ensures) (c .without .ensures)
+    (l .before .pre .0) _ _ refl (c .before .with .ensures)
 
 returns : tie.Need-returns Inv-loop μ-loop
 returns c = marks-end _ _ _ _ (c .before .loop .left) (c .before .loop .table) (c .loop-test .left) (c .before .loop .inv)

@@ -7,7 +7,7 @@ use lib.ListN.{length, length-set}
 use borrow.Author.Needs.{needs}
 use Rattle.sets.specs.Words.{value}
 use Rattle.query.specs.Carry.{rowsOf}
-use Rattle.query.proofs.Bounds.{Reached, reached-none, reached-next, reached-all}
+use Rattle.query.proofs.Reach.{Reached, reached-none, reached-next, reached-all}
 use Rattle.query.proofs.carry.reach.Statement.{statement}
 use Rattle.query.proofs.carry.reach.Tie as tie
 
@@ -26,7 +26,8 @@ loop-again c =
     let l = h .before .before in (
       omega arith,
       simp length-set (l .loop .inv .1),
-      reached-next _ _ (l .loop .out) (value (l .loop .all)) (l .loop .left) (c .added .result) (h .has .result) (l .loop .inv .1) (omega arith) (omega arith) (h .has .ensures) (c .added .ensures) (l .loop .inv .2),
+      reached-next _ _ (l .loop .out) (value (l .loop .all)) (l .loop .left) (c .added .result) (h .has .result) (l .loop .inv .1) (omega arith)
+          (omega arith) (h .has .ensures) (c .added .ensures) (l .loop .inv .2),
     )
 
 returns : tie.Need-returns Inv-loop μ-loop

@@ -18,7 +18,8 @@ loop-less : tie.Need-loop-less Inv-loop μ-loop
 loop-less c =
     let w = c .before .before .before .before .before in
     let l = w .before .before in
-    fewer-left (l .before .args .set) (l .loop .left) (c .without .result) (w .lowest .result .0) (l .before .fits .set .fits) (l .loop .inv .inside) (w .lowest .ensures) (c .without .ensures)
+    fewer-left (l .before .args .set) (l .loop .left) (c .without .result) (w .lowest .result .0) (l .before .fits .set .fits) (l .loop .inv .inside)
+    (w .lowest .ensures) (c .without .ensures)
 
 loop-again : tie.Need-loop-again Inv-loop μ-loop
 loop-again c =

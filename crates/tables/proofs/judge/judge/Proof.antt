@@ -1,7 +1,6 @@
 -- `tables::judge::judge` meets its contract.
 -- Assumes nothing.
 use mathlib.Core.Path.{refl}
-use borrow.Author.Needs.{needs}
 use Rattle.model.specs.Image.{emptyRows}
 use Rattle.tables.proofs.Fills.{words-fit, read-judged}
 use Rattle.tables.proofs.judge.judge.Statement.{statement}

@@ -9,19 +9,17 @@ use Rattle.tables.proofs.read.gather.Statement.{statement}
 use Rattle.tables.proofs.read.gather.Tie as tie
 
 returns : tie.Need-returns
-returns c =
-    (c .refused .ensures ∙ sym (odd-length (c .before .before .before .args .image .now) (c .before .if1 .taken)), λ g e. never _ _ g (sym (c .refused .ensures) ∙ e))
+returns c = (c .refused .ensures ∙ sym (odd-length _ (c .before .if1 .taken)), λ g e. never _ _ g (sym (c .refused .ensures) ∙ e))
 
 returns-2 : tie.Need-returns-2
 returns-2 c = (
-  c .refused2 .ensures ∙ sym (short-length (c .before .before .before .before .args .image .now) (c .before .before .if1 .left) (c .before .if2 .taken)),
+  c .refused2 .ensures ∙ sym (short-length _ (c .before .before .if1 .left) (c .before .if2 .taken)),
   λ g e. never _ _ g (sym (c .refused2 .ensures) ∙ e),
 )
 
 returns-3 : tie.Need-returns-3
 returns-3 c = (
-  c .refused3 .ensures
-      ∙ sym (long-length (c .before .before .before .before .before .args .image .now) (c .before .before .before .if1 .left) (c .before .before .if2 .left) (c .before .if3 .taken)),
+  c .refused3 .ensures ∙ sym (long-length _ (c .before .before .before .if1 .left) (c .before .before .if2 .left) (c .before .if3 .taken)),
   λ g e. never _ _ g (sym (c .refused3 .ensures) ∙ e),
 )
 
@@ -50,17 +48,5 @@ returns-5 c =
 pub gather-spec : {M : Type 1} → statement M
 gather-spec =
     tie.close
-    (tie.spec
-    (λ c κs. search needs)
-    returns
-    (λ c κs. search needs)
-    returns-2
-    (λ c κs. search needs)
-    returns-3
-    (λ c κs. search needs)
-    (λ c κs. search needs)
-    (λ c κs. search needs)
-    (λ c κs. search needs)
-    returns-4
-    (λ c κs. search needs)
-    returns-5)
+    (tie.spec (λ c κs. search needs) returns (λ c κs. search needs) returns-2 (λ c κs. search needs) returns-3 (λ c κs. search needs)
+    (λ c κs. search needs) (λ c κs. search needs) (λ c κs. search needs) returns-4 (λ c κs. search needs) returns-5)

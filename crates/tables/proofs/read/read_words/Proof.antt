@@ -12,11 +12,12 @@ use Rattle.model.specs.declared.Scan.{Scan}
 use Rattle.model.specs.declared.Checked.the-variants.{Refused}
 use Rattle.model.specs.Image.{wordAt, assigning, scan, start}
 use Rattle.model.specs.Policy.{entriesFrom, fold, granting, ordering, limiting}
-use Rattle.tables.specs.Tables.{exclusionAt}
-use Rattle.image.proofs.Turns.{due-of, stops, goes, sum-right, sum-wrong, fold-next}
+use Rattle.tables_exclusions.specs.Exclusions.{exclusionAt}
+use Rattle.image.proofs.Turns.{due-of, stops, goes}
+use Rattle.image_words.proofs.Folds.{fold-next}
 use Rattle.image.proofs.Judged.{never}
 use Rattle.tables.proofs.Places.{placesFrom, exclusions-placed, places-next, length-noted, noted-below, none-noted, next-few}
-use Rattle.tables.proofs.Last.{before-last, at-last, fold-last, places-last, scan-last}
+use Rattle.tables.proofs.Last.{before-last, at-last, fold-last, places-last, last-right, last-wrong}
 use Rattle.tables.proofs.read.read_words.Statement.{statement}
 use Rattle.tables.proofs.read.read_words.Tie as tie
 
@@ -35,7 +36,9 @@ abbrev μ-loop : tie.MeasureT-loop
 
 loop-holds : tie.Need-loop-holds Inv-loop μ-loop
 unfolding start
-loop-holds c = (omega arith, omega arith, refl, omega arith, refl, none-noted 32 (c .before .args .words) (omega (arith, c .before .pre .1)), refl, refl, refl, refl, refl)
+loop-holds c =
+    let two = c .before .pre .1 in
+    (omega arith, omega arith, refl, omega arith, refl, none-noted 32 (c .before .args .words) (omega (arith, two)), refl, refl, refl, refl, refl)
 
 returns : tie.Need-returns Inv-loop μ-loop
 returns c =
@@ -43,13 +46,13 @@ returns c =
     let d = f .before .before .before .before .before .before in
     let w = d .before in
     let l = w .before .before in
-    let a = l .before .before .args in (
+    let a = l .before .before .args in
+    let in-loop = w .before .loop-test .taken in
+    let more : l .loop .place + 1 < a .words = omega (arith, in-loop) in
+    let lt : l .loop .place < a .words = omega (arith, in-loop) in
+    let e = before-last _ _ _ _ _ _ _ more (f .step .ensures .faulty) in (
       c .refused .ensures
-          ∙ stops (a .image .now) (a .h) (a .words) (l .loop .place) (l .loop .assigned) (l .loop .t) (l .loop .sum) (w .word-at .result) (d .decode .result) (f .step .result)
-          (omega (arith, w .before .loop-test .taken)) (w .word-at .ensures) (d .decode .ensures .0)
-          (before-last (a .h) (l .loop .assigned) (l .loop .t) (d .decode .result) (a .words) (l .loop .place) (f .step .result) (omega (arith, w .before .loop-test .taken)) (f .step .ensures .faulty))
-          (c .before .if1 .taken)
-          ∙ l .loop .inv .2,
+          ∙ stops _ _ _ _ _ _ _ _ _ _ lt (w .word-at .ensures) (d .decode .ensures .0) e _ (c .before .if1 .taken) (l .loop .inv .2),
       λ g e. never _ _ g (sym (c .refused .ensures) ∙ e),
     )
 
@@ -57,8 +60,7 @@ next-requires : tie.Need-next-requires Inv-loop μ-loop
 next-requires c κs =
     let f = c .before in
     let d = f .before .before .before .before .before .before in
-    let l = d .before .before .before in
-    (d .decode .ensures .1, due-of (l .before .before .args .h) (l .loop .assigned) (l .loop .t) _ (d .decode .result) (f .step .result) (f .step .ensures .faulty) (c .if1 .left))
+    (d .decode .ensures .1, due-of _ _ _ _ _ _ (f .step .ensures .faulty) (c .if1 .left))
 
 loop-again : tie.Need-loop-again Inv-loop μ-loop
 loop-again c =
@@ -67,38 +69,27 @@ loop-again c =
     let w = d .before in
     let l = w .before .before in
     let a = l .before .before .args in
-    let e = d .decode .result .entry in
     let z = c .before .before .if1 .left in
     let in-loop = w .before .loop-test .taken in
-    let lt = let j : l .loop .place < a .words = omega (arith, in-loop) in j in
-    let due = due-of (a .h) (l .loop .assigned) (l .loop .t) _ (d .decode .result) (f .step .result) (f .step .ensures .faulty) z in
-    let noted = f .step .ensures .places-is z in (
+    let more : l .loop .place + 1 < a .words = omega (arith, in-loop) in
+    let lt : l .loop .place < a .words = omega (arith, in-loop) in
+    let ew = w .word-at .ensures in
+    let ed = d .decode .ensures .0 in
+    let s = f .step .ensures in
+    let due = due-of _ _ _ _ _ _ (s .faulty) z in
+    let noted = s .places-is z in (
       omega (arith, l .loop .inv .0),
       omega (arith, in-loop),
-      goes (a .image .now) (a .h) (a .words) (l .loop .place) (l .loop .assigned) (l .loop .t) (l .loop .sum) (w .word-at .result) (d .decode .result) (f .step .result)
-          lt (w .word-at .ensures) (d .decode .ensures .0)
-          (before-last (a .h) (l .loop .assigned) (l .loop .t) (d .decode .result) (a .words) (l .loop .place) (f .step .result) (omega (arith, in-loop)) (f .step .ensures .faulty)) z
-          _ _ _ (f .step .ensures .assigned-is z) (c .before .next .ensures) (c .wrapping-add-u32 .ensures)
-          ∙ l .loop .inv .2,
-      subst (λ (x : Scan). x .exclusions ≤ 32) (sym (c .before .next .ensures)) (next-few (l .loop .t) e due (l .loop .inv .3)),
-      ap length noted ∙ length-noted (l .loop .place) (l .loop .t .exclusions) (l .loop .places) e ∙ l .loop .inv .4,
-      λ j. subst (λ (v : List ℕ). getD v j 0 < a .words) (sym noted)
-          (noted-below (a .words) (l .loop .place) (l .loop .t .exclusions) (l .loop .places) e lt (l .loop .inv .5) j),
-      fold-next assigning (a .image .now) (a .words) (l .loop .place) (l .loop .assigned) (w .word-at .result) (d .decode .result) _ lt (w .word-at .ensures)
-          (d .decode .ensures .0) (f .step .ensures .assigned-is z)
-          ∙ l .loop .inv .6,
-      fold-next granting (a .image .now) (a .words) (l .loop .place) (values (l .loop .granted)) (w .word-at .result) (d .decode .result) _ lt (w .word-at .ensures)
-          (d .decode .ensures .0) (f .step .ensures .granted-is z)
-          ∙ l .loop .inv .7,
-      fold-next ordering (a .image .now) (a .words) (l .loop .place) (l .loop .juniors) (w .word-at .result) (d .decode .result) _ lt (w .word-at .ensures)
-          (d .decode .ensures .0) (f .step .ensures .juniors-is z)
-          ∙ l .loop .inv .8,
-      fold-next limiting (a .image .now) (a .words) (l .loop .place) (l .loop .limits) (w .word-at .result) (d .decode .result) _ lt (w .word-at .ensures)
-          (d .decode .ensures .0) (f .step .ensures .limits-is z)
-          ∙ l .loop .inv .9,
-      places-next (a .image .now) (a .words) (l .loop .place) (l .loop .t) (l .loop .places) (w .word-at .result) (d .decode .result) _ _ lt (l .loop .inv .4)
-          (w .word-at .ensures) (d .decode .ensures .0) due (c .before .next .ensures) noted
-          ∙ l .loop .inv .10,
+      goes _ _ _ _ _ _ _ _ _ _ lt ew ed (before-last _ _ _ _ _ _ _ more (s .faulty)) _ z _ _ _ (s .assigned-is z) (c .before .next .ensures)
+          (c .wrapping-add-u32 .ensures) (l .loop .inv .2),
+      subst (λ (x : Scan). x .exclusions ≤ 32) (sym (c .before .next .ensures)) (next-few (l .loop .t) _ due (l .loop .inv .3)),
+      ap length noted ∙ length-noted _ _ _ _ ∙ l .loop .inv .4,
+      λ j. subst (λ (v : List ℕ). getD v j 0 < a .words) (sym noted) (noted-below _ _ _ _ _ lt (l .loop .inv .5) j),
+      fold-next _ _ _ _ _ _ _ _ _ lt ew ed (s .assigned-is z) (l .loop .inv .6),
+      fold-next _ _ _ _ _ _ _ _ _ lt ew ed (s .granted-is z) (l .loop .inv .7),
+      fold-next _ _ _ _ _ _ _ _ _ lt ew ed (s .juniors-is z) (l .loop .inv .8),
+      fold-next _ _ _ _ _ _ _ _ _ lt ew ed (s .limits-is z) (l .loop .inv .9),
+      places-next _ _ _ _ _ _ _ _ _ lt (l .loop .inv .4) ew ed due (c .before .next .ensures) noted ∙ l .loop .inv .10,
     )
 
 -- where the loop ends is the place of the last word
@@ -115,14 +106,13 @@ returns-2 c =
     let l = w .before .before in
     let a = l .before .before .args in
     let p = last-place _ _ (l .before .before .pre .1) (l .loop .inv .1) (w .before .loop-test .left) in
-    let q = end-place _ _ p in (
+    let q = end-place _ _ p in
+    let lt : l .loop .place < a .words = omega (arith, p) in
+    let e = at-last _ _ _ _ _ _ _ p (f .end-fault .ensures .0 (a .h) (l .loop .assigned) (l .loop .t) refl) in (
       c .refused2 .ensures
           ∙ ap (Refused (f .end-fault .result)) q
-          ∙ stops (a .image .now) (a .h) (a .words) (l .loop .place) (l .loop .assigned) (l .loop .t) (l .loop .sum) (w .word-at2 .result) (f .before .decode2 .result) (f .end-fault .result)
-          (omega (arith, p)) (w .word-at2 .ensures ∙ ap (wordAt (a .image .now)) q) (f .before .decode2 .ensures .0)
-          (at-last (a .h) (l .loop .assigned) (l .loop .t) (f .before .decode2 .result) (a .words) (l .loop .place) (f .end-fault .result) p
-          (f .end-fault .ensures .0 (a .h) (l .loop .assigned) (l .loop .t) refl)) (c .before .if2 .taken)
-          ∙ l .loop .inv .2,
+          ∙ stops _ _ _ _ _ _ _ _ _ _ lt (w .word-at2 .ensures ∙ ap (wordAt (a .image .now)) q) (f .before .decode2 .ensures .0) e _ (c .before .if2 .taken)
+          (l .loop .inv .2),
       λ g e. never _ _ g (sym (c .refused2 .ensures) ∙ e),
     )
 
@@ -134,19 +124,19 @@ returns-3 c =
     let l = w .before .before in
     let a = l .before .before .args in
     let z = u .before .if2 .left in
-    let p = last-place _ _ (l .before .before .pre .1) (l .loop .inv .1) (w .before .loop-test .left) in (
+    let p = last-place _ _ (l .before .before .pre .1) (l .loop .inv .1) (w .before .loop-test .left) in
+    let ew = w .word-at2 .ensures ∙ ap (wordAt (a .image .now)) (end-place _ _ p) in
+    let ef = f .end-fault .ensures .0 (a .h) (l .loop .assigned) (l .loop .t) refl in (
       c .refused3 .ensures
-          ∙ sym (sum-wrong (a .h) (a .words) (u .wrapping-add-u322 .result) (c .before .if3 .taken))
-          ∙ scan-last (a .image .now) (a .words) (l .loop .place) (w .word-at2 .result) (f .before .decode2 .result) p (w .word-at2 .ensures ∙ ap (wordAt (a .image .now)) (end-place _ _ p))
-          (f .before .decode2 .ensures .0) (f .end-fault .ensures .1 z) (a .h) (l .loop .assigned) (l .loop .t) (f .end-fault .result)
-          (f .end-fault .ensures .0 (a .h) (l .loop .assigned) (l .loop .t) refl) z (l .loop .sum) _ (u .wrapping-add-u322 .ensures)
-          ∙ l .loop .inv .2,
+          ∙ last-wrong _ _ _ _ _ p ew (f .before .decode2 .ensures .0) (f .end-fault .ensures .1 z) _ _ _ _ ef z _ _ _ (u .wrapping-add-u322 .ensures)
+          (l .loop .inv .2) (c .before .if3 .taken),
       λ g e. never _ _ g (sym (c .refused3 .ensures) ∙ e),
     )
 
 exclusions-at-requires : tie.Need-exclusions-at-requires Inv-loop μ-loop
 exclusions-at-requires c κs =
-    let l = c .before .before .before .before .before .before .before .before .before .before in
+    let u = c .before .before .before .before in
+    let l = u .before .before .before .before .before .before in
     let a = l .before .before in
     (a .pre .0, a .pre .2, l .loop .inv .3, l .loop .inv .4, l .loop .inv .5, a .pre .3)
 
@@ -166,19 +156,16 @@ returns-4 c =
     let ed = f .before .decode2 .ensures .0 in
     let ee = f .end-fault .ensures .1 z in
     let ef = f .end-fault .ensures .0 (a .h) (l .loop .assigned) (l .loop .t) refl in (
-      sym (sum-right (a .h) (a .words) (u .wrapping-add-u322 .result) (c .before .before .before .before .if3 .left))
-          ∙ scan-last s (a .words) (l .loop .place) (w .word-at2 .result) (f .before .decode2 .result) p ew ed ee (a .h) (l .loop .assigned) (l .loop .t) (f .end-fault .result) ef z
-          (l .loop .sum) _ (u .wrapping-add-u322 .ensures)
-          ∙ l .loop .inv .2,
+      last-right _ _ _ _ _ p ew ed ee _ _ _ _ ef z _ _ _ (u .wrapping-add-u322 .ensures) (l .loop .inv .2) (c .before .before .before .before .if3 .left),
       λ g e. record {
-        assigned-is = fold-last s (a .words) (l .loop .place) _ _ p ew ed ee assigning (l .loop .assigned) refl ∙ l .loop .inv .6;
-        granted-is = fold-last s (a .words) (l .loop .place) _ _ p ew ed ee granting (values (l .loop .granted)) refl ∙ l .loop .inv .7;
-        juniors-is = fold-last s (a .words) (l .loop .place) _ _ p ew ed ee ordering (l .loop .juniors) refl ∙ l .loop .inv .8;
-        limits-is = fold-last s (a .words) (l .loop .place) _ _ p ew ed ee limiting (l .loop .limits) refl ∙ l .loop .inv .9;
+        assigned-is = fold-last _ _ _ _ _ p ew ed ee assigning _ _ refl (l .loop .inv .6);
+        granted-is = fold-last _ _ _ _ _ p ew ed ee granting _ _ refl (l .loop .inv .7);
+        juniors-is = fold-last _ _ _ _ _ p ew ed ee ordering _ _ refl (l .loop .inv .8);
+        limits-is = fold-last _ _ _ _ _ p ew ed ee limiting _ _ refl (l .loop .inv .9);
         exclusions-are =
             x .ensures .0
             ∙ ap (map (exclusionAt s (a .words)))
-            (places-last s (a .words) (l .loop .place) _ _ p ew ed ee (a .h) (l .loop .assigned) (l .loop .t) (f .end-fault .result) ef z (l .loop .places) (l .loop .inv .4) ∙ l .loop .inv .10)
+            (places-last _ _ _ _ _ p ew ed ee _ _ _ _ ef z (l .loop .places) (l .loop .inv .4) ∙ l .loop .inv .10)
             ∙ sym (exclusions-placed s (a .words) (a .words - 1) 1 (omega (arith, l .before .before .pre .1)));
         few = l .loop .inv .3;
         full = x .ensures .1;
@@ -188,32 +175,7 @@ returns-4 c =
 pub read-words-spec : {M : Type 1} → statement M
 read-words-spec =
     tie.close
-    (tie.spec
-    Inv-loop
-    μ-loop
-    (λ c. search needs)
-    loop-holds
-    (λ c κs. search needs)
-    (λ c κs. search needs)
-    (λ c κs. search needs)
-    (λ c. search needs)
-    (λ c κs. search needs)
-    returns
-    next-requires
-    (λ c κs. search needs)
-    (λ c. search needs)
-    (λ c. search needs)
-    loop-again
-    (λ c κs. search needs)
-    (λ c κs. search needs)
-    (λ c κs. search needs)
-    (λ c. search needs)
-    (λ c κs. search needs)
-    returns-2
-    (λ c κs. search needs)
-    (λ c. search needs)
-    (λ c κs. search needs)
-    returns-3
-    (λ c. search needs)
-    exclusions-at-requires
-    returns-4)
+    (tie.spec Inv-loop μ-loop (λ c. search needs) loop-holds (λ c κs. search needs) (λ c κs. search needs) (λ c κs. search needs)
+    (λ c. search needs) (λ c κs. search needs) returns next-requires (λ c κs. search needs) (λ c. search needs) (λ c. search needs) loop-again
+    (λ c κs. search needs) (λ c κs. search needs) (λ c κs. search needs) (λ c. search needs) (λ c κs. search needs) returns-2 (λ c κs. search needs)
+    (λ c. search needs) (λ c κs. search needs) returns-3 (λ c. search needs) exclusions-at-requires returns-4)

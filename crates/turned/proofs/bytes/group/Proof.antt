@@ -6,7 +6,7 @@ use native.Mathlib.Omega.{arith}
 use borrow.Author.Needs.{needs}
 use lib.ListN.{length, getD}
 use Rattle.octets.specs.Splice.{numberAt}
-use Rattle.turned.proofs.Rows.{fill-next}
+use Rattle.turned_words.proofs.SetTests.{fill-next}
 use Rattle.turned.proofs.bytes.group.Statement.{statement}
 use Rattle.turned.proofs.bytes.group.Tie as tie
 
@@ -15,9 +15,6 @@ Inv-loop source w out₀ i₀ out i = (i ≤ 64) × (length out ≡ 64) × ((j :
 
 abbrev μ-loop : tie.MeasureT-loop
 μ-loop source w out₀ i₀ out i = 64 - i
-
-loop-holds : tie.Need-loop-holds Inv-loop μ-loop
-loop-holds c = (search needs, search needs, λ i h. absurd (omega arith))
 
 loop-again : tie.Need-loop-again Inv-loop μ-loop
 loop-again c =
@@ -29,11 +26,9 @@ loop-again c =
           (search needs) (l .loop .inv .2) (c .get-u64 .ensures),
     )
 
-returns : tie.Need-returns Inv-loop μ-loop
-returns c = λ r h. c .before .loop .inv .2 r (omega arith)
-
 pub group-spec : {M : Type 1} → statement M
 group-spec =
     tie.close
-    (tie.spec Inv-loop μ-loop loop-holds (λ c. search needs) (λ c. search needs) (λ c. search needs) (λ c κs. search needs) (λ c. search needs)
-    (λ c. search needs) (λ c. search needs) (λ c. search needs) loop-again returns)
+    (tie.spec Inv-loop μ-loop (λ c. (search needs, search needs, λ i h. absurd (omega arith))) (λ c. search needs)
+    (λ c. search needs) (λ c. search needs) (λ c κs. search needs) (λ c. search needs) (λ c. search needs) (λ c. search needs)
+    (λ c. search needs) loop-again (λ c. λ r h. c .before .loop .inv .2 r (omega arith)))

@@ -5,8 +5,5 @@ use Rattle.turned.proofs.Parts.{part-is}
 use Rattle.turned.proofs.bytes.part.Statement.{statement}
 use Rattle.turned.proofs.bytes.part.Tie as tie
 
-returns : tie.Need-returns
-returns c = search (needs, part-is)
-
 pub part-spec : {M : Type 1} → statement M
-part-spec = tie.close (tie.spec (λ c κs. search needs) (λ c κs. search needs) returns)
+part-spec = tie.close (tie.spec (λ c κs. search needs) (λ c κs. search needs) (λ c. search (needs, part-is)))

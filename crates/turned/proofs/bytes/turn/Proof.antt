@@ -5,7 +5,7 @@ use Prim.Native.Nat.{_≤_, _-_}
 use native.Mathlib.Omega.{arith}
 use borrow.Author.Needs.{needs}
 use lib.ListN.{length}
-use Rattle.model.proofs.RoundTrip.{are-bytes}
+use Rattle.model_laws.proofs.RoundTrip.{are-bytes}
 use Rattle.turned.proofs.Words.{turnedTo, turn-start, turn-next, turn-last}
 use Rattle.turned.proofs.bytes.turn.Statement.{statement}
 use Rattle.turned.proofs.bytes.turn.Tie as tie
@@ -21,13 +21,11 @@ loop-holds c = (search needs, search needs, turn-start (c .before .before .args 
 
 loop-again : tie.Need-loop-again Inv-loop μ-loop
 loop-again c =
-    let known = c .before .before .before .before .before .before .before .before .before .before .before in
+    let words = c .before .before .before .before .before .before in
+    let known = words .before .before .before .before .before in
     let source = known .before .args .source .now in
     let bytes = are-bytes source (λ i h. omega (arith, known .shared-slice-known .given i)) in
     (search needs, search needs, search (needs, turn-next source (known .before .args .target .now) bytes))
-
-same-length : tie.Need-same-length Inv-loop μ-loop
-same-length c = search needs
 
 returns : tie.Need-returns Inv-loop μ-loop
 returns c =
@@ -38,4 +36,4 @@ pub turn-spec : {M : Type 1} → statement M
 turn-spec =
     tie.close
     (tie.spec Inv-loop μ-loop loop-holds (λ c κs. search needs) (λ c κs. search needs) (λ c. search needs) (λ c. search needs)
-    (λ c κs. search needs) (λ c. search needs) (λ c. search needs) loop-again same-length returns)
+    (λ c κs. search needs) (λ c. search needs) (λ c. search needs) loop-again (λ c. search needs) returns)

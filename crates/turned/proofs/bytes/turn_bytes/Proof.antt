@@ -1,31 +1,17 @@
 -- `turned::bytes::turn_bytes` meets its contract.
 -- Assumes nothing.
-use mathlib.Core.Path.{sym, _∙_}
 use borrow.Author.Needs.{needs}
-use borrow.Author.Tests.{not-true, not-false}
 use Rattle.turned.proofs.CallProof.{source-size, target-size, turn-19, turn-done}
 use Rattle.turned.proofs.bytes.turn_bytes.Statement.{statement}
 use Rattle.turned.proofs.bytes.turn_bytes.Tie as tie
 
-returns : tie.Need-returns
-returns c =
-    let a = c .before .before .before .before .args in
-    let e = turn-19 (a .source .now) (a .target .now) (sym (c .before .sized .ensures) ∙ not-true _ (c .if1 .taken)) in
-    (e .number, e .bytes)
-
-turn-requires : tie.Need-turn-requires
-turn-requires c κs =
-    let s = c .before .before in
-    let a = s .before .before .before .args in
-    let e = sym (s .sized .ensures) ∙ not-false _ (c .before .if1 .left) in
-    (source-size (a .source .now) (a .target .now) e, target-size (a .source .now) (a .target .now) e)
-
 returns-2 : tie.Need-returns-2
 returns-2 c =
     let i = c .before .before .before .before in
-    let a = i .before .before .before .before .args in
-    let e = turn-done (a .source .now) (a .target .now) (sym (i .before .sized .ensures) ∙ not-false _ (i .if1 .left)) _ (c .before .before .turn .ensures) in
-    (e .number, e .bytes)
+    turn-done _ _ (i .before .sized .ensures) (i .if1 .left) _ (c .before .before .turn .ensures)
 
 pub turn-bytes-spec : {M : Type 1} → statement M
-turn-bytes-spec = tie.close (tie.spec (λ c κs. search needs) returns turn-requires (λ c. search needs) returns-2)
+turn-bytes-spec =
+    tie.close
+    (tie.spec (λ c κs. search needs) (λ c. turn-19 _ _ (c .before .sized .ensures) (c .if1 .taken))
+    (λ c κs. search (needs, source-size, target-size)) (λ c. search needs) returns-2)

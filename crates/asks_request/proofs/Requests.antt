@@ -1,0 +1,258 @@
+-- The refusals of an ask before the search, case by case, and what holds where there is none.
+-- Assumes nothing.
+use mathlib.Core.Path.{_≡_, refl, sym, ap, subst, _∙_}
+use mathlib.Core.Bool.{Bool, true, false, not, _&&_, _||_}
+use mathlib.Core.Option.{none}
+use mathlib.Core.List.{List, []}
+use Prim.Native.Nat.{ℕ, zero, suc, _+_, _*_, _^_, _≤_, _<_}
+use native.Mathlib.Omega.{arith}
+use lib.Dec.{eqb, ltb, leb}
+use lib.ListN.{length, take}
+use borrow.Table.Steps.{cases}
+use borrow.Author.Tests.{not-true, not-false, le-leb, lt-leb, leb-false, lt-ltb, le-ltb, ltb-false, eq-eqb, ne-eqb, eqb-true}
+use Rattle.model.specs.declared.Head.{Head}
+use Rattle.model.specs.declared.Exclusions.{Exclusions}
+use Rattle.model.specs.declared.Line.{Line}
+use Rattle.model.specs.Tests.{pick}
+use Rattle.model.specs.Sets.{within}
+use Rattle.model.specs.Bytes.{number}
+use Rattle.model.specs.Policy.{Policy}
+use Rattle.model.specs.Line.{lineSize, isOpen}
+use Rattle.model.specs.Session.{isAsk}
+use Rattle.model.specs.Run.{Call, lineOf, told}
+use Rattle.model_laws.proofs.Reaches.{authorized-alone}
+use Rattle.model_laws.proofs.Bools.{and-l, and-r, or-l, or-r, not-both}
+use Rattle.calls.specs.Calls.{Known, firstRefusal}
+use Rattle.others.specs.Lines.{othersRefusal}
+use Rattle.asks_request.specs.Refusals.{orElse, sessionRefusal, boundsRefusal, queryRefusal, askRefusal, limitedRefusal}
+use Rattle.calls.proofs.FirstSteps.{pick-none, Ready, ready, room as first-room}
+use Rattle.others.proofs.Blaming.{others-quiet}
+
+-- ---- one refusal before others
+pub or-first : (n a b : ℕ) → n ≡ a → (n ≡ 0 → ⊥) → n ≡ orElse a b
+unfolding orElse
+or-first n zero b e z = absurd (z e)
+or-first n (suc a) b e z = e
+
+pub or-second : (n a m b : ℕ) → n ≡ a → n ≡ 0 → m ≡ b → m ≡ orElse a b
+unfolding orElse
+or-second n zero m b e z f = f
+or-second n (suc a) m b e z f = absurd (omega arith)
+
+-- none of them
+or-none : (a b : ℕ) → 0 ≡ orElse a b → (0 ≡ a) × (0 ≡ b)
+unfolding orElse
+or-none zero b e = (refl, e)
+or-none (suc a) b e = absurd (omega arith)
+
+-- ---- 12 and 13
+module _ (W : ℕ) (l : Line) (k : ℕ) where
+  pub session12 : W ≤ k → 12 ≡ sessionRefusal W l k
+  unfolding sessionRefusal pick
+  session12 h = simp (le-leb _ _ h)
+
+  module _ (h : k < W) (o : Bool) (e : o ≡ isOpen l k) where
+    pub session13 : not o ≡ true → 13 ≡ sessionRefusal W l k
+    unfolding sessionRefusal pick
+    session13 t = simp (lt-leb _ _ h, sym e ∙ not-true o t)
+
+    pub session0 : not o ≡ false → 0 ≡ sessionRefusal W l k
+    unfolding sessionRefusal pick
+    session0 t = simp (lt-leb _ _ h, sym e ∙ not-false o t)
+
+  -- the session is one of the W and open
+  pub record Session : Type 0 where
+    pub below : k < W
+    pub opened : isOpen l k ≡ true
+
+  session-open : 0 ≡ sessionRefusal W l k → Session
+  unfolding sessionRefusal
+  session-open h =
+      let x = pick-none _ 11 _ h in
+      let y = pick-none _ 12 _ (x .1) in
+      record { below = leb-false _ _ (x .0); opened = not-false _ (y .0) }
+
+-- ---- 16 to 19, by the tests that code makes one after the other
+module _ (P lower upper a b room : ℕ) (x : Bool) (ex : x ≡ ltb lower (2 ^ P)) where
+  pub bounds16-lower : not x ≡ true → 16 ≡ boundsRefusal P lower upper a b room
+  unfolding boundsRefusal pick
+  bounds16-lower e = simp (sym ex ∙ not-true x e)
+
+  module _ (e : not x ≡ false) (y : Bool) (ey : y ≡ ltb upper (2 ^ P)) where
+    pub bounds16-upper : not y ≡ true → 16 ≡ boundsRefusal P lower upper a b room
+    unfolding boundsRefusal pick
+    bounds16-upper f = simp (sym ex ∙ not-false x e, sym ey ∙ not-true y f)
+
+    module _ (f : not y ≡ false) (z : Bool) (ez : z ≡ within lower upper) where
+      pub bounds17 : not z ≡ true → 17 ≡ boundsRefusal P lower upper a b room
+      unfolding boundsRefusal pick
+      bounds17 g = simp (sym ex ∙ not-false x e, sym ey ∙ not-false y f, sym ez ∙ not-true z g)
+
+      module _ (g : not z ≡ false) where
+        -- the bounds are right: the objectives and the buffer are left
+        nested : boundsRefusal P lower upper a b room ≡ pick (ltb 2 a || ltb 2 b) 18 (pick (not (eqb room 40)) 19 0)
+        unfolding boundsRefusal pick
+        nested = simp (sym ex ∙ not-false x e, sym ey ∙ not-false y f, sym ez ∙ not-false z g)
+
+        pub bounds18-first : 2 < a → 18 ≡ boundsRefusal P lower upper a b room
+        unfolding pick
+        bounds18-first h = rw nested (simp (lt-ltb 2 a h))
+
+        pub bounds18-second : a ≤ 2 → 2 < b → 18 ≡ boundsRefusal P lower upper a b room
+        unfolding pick
+        bounds18-second h i = rw nested (simp (le-ltb 2 a h, lt-ltb 2 b i))
+
+        pub bounds19 : a ≤ 2 → b ≤ 2 → (room ≡ 40 → ⊥) → 19 ≡ boundsRefusal P lower upper a b room
+        unfolding pick
+        bounds19 h i r = rw nested (simp (le-ltb 2 a h, le-ltb 2 b i, ne-eqb room 40 r))
+
+        pub bounds0 : a ≤ 2 → b ≤ 2 → room ≡ 40 → 0 ≡ boundsRefusal P lower upper a b room
+        unfolding pick
+        bounds0 h i r = rw nested (simp (le-ltb 2 a h, le-ltb 2 b i, eq-eqb room 40 r))
+
+-- ---- 15, and the bounds behind it
+module _ (P : ℕ) (lower upper : List ℕ) (a b room : ℕ) where
+  pub query15-lower : (length lower ≡ 32 → ⊥) → 15 ≡ queryRefusal P lower upper a b room
+  unfolding queryRefusal pick
+  query15-lower h = simp (ne-eqb _ _ h)
+
+  pub query15-upper : length lower ≡ 32 → (length upper ≡ 32 → ⊥) → 15 ≡ queryRefusal P lower upper a b room
+  unfolding queryRefusal pick
+  query15-upper h i = simp (eq-eqb _ _ h, ne-eqb _ _ i)
+
+  pub query-bounds : (n x y : ℕ) → length lower ≡ 32 → length upper ≡ 32 → x ≡ number lower → y ≡ number upper
+      → n ≡ boundsRefusal P x y a b room → n ≡ queryRefusal P lower upper a b room
+  unfolding queryRefusal pick
+  query-bounds n x y h i e f g = simp (eq-eqb _ _ h, eq-eqb _ _ i) (rw (← e, ← f) g)
+
+  -- nothing about the query refuses it: the tests of 15 to 19
+  pub record Query : Type 0 where
+    pub lengths : (eqb (length lower) 32 && eqb (length upper) 32) ≡ true
+    pub permissions : (ltb (number lower) (2 ^ P) && ltb (number upper) (2 ^ P)) ≡ true
+    pub nested : within (number lower) (number upper) ≡ true
+    pub aims : (ltb 2 a || ltb 2 b) ≡ false
+    pub space : eqb room 40 ≡ true
+
+  query-right : 0 ≡ queryRefusal P lower upper a b room → Query
+  unfolding queryRefusal boundsRefusal
+  query-right h =
+      let s = pick-none _ 14 _ h in
+      let t = pick-none _ 15 _ (s .1) in
+      let w = pick-none _ 16 _ (t .1) in
+      let x = pick-none _ 17 _ (w .1) in
+      let r = pick-none _ 18 _ (x .1) in
+      record {
+        lengths = not-false _ (s .0);
+        permissions = not-false _ (t .0);
+        nested = not-false _ (w .0);
+        aims = x .0;
+        space = not-false _ (r .0);
+      }
+
+  -- what the tests say
+  module _ (q : Query) where
+    lower-32 : length lower ≡ 32
+    lower-32 = eqb-true _ _ (and-l (eqb (length lower) 32) (eqb (length upper) 32) (q .lengths))
+
+    upper-32 : length upper ≡ 32
+    upper-32 = eqb-true _ _ (and-r (eqb (length lower) 32) (eqb (length upper) 32) (q .lengths))
+
+    room-40 : room ≡ 40
+    room-40 = eqb-true _ _ (q .space)
+
+    first-small : a ≤ 2
+    first-small = cases (ltb 2 a) (λ e. not-both (ltb 2 a || ltb 2 b) (or-l (ltb 2 a) (ltb 2 b) e) (q .aims)) (λ e. ltb-false 2 a e)
+
+    second-small : b ≤ 2
+    second-small = cases (ltb 2 b) (λ e. not-both (ltb 2 a || ltb 2 b) (or-r (ltb 2 a) (ltb 2 b) e) (q .aims)) (λ e. ltb-false 2 b e)
+
+-- ---- the whole
+module _ (W : ℕ) (p : Policy) (ledger : List ℕ) (u k : ℕ) (lower upper : List ℕ) (a b room : ℕ) where
+  -- an ask that nothing before the search refuses
+  pub record AskReady : Type 0 where
+    pub first : Ready W p ledger u
+    pub session : Session W (lineOf W ledger u) k
+    pub query : Query (p .head .permissions) lower upper a b room
+
+  pub ask-ready : 0 ≡ askRefusal W p ledger u k lower upper a b room → AskReady
+  unfolding askRefusal
+  ask-ready h =
+      let x = or-none (firstRefusal W p ledger u) (orElse (sessionRefusal W (lineOf W ledger u) k)
+      (queryRefusal (p .head .permissions) lower upper a b room)) h in
+      let y = or-none (sessionRefusal W (lineOf W ledger u) k) (queryRefusal (p .head .permissions) lower upper a b room) (x .1) in
+      record {
+        first = ready W p ledger u (x .0);
+        session = session-open W (lineOf W ledger u) k (y .0);
+        query = query-right (p .head .permissions) lower upper a b room (y .1);
+      }
+
+-- a policy that has these parts and limits
+unfoldable pub limitedBy : Head → List ℕ → Exclusions → List ℕ → Policy
+limitedBy head own xs limits =
+    record {
+      head = head;
+      assigned = own;
+      granted = [];
+      juniors = [];
+      exclusions = take (xs .count) (xs .list);
+      limits = limits;
+    }
+
+known-limited : (head : Head) (own : List ℕ) (xs : Exclusions) (limits : List ℕ) → Known head own xs (limitedBy head own xs limits)
+unfolding limitedBy
+known-limited head own xs limits =
+    record { head-is = refl; own-is = λ u l w. sym (authorized-alone (limitedBy head own xs limits) u refl w); exclusions-are = refl }
+
+-- what code that got 0 of them holds: numbers and lengths within their bounds, and for the policy of its parts an ask that may be searched
+pub record Passed (W : ℕ) (head : Head) (own : List ℕ) (xs : Exclusions) (limits ledger : List ℕ) (u k : ℕ) (lower upper : List ℕ) (a b room : ℕ) : Type 0 where
+  pub user : u < head .users
+  pub fits : length ledger ≡ lineSize W * head .users
+  pub line : lineSize W * u + lineSize W ≤ length ledger
+  pub session : k < W
+  pub lower-length : length lower ≡ 32
+  pub upper-length : length upper ≡ 32
+  pub space : room ≡ 40
+  pub first-aim : a ≤ 2
+  pub second-aim : b ≤ 2
+  pub ready : (p : Policy) → Known head own xs p → p .limits ≡ limits → AskReady W p ledger u k lower upper a b room
+  pub quiet : (p : Policy) → Known head own xs p → p .limits ≡ limits → (c : Call) → c .user ≡ u → isAsk (c .operation) ≡ true
+      → told W p ledger c .unsound ≡ none
+
+module _ (W : ℕ) (head : Head) (own : List ℕ) (xs : Exclusions) (limits ledger : List ℕ) (u k : ℕ) (lower upper : List ℕ) (a b room n : ℕ)
+    (e : (p : Policy) → Known head own xs p → p .limits ≡ limits → n ≡ limitedRefusal W p ledger u k lower upper a b room) (z : n ≡ 0) where
+  none-of : (p : Policy) → Known head own xs p → p .limits ≡ limits
+      → (0 ≡ othersRefusal W p ledger u) × (0 ≡ askRefusal W p ledger u k lower upper a b room)
+  unfolding limitedRefusal
+  none-of p h l = or-none (othersRefusal W p ledger u) (askRefusal W p ledger u k lower upper a b room) (sym z ∙ e p h l)
+
+  ask-for : (p : Policy) → Known head own xs p → p .limits ≡ limits → AskReady W p ledger u k lower upper a b room
+  ask-for p h l = ask-ready W p ledger u k lower upper a b room (none-of p h l .1)
+
+  -- it is told of no line that is not sound
+  quiet-for : (p : Policy) → Known head own xs p → p .limits ≡ limits → (c : Call) → c .user ≡ u → isAsk (c .operation) ≡ true
+      → told W p ledger c .unsound ≡ none
+  quiet-for p h l c same a =
+      let r = ask-for p h l .first in
+      let i : c .user < p .head .users = rw same (r .below) in
+      others-quiet W p ledger c a (none-of p h l .0 ∙ ap (othersRefusal W p ledger) (sym same)) (r .fits) i
+
+  pub passed : Passed W head own xs limits ledger u k lower upper a b room
+  unfolding limitedBy
+  passed =
+      let p = limitedBy head own xs limits in
+      let r = ask-for p (known-limited head own xs limits) refl in
+      let q = r .query in
+      let P = head .permissions in
+      record {
+        user = r .first .below;
+        fits = r .first .fits;
+        line = first-room W p ledger u (r .first);
+        session = r .session .below;
+        lower-length = lower-32 P lower upper a b room q;
+        upper-length = upper-32 P lower upper a b room q;
+        space = room-40 P lower upper a b room q;
+        first-aim = first-small P lower upper a b room q;
+        second-aim = second-small P lower upper a b room q;
+        ready = ask-for;
+        quiet = quiet-for;
+      }

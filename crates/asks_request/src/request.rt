@@ -1,0 +1,152 @@
+// What refuses an ask before any role set is looked for: the refusals 12 to 19.
+ghost use mathlib.Core.Path.{_≡_};
+ghost use Prim.Native.Nat.{_≤_};
+ghost use lib.ListN.{length};
+ghost use Rattle.model.specs.Line.{SESSIONS};
+ghost use Rattle.model.specs.Policy.{Policy};
+ghost use Rattle.calls.specs.Calls.{Known};
+ghost use Rattle.sets.specs.Words.{value};
+ghost use Rattle.rows.specs.Rows.{exclusionsIn};
+ghost use Rattle.asks_request.specs.Refusals.{sessionRefusal, boundsRefusal, queryRefusal, askRefusal, limitedRefusal};
+use crate::bounds::below;
+use crate::bounds::bound;
+use calls::first::first_refusal;
+use calls::given::Rules;
+use calls::given::Window;
+use ledger::bytes::line_of;
+use ledger_change::is_open;
+use model::Line;
+use model::SESSIONS;
+
+// 12 for no such session, 13 for a closed one, else 0.
+pub fn session_refusal(l: Line, session: u64) -> u64
+    ensures { λ r. ⌜ r ≡ sessionRefusal SESSIONS l session ⌝ }
+{
+    if SESSIONS as u64 <= session {
+        return 12;
+    }
+    if !is_open(l, session as usize) {
+        return 13;
+    }
+    0
+}
+
+// 16 for a bound with a permission that the policy does not have, 17 for a lower bound that is not within the upper, 18 for an
+// objective (01: aim) that there is not, 19 for an answer buffer of another length, else 0.
+fn bounds_refusal(
+    lower: [u64; 4],
+    upper: [u64; 4],
+    permissions: u16,
+    first: u64,
+    second: u64,
+    room: usize,
+) -> u64
+    ensures { λ r. ⌜ r ≡ boundsRefusal permissions (value lower) (value upper) first second room ⌝ }
+{
+    if !below(lower, permissions) {
+        return 16;
+    }
+    if !below(upper, permissions) {
+        return 16;
+    }
+    if !sets::perm_within(lower, upper) {
+        return 17;
+    }
+    if 2 < first {
+        return 18;
+    }
+    if 2 < second {
+        return 18;
+    }
+    if room != 40 {
+        return 19;
+    }
+    0
+}
+
+// 15 for a bound that is not 32 bytes long, else what refuses the bounds.
+pub fn query_refusal(
+    lower: &[u8],
+    upper: &[u8],
+    permissions: u16,
+    first: u64,
+    second: u64,
+    room: usize,
+) -> u64
+    ensures { λ r. ⌜ r ≡ queryRefusal permissions (now (lower .entry)) (now (upper .entry)) first second room ⌝ }
+{
+    if lower.len() != 32 {
+        return 15;
+    }
+    if upper.len() != 32 {
+        return 15;
+    }
+    bounds_refusal(bound(lower), bound(upper), permissions, first, second, room)
+}
+
+// The first of the refusals 9 to 19 that holds for an ask, else 0.
+pub fn ask_refusal(
+    ledger: &[u8],
+    rules: Rules,
+    authorized: &[u64; 64],
+    xs: &[[u64; 2]; 32],
+    window: Window,
+    lower: &[u8],
+    upper: &[u8],
+    first: u64,
+    second: u64,
+    room: usize,
+) -> u64
+    requires { ⌜ (rules .head .users ≤ 64) × (rules .count ≤ 32) × (length (now xs) ≡ 32) ⌝ }
+    ensures { λ r. ⌜ ((p : Policy) → Known (rules .head) (now (authorized .entry)) (exclusionsIn (now (xs .entry)) (rules .count)) p
+        → r ≡ askRefusal SESSIONS p (now (ledger .entry)) (window .user) (window .session) (now (lower .entry)) (now (upper .entry)) first second room) ⌝ }
+{
+    let n = first_refusal(ledger, rules, authorized, xs, window.user);
+    if n != 0 {
+        return n;
+    }
+    let l = line_of(ledger, window.user as usize);
+    let m = session_refusal(l, window.session);
+    if m != 0 {
+        return m;
+    }
+    let head = rules.head;
+    query_refusal(lower, upper, head.permissions, first, second, room)
+}
+
+// The same under limits: a line that is not sound refuses it after 9 and 10 and before 12, whosever it is.
+pub fn limited_refusal(
+    ledger: &[u8],
+    rules: Rules,
+    authorized: &[u64; 64],
+    limits: &[u64; 64],
+    xs: &[[u64; 2]; 32],
+    window: Window,
+    lower: &[u8],
+    upper: &[u8],
+    first: u64,
+    second: u64,
+    room: usize,
+) -> u64
+    requires { ⌜ (rules .head .users ≤ 64) × (rules .count ≤ 32) × (length (now xs) ≡ 32) × (length (now limits) ≡ 64) ⌝ }
+    ensures { λ r. ⌜ ((p : Policy) → Known (rules .head) (now (authorized .entry)) (exclusionsIn (now (xs .entry)) (rules .count)) p
+        → p .limits ≡ now (limits .entry)
+        → r ≡ limitedRefusal SESSIONS p (now (ledger .entry)) (window .user) (window .session) (now (lower .entry)) (now (upper .entry)) first second room) ⌝ }
+{
+    let n = others::lines::refusal(ledger, rules, authorized, limits, xs, window.user);
+    if n != 0 {
+        return n;
+    }
+    ask_refusal(
+        ledger,
+        rules,
+        authorized,
+        xs,
+        window,
+        lower,
+        upper,
+        first,
+        second,
+        room,
+    )
+}

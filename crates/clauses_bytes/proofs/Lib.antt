@@ -1,0 +1,2 @@
+-- The laws of texts in a buffer and of decimals.
+pub mod WritingLaws

@@ -1,0 +1,2 @@
+-- What the contracts of the clauses of exclusions say, beside the model's definitions.
+pub mod Counters

@@ -1,0 +1,2 @@
+// The hard clauses of the exclusions of an ask.
+pub mod counter; // counter.rt: exclusions

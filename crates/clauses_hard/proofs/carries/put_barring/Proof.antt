@@ -1,0 +1,26 @@
+-- `clauses_hard::carries::put_barring` meets its contract: what is put is the list up to the next number.
+-- Assumes nothing.
+use borrow.Author.Needs.{needs}
+use mathlib.Core.Path.{_≡_}
+use Prim.Native.Nat.{_-_, _≤_}
+use lib.ListN.{length}
+use Rattle.model.specs.Clauses.{listTo}
+use Rattle.clauses_bytes.specs.Putting.{Puts}
+use Rattle.clauses_lines.specs.Lines.{linesOf}
+use Rattle.clauses_hard.specs.Parts.{barred, barringTo}
+use Rattle.clauses_lines.proofs.LineLaws.{lines-none, lines-next, lines-done}
+use Rattle.clauses_hard.proofs.carries.put_barring.Statement.{statement}
+use Rattle.clauses_hard.proofs.carries.put_barring.Tie as tie
+
+abbrev Inv-loop : tie.InvT-loop
+Inv-loop out₀ at w authorized roles next₀ r₀ out next r =
+    (r ≤ roles) × (length out ≡ length out₀) × Puts out₀ at (linesOf w (listTo r (λ k. barred authorized k))) out next
+
+abbrev μ-loop : tie.MeasureT-loop
+μ-loop out₀ at w authorized roles next₀ r₀ out next r = roles - r
+
+pub put-barring-spec : {M : Type 1} → statement M
+put-barring-spec =
+    tie.close
+    (tie.spec Inv-loop μ-loop (λ c. search (needs, lines-none)) (λ c κs. search needs) (λ c. search needs) (λ c. search needs)
+    (λ c. search (needs, lines-next)) (λ c. search needs) (λ c. unfold barringTo in search (needs, lines-done)))

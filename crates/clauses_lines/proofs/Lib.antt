@@ -1,0 +1,2 @@
+-- The laws of lines of clauses.
+pub mod LineLaws

@@ -1,0 +1,118 @@
+-- Lines of clauses.
+-- Assumes nothing.
+use mathlib.Core.Path.{_≡_, refl, sym, ap, _∙_}
+use mathlib.Core.Bool.{Bool, true, false, not}
+use mathlib.Core.List.{List, [], _∷_, _++_, append-assoc, append-nil}
+use Prim.Native.Nat.{ℕ, suc, _+_, _≤_}
+use native.Mathlib.Numerals.{add-one}
+use native.Mathlib.Omega.{arith}
+use Rattle.model.specs.Clauses.{Literal, Clause, Weighted, listTo, when}
+use Rattle.model.specs.Dimacs.{decimal, literalText, literalsText, clauseText, clausesText, weighing}
+use Rattle.clauses_bytes.specs.Putting.{Puts}
+use Rattle.clauses_lines.specs.Lines.{lineOf, linesOf}
+use Rattle.clauses_bytes.proofs.WritingLaws.{put-nothing, puts-as, put2, put3, put4, put5}
+
+-- ---- the literals of a line, put one behind the other between its weight and its end, the last one first
+
+module _ {l m a : List ℕ} {at n r : ℕ} (w : ℕ) where
+  pub line-one : {k : List ℕ} {o : ℕ} (t : Literal) → Puts k o (32 ∷ 48 ∷ 10 ∷ []) a r → Puts m n (literalText t) k o
+      → Puts l at (decimal w) m n → Puts l at (lineOf w (t ∷ [])) a r
+  unfolding lineOf clauseText literalsText
+  line-one t s q p = put3 s q p (rw append-nil)
+
+  pub line-two : {k j : List ℕ} {o s : ℕ} (t u : Literal) → Puts j s (32 ∷ 48 ∷ 10 ∷ []) a r → Puts k o (literalText u) j s
+      → Puts m n (literalText t) k o → Puts l at (decimal w) m n → Puts l at (lineOf w (t ∷ u ∷ [])) a r
+  unfolding lineOf clauseText literalsText
+  line-two t u v s q p = put4 v s q p (rw (append-nil, append-assoc))
+
+  pub line-three : {k j i : List ℕ} {o s v : ℕ} (t u x : Literal) → Puts i v (32 ∷ 48 ∷ 10 ∷ []) a r → Puts j s (literalText x) i v
+      → Puts k o (literalText u) j s → Puts m n (literalText t) k o → Puts l at (decimal w) m n → Puts l at (lineOf w (t ∷ u ∷ x ∷ [])) a r
+  unfolding lineOf clauseText literalsText
+  line-three t u x v y s q p = put5 v y s q p (rw (append-nil, append-assoc, append-assoc))
+
+  -- a literal, and those behind it
+  pub line-more : {k j : List ℕ} {o s : ℕ} (t : Literal) (ts : Clause) → Puts j s (32 ∷ 48 ∷ 10 ∷ []) a r → Puts k o (literalsText ts) j s
+      → Puts m n (literalText t) k o → Puts l at (decimal w) m n → Puts l at (lineOf w (t ∷ ts)) a r
+  unfolding lineOf clauseText literalsText
+  line-more t ts u s q p = put4 u s q p (rw append-assoc)
+
+-- ---- lines one behind the other
+
+pub lines-joined : (w : ℕ) (cs ds : List Clause) → linesOf w (cs ++ ds) ≡ linesOf w cs ++ linesOf w ds
+unfolding linesOf weighing clausesText
+lines-joined w [] ds = refl
+lines-joined w (c ∷ cs) ds =
+    rw (lines-joined w cs ds) (sym (append-assoc (clauseText (record { weight = w; clause = c })) (clausesText (weighing w cs)) (clausesText (weighing w ds))))
+
+pub softs-joined : (cs ds : List Weighted) → clausesText (cs ++ ds) ≡ clausesText cs ++ clausesText ds
+unfolding clausesText
+softs-joined [] ds = refl
+softs-joined (c ∷ cs) ds = rw (softs-joined cs ds) (sym (append-assoc (clauseText c) (clausesText cs) (clausesText ds)))
+
+-- one line is what there is of one clause
+pub lines-one : (w : ℕ) (c : Clause) → lineOf w c ≡ linesOf w (c ∷ [])
+unfolding linesOf weighing clausesText lineOf
+lines-one w c = sym (append-nil _)
+
+pub line-put : {l a : List ℕ} {at r : ℕ} (w : ℕ) (c : Clause) → Puts l at (lineOf w c) a r → Puts l at (linesOf w (c ∷ [])) a r
+line-put w c p = puts-as (lines-one w c) p
+
+-- ---- a list by number, text after text
+
+module _ {A : Type 0} (text : List A → List ℕ) (none : text [] ≡ []) (join : (xs ys : List A) → text (xs ++ ys) ≡ text xs ++ text ys) (f : ℕ → List A) where
+  list-none : (l : List ℕ) (at : ℕ) → Puts l at (text (listTo 0 f)) l at
+  unfolding listTo
+  list-none l at = puts-as (sym none) (put-nothing l at)
+
+  list-next :
+      {l m a : List ℕ} {at n r : ℕ} (i : ℕ) → Puts l at (text (listTo i f)) m n → Puts m n (text (f i)) a r → Puts l at (text (listTo (i + 1) f)) a r
+  unfolding listTo
+  list-next i p q = let e : i + 1 ≡ suc i = add-one i in put2 q p (rw e (sym (join (listTo i f) (f i))))
+
+  list-done : {l a : List ℕ} {at r : ℕ} (i n : ℕ) → i ≤ n → n ≤ i → Puts l at (text (listTo i f)) a r → Puts l at (text (listTo n f)) a r
+  list-done i n g h p = let e : i ≡ n = omega arith in rw e at p
+
+module _ (w : ℕ) (f : ℕ → List Clause) where
+  pub lines-none : (l : List ℕ) (at : ℕ) → Puts l at (linesOf w (listTo 0 f)) l at
+  unfolding linesOf weighing clausesText
+  lines-none = list-none (linesOf w) refl (lines-joined w) f
+
+  pub lines-next :
+      {l m a : List ℕ} {at n r : ℕ} (i : ℕ) → Puts l at (linesOf w (listTo i f)) m n → Puts m n (linesOf w (f i)) a r
+      → Puts l at (linesOf w (listTo (i + 1) f)) a r
+  unfolding linesOf weighing clausesText
+  lines-next = list-next (linesOf w) refl (lines-joined w) f
+
+  pub lines-done : {l a : List ℕ} {at r : ℕ} (i n : ℕ) → i ≤ n → n ≤ i → Puts l at (linesOf w (listTo i f)) a r → Puts l at (linesOf w (listTo n f)) a r
+  unfolding linesOf weighing clausesText
+  lines-done = list-done (linesOf w) refl (lines-joined w) f
+
+module _ (f : ℕ → List Weighted) where
+  pub softs-none : (l : List ℕ) (at : ℕ) → Puts l at (clausesText (listTo 0 f)) l at
+  unfolding clausesText
+  softs-none = list-none clausesText refl softs-joined f
+
+  pub softs-next :
+      {l m a : List ℕ} {at n r : ℕ} (i : ℕ) → Puts l at (clausesText (listTo i f)) m n → Puts m n (clausesText (f i)) a r
+      → Puts l at (clausesText (listTo (i + 1) f)) a r
+  unfolding clausesText
+  softs-next = list-next clausesText refl softs-joined f
+
+  pub softs-done : {l a : List ℕ} {at r : ℕ} (i n : ℕ) → i ≤ n → n ≤ i → Puts l at (clausesText (listTo i f)) a r → Puts l at (clausesText (listTo n f)) a r
+  unfolding clausesText
+  softs-done = list-done clausesText refl softs-joined f
+
+-- ---- one clause where a test holds
+
+pub line-if : {l a : List ℕ} {at r : ℕ} (w : ℕ) (b : Bool) (c : Clause) → b ≡ true → Puts l at (lineOf w c) a r → Puts l at (linesOf w (when b c)) a r
+unfolding when
+line-if w b c e p = rw e (line-put w c p)
+
+-- one clause where a test fails, by what the test gave
+pub line-barred : {l a : List ℕ} {at r : ℕ} {t : Bool} (w : ℕ) (b : Bool) (c : Clause) → t ≡ b → t ≡ false → Puts l at (lineOf w c) a r
+    → Puts l at (linesOf w (when (not b) c)) a r
+line-barred w b c e f p = line-if w (not b) c (ap not (sym e ∙ f)) p
+
+pub line-allowed : {t : Bool} (l : List ℕ) (at w : ℕ) (b : Bool) (c : Clause) → t ≡ b → t ≡ true → Puts l at (linesOf w (when (not b) c)) l at
+unfolding when linesOf weighing clausesText
+line-allowed l at w b c e f = let n : not b ≡ false = ap not (sym e ∙ f) in rw n (put-nothing l at)

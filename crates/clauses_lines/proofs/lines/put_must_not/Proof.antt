@@ -1,0 +1,12 @@
+-- `clauses_lines::lines::put_must_not` meets its contract.
+-- Assumes nothing.
+use borrow.Author.Needs.{needs}
+use Rattle.clauses_lines.proofs.LineLaws.{line-one}
+use Rattle.clauses_lines.proofs.lines.put_must_not.Statement.{statement}
+use Rattle.clauses_lines.proofs.lines.put_must_not.Tie as tie
+
+pub put-must-not-spec : {M : Type 1} → statement M
+put-must-not-spec =
+    tie.close
+    (tie.spec (λ c κs. search needs) (λ c κs. search needs) (λ c κs. search needs) (λ c. search needs)
+    (λ c. search (needs, line-one)))

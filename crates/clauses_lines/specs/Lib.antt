@@ -1,0 +1,2 @@
+-- What the contracts of lines of clauses say, beside the model's definitions.
+pub mod Lines

@@ -1,0 +1,72 @@
+// Literals, and the lines of clauses.
+ghost use mathlib.Core.List.{[], _∷_};
+ghost use Rattle.model.specs.Clauses.{holds, fails, must, mustNot, gives, give};
+ghost use Rattle.model.specs.Dimacs.{literalText};
+ghost use Rattle.clauses_bytes.specs.Putting.{Puts};
+ghost use Rattle.clauses_lines.specs.Lines.{lineOf};
+use clauses_bytes::bytes::put;
+use clauses_bytes::bytes::put_decimal;
+use clauses_bytes::bytes::put_three;
+use clauses_bytes::bytes::put_two;
+
+// Puts a variable that is to be true.
+pub fn put_holds(out: &mut [u8], at: usize, x: usize) -> usize
+    ensures { λ r. ⌜ Puts (now (out .entry)) at (literalText (holds x)) (now (out .exit)) r ⌝ }
+{
+    let next = put(out, at, 32);
+    put_decimal(out, next, x)
+}
+
+// Puts a variable that is to be false.
+pub fn put_fails(out: &mut [u8], at: usize, x: usize) -> usize
+    ensures { λ r. ⌜ Puts (now (out .entry)) at (literalText (fails x)) (now (out .exit)) r ⌝ }
+{
+    let next = put_two(out, at, 32, 45);
+    put_decimal(out, next, x)
+}
+
+// Puts the end of a line.
+pub fn put_end(out: &mut [u8], at: usize) -> usize
+    ensures { λ r. ⌜ Puts (now (out .entry)) at (32 ∷ 48 ∷ 10 ∷ []) (now (out .exit)) r ⌝ }
+{
+    put_three(out, at, 32, 48, 10)
+}
+
+// Puts the clause that x is true.
+pub fn put_must(out: &mut [u8], at: usize, w: usize, x: usize) -> usize
+    ensures { λ r. ⌜ Puts (now (out .entry)) at (lineOf w (must x)) (now (out .exit)) r ⌝ }
+{
+    let a = put_decimal(out, at, w);
+    let b = put_holds(out, a, x);
+    put_end(out, b)
+}
+
+// Puts the clause that x is false.
+pub fn put_must_not(out: &mut [u8], at: usize, w: usize, x: usize) -> usize
+    ensures { λ r. ⌜ Puts (now (out .entry)) at (lineOf w (mustNot x)) (now (out .exit)) r ⌝ }
+{
+    let a = put_decimal(out, at, w);
+    let b = put_fails(out, a, x);
+    put_end(out, b)
+}
+
+// Puts the clause that x gives y.
+pub fn put_gives(out: &mut [u8], at: usize, w: usize, x: usize, y: usize) -> usize
+    ensures { λ r. ⌜ Puts (now (out .entry)) at (lineOf w (gives x y)) (now (out .exit)) r ⌝ }
+{
+    let a = put_decimal(out, at, w);
+    let b = put_fails(out, a, x);
+    let c = put_holds(out, b, y);
+    put_end(out, c)
+}
+
+// Puts the clause that x and y give z.
+pub fn put_give(out: &mut [u8], at: usize, w: usize, x: usize, y: usize, z: usize) -> usize
+    ensures { λ r. ⌜ Puts (now (out .entry)) at (lineOf w (give x y z)) (now (out .exit)) r ⌝ }
+{
+    let a = put_decimal(out, at, w);
+    let b = put_fails(out, a, x);
+    let c = put_fails(out, b, y);
+    let d = put_holds(out, c, z);
+    put_end(out, d)
+}

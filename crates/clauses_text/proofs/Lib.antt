@@ -1,0 +1,2 @@
+-- The laws of the whole text.
+pub mod WholeLaws

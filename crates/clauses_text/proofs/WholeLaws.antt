@@ -1,0 +1,58 @@
+-- The whole text, part after part, and how many clauses it has.
+-- Assumes nothing.
+use mathlib.Core.Path.{_≡_, sym, _∙_}
+use mathlib.Core.List.{List, _++_, append-assoc}
+use Prim.Native.Nat.{ℕ, _+_}
+use lib.ListN.{length, length-append}
+use Rattle.model.specs.Clauses.{top, row}
+use Rattle.model.specs.Dimacs.{clausesText, headText, weighing}
+use Rattle.clauses_bytes.specs.Putting.{Puts}
+use Rattle.clauses_bytes.proofs.WritingLaws.{put2}
+use Rattle.clauses_lines.specs.Lines.{linesOf}
+use Rattle.clauses_hard.specs.Parts.{barringTo, carryingTo, carriedTo, loweringTo, upperingTo, hardBy}
+use Rattle.clauses_counter.specs.Counters.{counters}
+use Rattle.clauses_soft.specs.Soft.{wantingPermissions, wantingRoles, softBy}
+use Rattle.clauses_hard.specs.Sizes.{helpersTo, hardSize}
+use Rattle.clauses_text.specs.Whole.{clausesBy, textBy}
+use Rattle.clauses_lines.proofs.LineLaws.{lines-joined, softs-joined}
+use Rattle.encoding.proofs.DimacsProof.{length-weighing}
+use Rattle.clauses_hard.proofs.SizeLaws.{hard-length}
+
+pub clauses-length :
+    (R P s : ℕ) (row : ℕ → ℕ) (lower upper : ℕ) (masks rooms : List ℕ) (k a b : ℕ)
+    → length (clausesBy R P s row lower upper masks rooms k a b) ≡ hardSize R P s row lower upper masks rooms k + length (softBy R P a b)
+unfolding clausesBy
+clauses-length R P s row lower upper masks rooms k a b =
+    length-append (weighing (top (softBy R P a b)) (hardBy R P s row lower upper masks rooms k)) (softBy R P a b)
+    ∙ rw (length-weighing (top (softBy R P a b)) (hardBy R P s row lower upper masks rooms k), hard-length R P s row lower upper masks rooms k)
+
+pub hard-text :
+    (w R P s : ℕ) (row : ℕ → ℕ) (lower upper : ℕ) (masks rooms : List ℕ) (k : ℕ)
+    → linesOf w (barringTo R s)
+    ++ (linesOf w (carryingTo R P row)
+    ++ (linesOf w (carriedTo R P row)
+    ++ (linesOf w (loweringTo R P lower) ++ (linesOf w (upperingTo R P upper) ++ linesOf w (counters masks rooms k 0 (R + P))))))
+    ≡ linesOf w (hardBy R P s row lower upper masks rooms k)
+unfolding hardBy
+hard-text w R P s row lower upper masks rooms k = sym (simp (lines-joined w, append-assoc))
+
+pub soft-put : {l m c : List ℕ} {at n r : ℕ} (R P a b : ℕ) → Puts m n (clausesText (wantingRoles R b)) c r
+    → Puts l at (clausesText (wantingPermissions R P a)) m n → Puts l at (clausesText (softBy R P a b)) c r
+unfolding softBy
+soft-put R P a b q p = put2 q p (sym (softs-joined (wantingPermissions R P a) (wantingRoles R b)))
+
+pub whole-text :
+    (R P s : ℕ) (row : ℕ → ℕ) (lower upper : ℕ) (masks rooms : List ℕ) (k a b : ℕ) (w h m n : ℕ)
+    → w ≡ top (softBy R P a b) → h ≡ helpersTo masks rooms k → m ≡ hardSize R P s row lower upper masks rooms k → n ≡ length (softBy R P a b)
+    → headText (R + P + h) (m + n) w ++ (linesOf w (hardBy R P s row lower upper masks rooms k) ++ clausesText (softBy R P a b))
+    ≡ textBy R P s row lower upper masks rooms k a b
+unfolding textBy clausesBy linesOf
+whole-text R P s row lower upper masks rooms k a b w h m n ew eh em en =
+    rw (
+      ew,
+      eh,
+      em,
+      en,
+      sym (clauses-length R P s row lower upper masks rooms k a b),
+      softs-joined (weighing (top (softBy R P a b)) (hardBy R P s row lower upper masks rooms k)) (softBy R P a b),
+    )

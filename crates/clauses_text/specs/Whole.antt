@@ -1,0 +1,20 @@
+-- The whole clause text, by the words that the code has.
+-- Assumes nothing.
+use mathlib.Core.List.{List, _++_}
+use Prim.Native.Nat.{ℕ, _+_}
+use lib.ListN.{length}
+use Rattle.model.specs.Clauses.{Weighted, top}
+use Rattle.model.specs.Dimacs.{clausesText, headText, weighing}
+use Rattle.clauses_hard.specs.Sizes.{helpersTo}
+use Rattle.clauses_hard.specs.Parts.{hardBy}
+use Rattle.clauses_soft.specs.Soft.{softBy}
+
+-- the hard clauses, heavier than all soft ones together, then the soft ones
+unfoldable pub clausesBy : ℕ → ℕ → ℕ → (ℕ → ℕ) → ℕ → ℕ → List ℕ → List ℕ → ℕ → ℕ → ℕ → List Weighted
+clausesBy R P s row lower upper masks rooms k a b =
+    weighing (top (softBy R P a b)) (hardBy R P s row lower upper masks rooms k) ++ softBy R P a b
+
+unfoldable pub textBy : ℕ → ℕ → ℕ → (ℕ → ℕ) → ℕ → ℕ → List ℕ → List ℕ → ℕ → ℕ → ℕ → List ℕ
+textBy R P s row lower upper masks rooms k a b =
+    headText (R + P + helpersTo masks rooms k) (length (clausesBy R P s row lower upper masks rooms k a b)) (top (softBy R P a b))
+    ++ clausesText (clausesBy R P s row lower upper masks rooms k a b)

@@ -1,0 +1,17 @@
+-- `hierarchy::member::joined` meets its contract.
+-- Assumes nothing.
+use borrow.Author.Needs.{needs}
+use Rattle.model.specs.Tests.{pick}
+use Rattle.hierarchy.proofs.member.joined.Statement.{statement}
+use Rattle.hierarchy.proofs.member.joined.Tie as tie
+
+returns : tie.Need-returns
+unfolding pick
+returns c = rw (c .before .if1 .taken) (c .with .ensures)
+
+returns-2 : tie.Need-returns-2
+unfolding pick
+returns-2 c = rw (c .if1 .left)
+
+pub joined-spec : {M : Type 1} → statement M
+joined-spec = tie.close (tie.spec (λ c. search needs) (λ c κs. search needs) returns returns-2)

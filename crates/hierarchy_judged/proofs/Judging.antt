@@ -1,0 +1,114 @@
+-- An image judged by the loops of its policy and by what its users reach, a law for each way that it goes.
+-- Assumes nothing.
+use mathlib.Core.Path.{_≡_, refl, sym, ap, ap₂, subst, _∙_}
+use mathlib.Core.Bool.{Bool, true, false}
+use mathlib.Core.List.{List}
+use Prim.Native.Nat.{ℕ, _≤_, _<_}
+use native.Mathlib.Omega.{arith}
+use lib.Dec.{ltb}
+use lib.ListN.{getD}
+use borrow.Author.Tests.{lt-ltb, le-ltb}
+use Rattle.model.specs.declared.Head.{Head}
+use Rattle.model.specs.declared.Checked.{Checked}
+use Rattle.model.specs.declared.Checked.the-variants.{Accepted, Refused}
+use Rattle.model.specs.Tests.{lowest}
+use Rattle.model.specs.Sets.{has}
+use Rattle.model.specs.Policy.{Policy, belowTable, reached, authorized, closed}
+use Rattle.model.specs.Judgement.{lowestOnLoop, lowestOverReach, refusing, judgeMeaning}
+use Rattle.hierarchy_judged.specs.Loops.{Gives, Judged}
+use Rattle.hierarchy_judged.specs.Reach.{reachAt, wideAt, Authorizes}
+
+-- the lowest role that stands below itself in a table
+abbrev pub onLoop : List ℕ → ℕ → ℕ
+onLoop below roles = lowest (λ a. has (getD below a 0) a) 0 roles
+
+-- a refusal is no acceptance
+never : {X : Type 0} (n place : ℕ) (h : Head) → Refused n place ≡ Accepted h → X
+never n place h e = let z : _≡_ {A = ℕ} 0 1 = cc in absurd (omega arith)
+
+-- the order of the tests: a role on a loop, then a user with more than 16 roles
+abbrev verdict : Bool → Bool → ℕ → ℕ → Checked → Checked
+verdict a b r u v = elim a [ true ↦ Refused 22 r | false ↦ elim b [ true ↦ Refused 23 u | false ↦ v ] ]
+
+-- an image that its words refuse stays refused
+pub judged-refused : (p : Policy) (c : Checked) (own below : List ℕ) (n place : ℕ) → c ≡ Refused n place → Judged p c c own below
+unfolding judgeMeaning
+judged-refused p c own below n place e =
+    record {
+      verdict = e ∙ sym (ap (judgeMeaning p) e);
+      below-is = λ h q. never n place h (sym e ∙ q);
+      own-is = λ h q. never n place h (sym e ∙ q);
+    }
+
+module _ (p : Policy) (h : Head) (juniors below : List ℕ) (eh : p .head ≡ h) (ej : juniors ≡ p .juniors) (eb : below ≡ closed (h .roles) juniors) where
+  -- the table is the policy's
+  pub closed-is : below ≡ belowTable p
+  unfolding belowTable
+  closed-is = eb ∙ ap₂ (λ (x : Head) (l : List ℕ). closed (x .roles) l) (sym eh) ej
+
+  -- and so is the lowest role on a loop
+  pub on-loop : onLoop below (h .roles) ≡ lowestOnLoop p
+  unfolding lowestOnLoop
+  on-loop = ap₂ (λ (l : List ℕ) (x : Head). lowest (λ a. has (getD l a 0) a) 0 (x .roles)) closed-is (sym eh)
+
+module _ (p : Policy) (h : Head) (assigned juniors below : List ℕ) (g : Gives p h assigned juniors) (eb : below ≡ closed (h .roles) juniors) where
+  table-is : below ≡ belowTable p
+  table-is = closed-is p h juniors below (g .head-is) (g .juniors-is) eb
+
+  loop-is : onLoop below (h .roles) ≡ lowestOnLoop p
+  loop-is = on-loop p h juniors below (g .head-is) (g .juniors-is) eb
+
+  -- what a user reaches is what the user may activate
+  reach-is : (u : ℕ) → reachAt below assigned u ≡ authorized p u
+  unfolding authorized reached
+  reach-is u = ap₂ (λ (l a : List ℕ). reachAt l a u) table-is (g .assigned-is)
+
+  -- so the lowest user who reaches more than 16 roles is the lowest who may activate so many
+  over-reach : lowest (wideAt below assigned) 0 (h .users) ≡ lowestOverReach p
+  unfolding lowestOverReach authorized reached
+  over-reach =
+      ap₂ (λ (l a : List ℕ). lowest (wideAt l a) 0 (h .users)) table-is (g .assigned-is)
+      ∙ ap (λ (x : Head). lowest (wideAt (belowTable p) (p .assigned)) 0 (x .users)) (sym (g .head-is))
+
+  module _ (c : Checked) (ec : c ≡ Accepted h) where
+    -- by the two tests
+    judging : (r u : ℕ) (a b : Bool) → r ≡ lowestOnLoop p → u ≡ lowestOverReach p → ltb r (h .roles) ≡ a → ltb u (h .users) ≡ b
+        → verdict a b r u (Accepted h) ≡ judgeMeaning p c
+    unfolding judgeMeaning refusing
+    judging r u a b er eu ea eb =
+        ap₂ (λ (x y : Bool). verdict x y r u (Accepted h)) (sym ea) (sym eb)
+        ∙ ap (λ (x : Head). refusing 22 r (x .roles) (refusing 23 u (x .users) (Accepted h))) (sym (g .head-is))
+        ∙ ap₂ (λ (x y : ℕ). refusing 22 x (p .head .roles) (refusing 23 y (p .head .users) (Accepted h))) er eu
+        ∙ sym (ap (judgeMeaning p) ec)
+
+    module _ (r : ℕ) (er : r ≡ onLoop below (h .roles)) where
+      -- 22 where some role is on a loop
+      pub judged-loop : (own : List ℕ) → r < h .roles → Judged p c (Refused 22 r) own below
+      judged-loop own l =
+          record {
+            verdict = judging r (lowestOverReach p) true _ (er ∙ loop-is) refl (lt-ltb r (h .roles) l) refl;
+            below-is = λ k q. never 22 r k q;
+            own-is = λ k q. never 22 r k q;
+          }
+
+      module _ (l : h .roles ≤ r) (u : ℕ) (own : List ℕ) (w : Authorizes below (h .users) assigned u own) where
+        judged-by : (b : Bool) → ltb u (h .users) ≡ b → verdict false b r u (Accepted h) ≡ judgeMeaning p c
+        judged-by b e = judging r u false b (er ∙ loop-is) (w .lowest-is ∙ over-reach) (le-ltb r (h .roles) l) e
+
+        -- 23 where some user may activate more than 16 roles
+        pub judged-reach : u < h .users → Judged p c (Refused 23 u) own below
+        judged-reach k =
+            record {
+              verdict = judged-by true (lt-ltb u (h .users) k);
+              below-is = λ x q. never 23 u x q;
+              own-is = λ x q. never 23 u x q;
+            }
+
+        -- else the image is accepted
+        pub judged-ordered : h .users ≤ u → Judged p c (Accepted h) own below
+        judged-ordered k =
+            record {
+              verdict = judged-by false (le-ltb u (h .users) k);
+              below-is = λ x q. table-is;
+              own-is = λ x q v i. w .rows k v (subst (λ (y : Head). v < y .users) (g .head-is) i) ∙ reach-is v;
+            }

@@ -1,0 +1,3 @@
+-- What the contracts of the judgement by loops and by reach say, beside the model's definitions.
+pub mod Reach
+pub mod Loops

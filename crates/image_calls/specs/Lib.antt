@@ -1,0 +1,2 @@
+-- What the calls hold of an image.
+pub mod Held

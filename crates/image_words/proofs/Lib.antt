@@ -1,0 +1,2 @@
+-- The laws that the proofs of walks over an image's words use.
+pub mod Folds

@@ -1,0 +1,2 @@
+-- What the contracts of counts kept in words say.
+pub mod Counted

@@ -1,0 +1,2 @@
+-- What the contracts of counting the sessions of all users say.
+pub mod Held

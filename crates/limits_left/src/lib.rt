@@ -1,0 +1,98 @@
+// The roles that no limit bars.
+ghost use mathlib.Core.Path.{_≡_};
+ghost use mathlib.Core.Bool.{not};
+ghost use Prim.Native.Nat.{ℕ, _*_, _≤_, _<_};
+ghost use lib.Dec.{eqb};
+ghost use lib.ListN.{getD, length};
+ghost use Rattle.model.specs.declared.Exclusions.{Exclusions};
+ghost use Rattle.model.specs.Tests.{any};
+ghost use Rattle.model.specs.Sets.{setOf};
+ghost use Rattle.model.specs.Policy.{Policy, authorized};
+ghost use Rattle.model.specs.Line.{SESSIONS, lineSize};
+ghost use Rattle.calls.specs.Calls.{Known};
+ghost use Rattle.limits_counts.specs.Counted.{countAt};
+ghost use Rattle.limits_left.specs.Left.{stays as staysOf, Left};
+use calls::first::roles_of;
+use calls::given::Rules;
+use calls::given::Window;
+use hierarchy::member::joined;
+use limits_counts::Counts;
+use limits_counts::count_at;
+use limits_held::held;
+
+// Some role has a limit.
+pub fn has_limits(limits: &[u64; 64]) -> bool
+    requires { ⌜ length (now limits) ≡ 64 ⌝ }
+    ensures { λ b. ⌜ b ≡ any (λ t. not (eqb t 0)) (now (limits .entry)) ⌝ }
+{
+    for r in 0..64 {
+        if limits[r] != 0 {
+            return true;
+        }
+    }
+    false
+}
+
+// Role r is one of the user's own, and no limit t bars it.
+fn stays(own: u64, t: u64, counts: Counts, r: usize) -> bool
+    requires { ⌜ r < 64 ⌝ }
+    ensures { λ b. ⌜ b ≡ staysOf own t (countAt counts r) r ⌝ }
+{
+    if (own >> r) % 2 == 0 {
+        return false;
+    }
+    if t == 0 {
+        return true;
+    }
+    count_at(counts, r) < t - 1
+}
+
+// Those of the user's roles that no limit bars, by the counts of other sessions.
+fn left_by(own: u64, limits: &[u64; 64], counts: Counts) -> u64
+    ensures { λ s. ⌜ s ≡ setOf (λ r. staysOf own (getD (now (limits .entry)) r 0) (countAt counts r) r) 64 ⌝ }
+{
+    let mut found: u64 = 0;
+    for r in 0..64 {
+        found = joined(found, r, stays(own, limits[r], counts, r));
+    }
+    found
+}
+
+// Those of the user's own roles that no limit bars for session k. Without a limit no other line is looked at.
+pub fn left(ledger: &[u8], users: usize, user: usize, k: usize, own: u64, limits: &[u64; 64]) -> u64
+    requires { ⌜ (users ≤ 64) × (user < users) × (length (now ledger) ≡ lineSize SESSIONS * users)
+        × (k < SESSIONS) × (length (now limits) ≡ 64) ⌝ }
+    ensures { λ s. ⌜ ((p : Policy) → p .head .users ≡ users → authorized p user ≡ own → p .limits ≡ now (limits .entry)
+        → Left p (now (ledger .entry)) user k s) ⌝ }
+{
+    if has_limits(limits) {
+        return left_by(own, limits, held(ledger, users, user, k));
+    }
+    own
+}
+
+// The same by the table of what users may activate.
+pub fn roles_left(
+    ledger: &[u8],
+    rules: Rules,
+    authorized: &[u64; 64],
+    limits: &[u64; 64],
+    window: Window,
+) -> u64
+    requires { ⌜ (rules .head .users ≤ 64) × (window .user < rules .head .users)
+        × (length (now ledger) ≡ lineSize SESSIONS * rules .head .users) × (window .session < SESSIONS) × (length (now limits) ≡ 64) ⌝ }
+    ensures { λ s. ⌜ ((p : Policy) (xs : Exclusions) → Known (rules .head) (now (authorized .entry)) xs p → p .limits ≡ now (limits .entry)
+        → Left p (now (ledger .entry)) (window .user) (window .session) s) ⌝ }
+{
+    let head = rules.head;
+    let u = window.user as usize;
+    let own = roles_of(authorized, u);
+    left(
+        ledger,
+        head.users as usize,
+        u,
+        window.session as usize,
+        own,
+        limits,
+    )
+}

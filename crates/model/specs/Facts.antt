@@ -1,0 +1,395 @@
+-- What single definitions give on small arguments, by computation. Each fact is false of a wrong definition that must-fail/ tries. The
+-- cases from the bytes of whole images stand in crates/model_cases.
+-- Assumes nothing.
+use mathlib.Core.Path.{_≡_, refl}
+use mathlib.Core.Bool.{Bool, true, false}
+use mathlib.Core.Option.{none, some}
+use mathlib.Core.List.{List, [], _∷_, _++_}
+use Prim.Native.Nat.{ℕ, _-_, _^_}
+use lib.ListN.{replicate}
+use Rattle.model.specs.declared.Head.{Head}
+use Rattle.model.specs.declared.Kind.the-variants.{MsDmer, MsHmer}
+use Rattle.model.specs.declared.Exclusion.{Exclusion}
+use Rattle.model.specs.declared.Entry.the-variants.{Assignment, Exclude}
+use Rattle.model.specs.declared.Scan.{Scan}
+use Rattle.model.specs.declared.Checked.the-variants.{Accepted, Refused}
+use Rattle.model.specs.declared.Session.{Session}
+use Rattle.model.specs.declared.Line.{Line}
+use Rattle.model.specs.Tests.{first, ifBelow}
+use Rattle.model.specs.Bytes.{bytesOf}
+use Rattle.model.specs.Words.{headWord, seniorWord, ended, imageBytes}
+use Rattle.model.specs.Image.{user, role, says, inRange, crowds, fault, balanced, start, lengthRight, judgeWords, checkNumber}
+use Rattle.model.specs.Policy.{Policy, Meaning, Agree, belowTable, granter, authorized, lesser, meaning, met}
+use Rattle.model.specs.Judgement.{lowestOnLoop, lowestOverReach, judgeMeaning}
+use Rattle.model.specs.Line.{SESSIONS, activeIn, counted, holding, putIn, sound}
+use Rattle.model.specs.Limits.{nobody, barred}
+use Rattle.model.specs.Choice.{admissible, better, cost, permissionCost, roleCost}
+use Rattle.model.specs.Reduced.{stays}
+use Rattle.model.specs.Clauses.{must, mustNot, soft}
+use Rattle.model.specs.Dimacs.{textOf}
+use Rattle.model.specs.Session.{Query, Operation, ask, short-ask, explain, queryOf, refuse, canGive, carrier, numberAfter, textFor, twoRoles, applies, unless, is-full, bad-session, bad-permission, bad-aim, not-below}
+use Rattle.model.specs.Loop.{chainDown, loopCall, loopFrom, loopLength, shownChain}
+use Rattle.model.specs.Run.{answered, openBy, returned, stepBy, stepOn, unsoundOther}
+use Rattle.model.specs.Moves.{moveAnswer, moveOn, resized, writtenIf}
+use Rattle.model.specs.OwnWords.{isOwn}
+use Rattle.model.specs.Computing.{computing}
+
+-- ---- the words of an image
+
+abbrev small : Head
+small = record { users = 1; roles = 2; permissions = 5 }
+
+abbrev exclusion : ℕ → Exclusion
+exclusion n = record { kind = MsDmer; limit = n; members = 0 }
+
+pub smallest-image : lengthRight 8 ≡ true
+unfolding computing
+smallest-image = refl
+
+pub longest-image : lengthRight 16384 ≡ true
+unfolding computing
+longest-image = refl
+
+pub no-exclusion-of-one : inRange small (Exclude (exclusion 1) 2) ≡ false
+unfolding computing
+no-exclusion-of-one = refl
+
+pub exclusion-of-two : inRange small (Exclude (exclusion 2) 2) ≡ true
+unfolding computing
+exclusion-of-two = refl
+
+pub spare-bits : fault small [] start false (says (Assignment (user 0) (role 0)) 1) ≡ 4
+unfolding computing
+spare-bits = refl
+
+pub seventeenth-role : crowds ((2 ^ 16 - 1) ∷ []) start (Assignment (user 0) (role 16)) ≡ true
+unfolding computing
+seventeenth-role = refl
+
+pub thirty-third-exclusion : crowds [] (record { exclusions = 32; due = 0; members = 0 }) (Exclude (exclusion 2) 2) ≡ true
+unfolding computing
+thirty-third-exclusion = refl
+
+-- the earliest bad word decides, by its own place and before the sum
+pub first-bad-word : judgeWords (imageBytes (ended (0x102080A0 ∷ 0x20020000 ∷ 0x80000000 ∷ []))) ≡ Refused 5 1
+unfolding computing
+first-bad-word = refl
+
+pub before-balance : judgeWords (imageBytes (0x102080A0 ∷ 0x20020000 ∷ 0xF0000000 ∷ [])) ≡ Refused 5 1
+unfolding computing
+before-balance = refl
+
+pub exclusion-place : judgeWords (imageBytes (0x102080A0 ∷ 0x54082000 ∷ 0xF0000000 ∷ [])) ≡ Refused 5 1
+unfolding computing
+exclusion-place = refl
+
+pub sum-bits : balanced small 2 (2 ^ 27) ≡ Refused 8 1
+unfolding computing
+sum-bits = refl
+
+pub place-told : checkNumber (Refused 5 9) ≡ 2309
+unfolding computing
+place-told = refl
+
+-- ---- what the words mean
+
+-- two users and three roles with these tables, every role granted permission 0
+abbrev policy : List ℕ → List ℕ → Policy
+policy assigned juniors =
+    record {
+      head = record { users = 2; roles = 3; permissions = 1 };
+      assigned = assigned;
+      granted = 1 ∷ 1 ∷ 1 ∷ [];
+      juniors = juniors;
+      exclusions = [];
+      limits = [];
+    }
+
+-- role 0 over role 1 over role 2; user 0 has role 1
+abbrev chain : Policy
+chain = policy (2 ∷ 0 ∷ []) (2 ∷ 4 ∷ 0 ∷ [])
+
+-- the same, with permission 0 granted to role 0 alone
+abbrev granted-above : Policy
+granted-above =
+    record { head = chain .head; assigned = chain .assigned; granted = 1 ∷ []; juniors = chain .juniors; exclusions = []; limits = [] }
+
+pub below-by-chains : belowTable chain ≡ (6 ∷ 4 ∷ 0 ∷ [])
+unfolding computing
+below-by-chains = refl
+
+pub lowest-granting : granter chain 0 0 ≡ some 0
+unfolding computing
+lowest-granting = refl
+
+pub granted-from-below : granter granted-above 0 1 ≡ none
+unfolding computing
+granted-from-below = refl
+
+pub assigned-and-below : authorized chain 0 ≡ 6
+unfolding computing
+assigned-and-below = refl
+
+pub rules-see-authorized : meaning chain 0 .authorized ≡ 6
+unfolding computing
+rules-see-authorized = refl
+
+pub smaller-limit : lesser 3 2 ≡ 2
+unfolding computing
+smaller-limit = refl
+
+pub limits-agree : (u : ℕ) (p q : Policy) → Agree u p q → p .limits ≡ q .limits
+limits-agree u p q a = a .limits
+
+pub met-below-the-limit : met (λ k. 3) (record { kind = MsDmer; limit = 2; members = 3 }) ≡ false
+unfolding computing
+met-below-the-limit = refl
+
+-- role 0 stands over the loop of the roles 1 and 2
+pub loop-role : lowestOnLoop (policy [] (2 ∷ 4 ∷ 2 ∷ [])) ≡ 1
+unfolding computing
+loop-role = refl
+
+-- both users have 17 roles
+pub over-reach : lowestOverReach (policy ((2 ^ 17 - 1) ∷ (2 ^ 17 - 1) ∷ []) []) ≡ 0
+unfolding computing
+over-reach = refl
+
+pub loop-before-reach : judgeMeaning (policy ((2 ^ 17 - 1) ∷ []) (2 ∷ 1 ∷ 0 ∷ [])) (Accepted small) ≡ Refused 22 0
+unfolding computing
+loop-before-reach = refl
+
+pub words-first : judgeMeaning (policy [] (2 ∷ 1 ∷ 0 ∷ [])) (Refused 8 7) ≡ Refused 8 7
+unfolding computing
+words-first = refl
+
+pub others-words : isOwn 0 (Assignment (user 1) (role 0)) ≡ false
+unfolding computing
+others-words = refl
+
+-- ---- loops shown
+
+pub shortest-loop : loopLength (2 ∷ 1 ∷ []) 0 ≡ 2
+unfolding computing
+shortest-loop = refl
+
+-- role 0 over the roles 1 and 2, each of which stands over it
+pub lowest-role-on : chainDown (6 ∷ 1 ∷ 1 ∷ []) 0 0 2 ≡ (1 ∷ 0 ∷ [])
+unfolding computing
+lowest-role-on = refl
+
+pub role-last : loopFrom (policy [] (2 ∷ 1 ∷ 0 ∷ [])) 0 ≡ shownChain (1 ∷ 0 ∷ [])
+unfolding computing
+role-last = refl
+
+pub loop-shown : loopCall (imageBytes (ended (headWord 1 2 1 ∷ seniorWord 0 1 ∷ seniorWord 1 0 ∷ []))) 64 ≡ shownChain (1 ∷ 0 ∷ [])
+unfolding computing
+loop-shown = refl
+
+-- ---- a line
+
+abbrev holds-0 : Session
+holds-0 = record { active = 1; history = 1 }
+
+-- sessions with role 0 alone, all open
+abbrev line : List Session → Line
+line sessions = record { opened = 1; history = 1; sessions = sessions }
+
+abbrev busy : Line
+busy = line (holds-0 ∷ [])
+
+-- two roles that the user may activate, both of which carry permission 0; role 0 has the limit 2
+abbrev two : ℕ → Meaning
+two own =
+    record {
+      user = 0;
+      roles = 2;
+      permissions = 1;
+      authorized = own;
+      carried = 1 ∷ 1 ∷ [];
+      granter = λ m r. ifBelow 1 m;
+      allMet = λ f. true;
+      exclusions = [];
+      limits = 2 ∷ 0 ∷ [];
+    }
+
+pub eight-sessions : SESSIONS ≡ 8
+eight-sessions = refl
+
+pub counted-once : activeIn (holds-0 ∷ holds-0 ∷ []) ≡ 1
+unfolding computing
+counted-once = refl
+
+pub closed-session-counts : counted (line []) holds-0 MsHmer ≡ 1
+unfolding computing
+closed-session-counts = refl
+
+pub held-now : holding 0 (record { active = 0; history = 1 } ∷ []) ≡ 0
+unfolding computing
+held-now = refl
+
+pub limits-judge-no-line : sound 2 (two 3) (record { opened = 3; history = 1; sessions = holds-0 ∷ holds-0 ∷ [] }) ≡ true
+unfolding computing
+limits-judge-no-line = refl
+
+pub put-in : putIn 0 2 busy ≡ (record { opened = 1; history = 3; sessions = record { active = 2; history = 3 } ∷ [] })
+unfolding computing
+put-in = refl
+
+pub own-session-bars-nothing : barred (two 3) nobody busy 0 0 ≡ false
+unfolding computing
+own-session-bars-nothing = refl
+
+pub barred-below-the-limit : barred (two 3) (record { held = λ r. 1; unsound = none }) busy 0 0 ≡ true
+unfolding computing
+barred-below-the-limit = refl
+
+-- ---- the choice
+
+-- role 0 carries permission 0, and so does role 1; role 2 carries the permissions 0 and 1; role 16 carries permission 64
+abbrev carrying : Meaning
+carrying =
+    record {
+      user = 0;
+      roles = 17;
+      permissions = 65;
+      authorized = 2 ^ 17 - 1;
+      carried = 1 ∷ 1 ∷ 3 ∷ (replicate 13 0 ++ (2 ^ 64 ∷ []));
+      granter = λ m r. none;
+      allMet = λ f. true;
+      exclusions = [];
+      limits = [];
+    }
+
+pub lower-bound : admissible carrying busy 0 1 1 0 ≡ false
+unfolding computing
+lower-bound = refl
+
+pub upper-bound : admissible carrying busy 0 0 1 4 ≡ false
+unfolding computing
+upper-bound = refl
+
+pub fewest : cost 1 3 ≡ 3
+unfolding computing
+fewest = refl
+
+pub most : cost 2 3 ≡ 253
+unfolding computing
+most = refl
+
+pub high-permission-counts : permissionCost carrying 1 (2 ^ 16) ≡ 1
+unfolding computing
+high-permission-counts = refl
+
+pub high-role-counts : roleCost 1 (2 ^ 16) ≡ 1
+unfolding computing
+high-role-counts = refl
+
+pub permissions-first : better carrying 1 1 3 4 ≡ true
+unfolding computing
+permissions-first = refl
+
+pub lower-number : better carrying 0 0 1 2 ≡ true
+unfolding computing
+lower-number = refl
+
+-- ---- calls
+
+abbrev query : ℕ → ℕ → ℕ → Query
+query lower aim room = record { lower = bytesOf 32 lower; upper = bytesOf 32 1; permissionAim = aim; roleAim = 1; room = room }
+
+pub short-ask-asks : queryOf (short-ask 0 [] [] 40) ≡ (record { lower = []; upper = []; permissionAim = 1; roleAim = 1; room = 40 })
+unfolding computing
+short-ask-asks = refl
+
+pub session-past-the-last : applies 1 (two 3) nobody busy 1 (query 1 1 40) bad-session ≡ true
+unfolding computing
+session-past-the-last = refl
+
+pub permission-past-the-last : applies 1 (two 3) nobody busy 0 (query 2 1 40) bad-permission ≡ true
+unfolding computing
+permission-past-the-last = refl
+
+pub below-before-carried : first (applies 1 (two 3) nobody busy 0 (query 1 1 40)) (canGive (explain 0 1)) ≡ some (not-below 1)
+unfolding computing
+below-before-carried = refl
+
+pub aim-before-room : first (applies 1 (two 3) nobody busy 0 (query 1 3 39)) (canGive (ask 0 (query 1 3 39))) ≡ some bad-aim
+unfolding computing
+aim-before-room = refl
+
+pub lowest-carrier : carrier (λ r. some 0) 3 ≡ some 0
+unfolding computing
+lowest-carrier = refl
+
+pub roles-told : twoRoles 1 (some 2) ≡ some 66
+unfolding computing
+roles-told = refl
+
+pub other-told : numberAfter (some 1) ≡ 2
+unfolding computing
+other-told = refl
+
+pub refused-line-stays : unless nobody (some is-full) [] (record { reply = refuse 0 0; line = 1 ∷ [] }) .line ≡ []
+unfolding computing
+refused-line-stays = refl
+
+-- ---- clause texts
+
+pub replaced-not-counted : stays busy 0 MsDmer ≡ 0
+unfolding computing
+replaced-not-counted = refl
+
+pub weights : soft (two 3) 1 2
+    ≡ (record { weight = 3; clause = mustNot 3 } ∷ record { weight = 1; clause = must 1 } ∷ record { weight = 1; clause = must 2 } ∷ [])
+unfolding computing
+weights = refl
+
+-- another user holds role 0
+pub barred-in-text : textFor (two 3) (record { held = λ r. 1; unsound = none }) busy 0 (query 1 1 40) ≡ textOf (two 2) busy 0 1 1 1 1
+unfolding computing
+barred-in-text = refl
+
+-- ---- a whole ledger, of one session a user: 32 bytes a line
+
+-- user 0 has no session open, and the first byte of user 1's line is b
+abbrev lines : ℕ → List ℕ
+lines b = replicate 32 0 ++ (b ∷ replicate 31 0)
+
+pub own-line-read : stepOn 1 chain (lines 1) (openBy 1) .reply ≡ refuse 14 0
+unfolding computing
+own-line-read = refl
+
+pub others-line-judged : unsoundOther 1 chain 0 (lines 2) 1 ≡ true
+unfolding computing
+others-line-judged = refl
+
+pub refused-image-told : stepBy 1 (Refused 5 9) chain [] (openBy 0) .reply ≡ refuse 5 9
+unfolding computing
+refused-image-told = refl
+
+pub extra-told : returned (refuse 11 2) ≡ 523
+unfolding computing
+extra-told = refl
+
+pub buffer-stays : answered (7 ∷ []) (refuse 20 0) ≡ (7 ∷ [])
+unfolding computing
+buffer-stays = refl
+
+-- ---- moves
+
+pub lowest-user-moved : moveAnswer 1 1 chain (replicate 64 2) 0 2 ≡ refuse 11 0
+unfolding computing
+lowest-user-moved = refl
+
+pub history-moved : resized 1 (replicate 8 0 ++ (5 ∷ replicate 23 0)) ≡ replicate 8 0 ++ (5 ∷ replicate 23 0)
+unfolding computing
+history-moved = refl
+
+pub refused-target-stays : writtenIf (refuse 11 0) (1 ∷ []) [] .ledger ≡ []
+unfolding computing
+refused-target-stays = refl
+
+pub ledger-before-room : moveOn 1 1 chain [] [] .reply ≡ refuse 9 0
+unfolding computing
+ledger-before-room = refl

@@ -1,0 +1,2 @@
+-- The laws that the proof of a move cites.
+pub mod Moving

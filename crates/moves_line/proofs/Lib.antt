@@ -1,0 +1,2 @@
+-- The laws that the proofs of one line's move cite.
+pub mod OneLine

@@ -1,0 +1,22 @@
+-- `query_rank::least_permissions` meets its contract.
+-- Assumes nothing.
+use native.Mathlib.Omega.{arith}
+use borrow.Author.Needs.{needs}
+use Rattle.sets.specs.Words.{value}
+use Rattle.query_rank.proofs.Ranks.{count-le}
+use Rattle.query_rank.proofs.Bounds.{least-few, least-many}
+use Rattle.query_rank.proofs.least_permissions.Statement.{statement}
+use Rattle.query_rank.proofs.least_permissions.Tie as tie
+
+pub least-permissions-spec : {M : Type 1} → statement M
+least-permissions-spec =
+    tie.close
+    (tie.spec
+    (λ c. search needs)
+    (λ c κs. search needs)
+    (λ c. search needs)
+    (λ c. search (needs, least-few))
+    (λ c κs. search needs)
+    (λ c. omega (arith, c .perm-size2 .ensures, count-le 256 (value (c .before .before .before .args .top))))
+    (λ c. search needs)
+    (λ c. search (needs, least-many)))

@@ -1,0 +1,2 @@
+-- How role sets rank.
+pub mod Ranks

@@ -1,0 +1,4 @@
+-- The laws of words and of a line cut into them.
+pub mod WordLaws
+pub mod CutLaws
+pub mod SameLaws

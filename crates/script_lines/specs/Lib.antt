@@ -1,0 +1,2 @@
+-- What the functions that cut a line find.
+pub mod Cutting

@@ -1,0 +1,3 @@
+-- The laws of digits, numerals and bounds.
+pub mod NumeralLaws
+pub mod FillLaws

@@ -1,0 +1,2 @@
+-- What the functions that read numbers find.
+pub mod Numbers

@@ -1,0 +1,3 @@
+-- The laws of the forms of a line.
+pub mod FormLaws
+pub mod ReadLaws

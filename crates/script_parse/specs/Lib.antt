@@ -1,0 +1,2 @@
+-- The call that a parsed line is.
+pub mod Reading

@@ -1,0 +1,198 @@
+-- `search_steps::permission_step` and `role_step` meet their contracts. What falls counts the permissions still wanted and, twice, the
+-- roles still free; a permission step stands one above the role step that it makes.
+-- Assumes nothing.
+use Prim.Native.Nat.{ℕ, _+_, _*_, _<_}
+use native.Mathlib.Omega.{arith}
+use mathlib.Core.Path.{refl}
+use borrow.Author.Needs.{needs}
+use borrow.Author.Tests.{not-true, not-false}
+use borrow.Fn.Kinds.{In}
+use borrow.Fn.PlainCycle.{Measures, is, falls, and}
+use denote.Ref.{now}
+use Rattle.model.specs.Sets.{count}
+use Rattle.sets.specs.Words.{value}
+use Rattle.query.specs.Carry.{rowsOf}
+use Rattle.search_steps.specs.Search.{taskOf}
+use Rattle.query_rooms.proofs.RoomLaws.{roomy-less}
+use Rattle.query.proofs.Turned.{turned-less}
+use Rattle.search_steps.proofs.Turns.{gives-up, reaches, goes-on, tries-sub, runs-out, barred-sub, ready-more, tries-on, tries-off, wanted, wanted-less, roles-less}
+use Rattle.search_steps.proofs.permission_step.Reads as permission-step
+use Rattle.search_steps.proofs.permission_step.Kinds as permission-step-kinds
+use Rattle.search_steps.proofs.+permission_step+role_step.Lts-permission_step as permission-step-lts
+use Rattle.search_steps.proofs.role_step.Reads as role-step
+use Rattle.search_steps.proofs.role_step.Kinds as role-step-kinds
+use Rattle.search_steps.proofs.+permission_step+role_step.Lts-role_step as role-step-lts
+use Rattle.query.proofs.carry.missing.Reads as missing-reads
+use Rattle.query_rank.proofs.key_of.Reads as key-of-reads
+use Rattle.query_rank.proofs.no_worse.Reads as no-worse-reads
+use Rattle.query_rooms.proofs.rooms.room_for.Reads as room-for-reads
+use Rattle.sets.proofs.inter.Reads as inter-reads
+use Rattle.sets.proofs.lowest.Reads as lowest-reads
+use Rattle.sets.proofs.perm_union.Reads as perm-union-reads
+use Rattle.sets.proofs.perm_within.Reads as perm-within-reads
+use Rattle.sets.proofs.with.Reads as with-reads
+use Rattle.sets.proofs.without.Reads as without-reads
+use Rattle.search_steps.proofs.+permission_step+role_step.{statement}
+use Rattle.search_steps.proofs.+permission_step+role_step.Tie.{close}
+
+abbrev μ-permission-step : Measures 4 permission-step-kinds.ps ℕ
+μ-permission-step κs a = wanted (value (a .1 .1 .1 .0 .lower)) (value (a .1 .1 .1 .1 .1 .1 .0)) + 2 * count 64 (a .1 .1 .1 .1 .0) + 1
+
+abbrev μ-role-step : Measures 4 role-step-kinds.ps ℕ
+μ-role-step κs a = wanted (value (a .1 .1 .1 .0 .lower)) (value (a .1 .1 .1 .1 .1 .1 .1 .0)) + 2 * count 64 (a .1 .1 .1 .1 .1 .0)
+
+abbrev permission-step-at : ℕ → In 4 permission-step-kinds.ps
+permission-step-at t = and 4 permission-step-kinds.ps (is 4 permission-step-kinds.ps μ-permission-step t) permission-step.Pre
+
+abbrev permission-step-below : ℕ → In 4 permission-step-kinds.ps
+permission-step-below t = and 4 permission-step-kinds.ps (falls 4 permission-step-kinds.ps _<_ μ-permission-step t) permission-step.Pre
+
+abbrev role-step-at : ℕ → In 4 role-step-kinds.ps
+role-step-at t = and 4 role-step-kinds.ps (is 4 role-step-kinds.ps μ-role-step t) role-step.Pre
+
+abbrev role-step-below : ℕ → In 4 role-step-kinds.ps
+role-step-below t = and 4 role-step-kinds.ps (falls 4 role-step-kinds.ps _<_ μ-role-step t) role-step.Pre
+
+pub +permission-step+role-step-spec : {M : Type 1} → statement M
++permission-step+role-step-spec =
+    close μ-permission-step μ-role-step (λ t. permission-step-lts.spec (
+      key-of-reads.Asked,
+      key-of-reads.Learnt,
+      no-worse-reads.Asked,
+      no-worse-reads.Learnt,
+      perm-within-reads.Asked,
+      perm-within-reads.Learnt,
+      missing-reads.Asked,
+      missing-reads.Learnt,
+      inter-reads.Asked,
+      inter-reads.Learnt,
+      role-step-below t,
+      role-step.Post,
+    )
+    (permission-step-at t)
+    permission-step.Post
+    (λ c κs. search needs)
+    (λ c κs. search needs)
+    (λ c. let s = c .before .before .before in
+    let g = s .args in
+    gives-up (taskOf (now (g .rows)) (now (g .masks)) (now (g .rooms)) (g .job)) _ _ _ _ _ _ (s .pre .1 .0) (c .before .before .key-of .ensures)
+    (c .before .no-worse .ensures) _ (s .pre .1 .1) (c .if1 .taken))
+    (λ c κs. search needs)
+    (λ c. let s = c .before .before .before .before .before .before in
+    let g = s .args in
+    reaches (taskOf (now (g .rows)) (now (g .masks)) (now (g .rooms)) (g .job)) _ _ _ _ _ _ (s .pre .1 .0)
+    (c .before .before .before .before .before .key-of .ensures) (c .before .before .before .before .no-worse .ensures) _ (s .pre .1 .1)
+    (c .before .before .before .if1 .left) _ (c .before .perm-within .ensures) (c .if2 .taken))
+    (λ c κs. search needs)
+    (λ c. search needs)
+    (λ c. search needs)
+    (λ c. search needs)
+    (λ c κs. search needs)
+    (λ c κs. let k = c .before .before .before .before .before in
+    let s = k .before .before .before .before .before in
+    (omega (arith, s .pre .0), (s .pre .1 .0, s .pre .1 .1, tries-sub (s .args .free) _ (c .inter .result) (c .inter .ensures), s .pre .1 .2)))
+    (λ c. let h = c .before in
+    let m = h .before .before .before in
+    let w = m .before .before in
+    let s = w .before .before .before .before .before in
+    let g = s .args in
+    goes-on (taskOf (now (g .rows)) (now (g .masks)) (now (g .rooms)) (g .job)) _ _ _ _ (s .pre .1 .0) _ (w .perm-within .ensures) (now (g .turned))
+    _ (m .missing .result .0) (h .inter .result) _ (m .before .if2 .left) (m .missing .ensures) (s .pre .1 .2) (h .inter .ensures) (c .role-step .ensures)))
+    λ t. role-step-lts.spec (
+      lowest-reads.Asked,
+      lowest-reads.Learnt,
+      without-reads.Asked,
+      without-reads.Learnt,
+      with-reads.Asked,
+      with-reads.Learnt,
+      room-for-reads.Asked,
+      room-for-reads.Learnt,
+      role-step-below t,
+      role-step.Post,
+      perm-union-reads.Asked,
+      perm-union-reads.Learnt,
+      permission-step-below t,
+      permission-step.Post,
+    )
+    (role-step-at t)
+    role-step.Post
+    (λ c. let g = c .before .args in runs-out (taskOf (now (g .rows)) (now (g .masks)) (now (g .rooms)) (g .job)) _ _ _ _ (c .if1 .taken))
+    (λ c κs. search needs)
+    (λ c κs. search needs)
+    (λ c κs. search needs)
+    (λ c κs. search needs)
+    (λ c κs. c .before .before .before .before .before .pre .1 .0 .few)
+    (λ c κs. let f = c .before .before .before in
+    let l = f .before .before in
+    let s = l .before .before in
+    let g = s .args in
+    let low = l .lowest .ensures in (
+      omega (arith, s .pre .0, roles-less _ _ _ (s .fits .free .fits) (low .small) (s .pre .1 .2 (l .lowest .result .0) (low .member)) (f .without2 .ensures)),
+      (
+        s .pre .1 .0,
+        s .pre .1 .1,
+        barred-sub _ _ _ _ _ (s .pre .1 .2) (low .member) (f .before .without .ensures) (f .without2 .ensures),
+        turned-less (rowsOf (now (g .rows))) (now (g .turned)) (value (g .job .lower)) _ _ _ (s .pre .1 .3)
+            (s .pre .1 .2 (l .lowest .result .0) (low .member)) (f .without2 .ensures),
+      ),
+    ))
+    (λ c. let w = c .before .before .before in
+    let f = w .before in
+    let l = f .before .before in
+    let s = l .before .before in
+    let g = s .args in
+    let low = l .lowest .ensures in
+    tries-off (taskOf (now (g .rows)) (now (g .masks)) (now (g .rooms)) (g .job)) (roomy-less (now (g .masks)) (now (g .rooms)) (g .job .count)) _ _
+    _ _ _ _ (s .pre .1 .2 (l .lowest .result .0) (low .member)) (f .without2 .ensures) (w .with .ensures) (c .before .before .room-for .ensures) _ _
+    _ _ (low .member) (f .before .without .ensures) (not-true _ (c .before .if2 .taken)) (c .role-step .ensures))
+    (λ c. search needs)
+    (λ c. search needs)
+    (λ c. search needs)
+    (λ c κs. search needs)
+    (λ c κs. let i = c .before .before .before in
+    let w = i .before .before in
+    let f = w .before in
+    let l = f .before .before in
+    let s = l .before .before in
+    let g = s .args in
+    let low = l .lowest .ensures in (
+      omega (
+        arith,
+        s .pre .0,
+        roles-less _ _ _ (s .fits .free .fits) (low .small) (s .pre .1 .2 (l .lowest .result .0) (low .member))
+            (f .without2 .ensures),
+        wanted-less (value (g .job .lower)) (value (g .carried)) _ (value (c .perm-union .result)) (c .perm-union .ensures),
+      ),
+      (
+        ready-more (taskOf (now (g .rows)) (now (g .masks)) (now (g .rooms)) (g .job)) _ _ _ _ (s .pre .1 .0) _ _ _ _ (low .small) (w .with .ensures)
+            (c .perm-union .ensures) refl (i .before .room-for .ensures) (not-false _ (i .if2 .left)),
+        s .pre .1 .1,
+        turned-less (rowsOf (now (g .rows))) (now (g .turned)) (value (g .job .lower)) _ _ _ (s .pre .1 .3)
+            (s .pre .1 .2 (l .lowest .result .0) (low .member)) (f .without2 .ensures),
+      ),
+    ))
+    (λ c κs. let u = c .before .before .before in
+    let f = u .before .before .before .before in
+    let l = f .before .before in
+    let s = l .before .before in
+    let g = s .args in
+    let low = l .lowest .ensures in (
+      omega (arith, s .pre .0, roles-less _ _ _ (s .fits .free .fits) (low .small) (s .pre .1 .2 (l .lowest .result .0) (low .member)) (f .without2 .ensures)),
+      (
+        s .pre .1 .0,
+        s .pre .1 .1,
+        barred-sub _ _ _ _ _ (s .pre .1 .2) (low .member) (f .before .without .ensures) (f .without2 .ensures),
+        turned-less (rowsOf (now (g .rows))) (now (g .turned)) (value (g .job .lower)) _ _ _ (s .pre .1 .3)
+            (s .pre .1 .2 (l .lowest .result .0) (low .member)) (f .without2 .ensures),
+      ),
+    ))
+    (λ c. let i = c .before .before .before .before .before in
+    let w = i .before .before in
+    let f = w .before in
+    let l = f .before .before in
+    let s = l .before .before in
+    let g = s .args in
+    let low = l .lowest .ensures in
+    tries-on (taskOf (now (g .rows)) (now (g .masks)) (now (g .rooms)) (g .job)) (roomy-less (now (g .masks)) (now (g .rooms)) (g .job .count)) _ _ _
+    _ _ _ (s .pre .1 .2 (l .lowest .result .0) (low .member)) (f .without2 .ensures) (w .with .ensures) (i .before .room-for .ensures) _ _ _ _ _
+    (low .member) (f .before .without .ensures) (c .before .permission-step .ensures) (c .role-step2 .ensures))

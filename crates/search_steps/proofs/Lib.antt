@@ -1,0 +1,6 @@
+-- The laws behind the searches' contracts.
+pub mod Between
+pub mod Carried
+pub mod Costs
+pub mod Returns
+pub mod Turns

@@ -1,0 +1,2 @@
+-- The law that the proof of the short ask cites.
+pub mod ShortAsks

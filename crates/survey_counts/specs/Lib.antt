@@ -1,0 +1,2 @@
+-- The counts as they are kept while lines are answered.
+pub mod Counting

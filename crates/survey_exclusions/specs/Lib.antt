@@ -1,0 +1,2 @@
+-- What the functions that write exclusions need and do.
+pub mod Writing

@@ -1,0 +1,2 @@
+-- The laws of lines of figures.
+pub mod FigureLaws

@@ -1,0 +1,2 @@
+// Lines of figures written into a buffer.
+pub mod figures;

@@ -1,0 +1,16 @@
+-- `tables_exclusions::exclusions::joined` meets its contract.
+-- Assumes nothing.
+use borrow.Author.Needs.{needs}
+use Rattle.model.specs.Policy.{joining}
+use Rattle.image_words.specs.Bounds.{Small}
+use Rattle.tables_exclusions.proofs.exclusions.joined.Statement.{statement}
+use Rattle.tables_exclusions.proofs.exclusions.joined.Tie as tie
+
+pub joined-spec : {M : Type 1} → statement M
+unfolding joining Small
+joined-spec =
+    tie.close
+    (tie.spec (λ c. search needs) (λ c κs. rw (c .before .e .given .1) at (c .before .before .before .pre)) (λ c. search needs) (λ c. search needs)
+    (λ c. search needs) (λ c. search needs) (λ c. search needs) (λ c. search needs) (λ c. search needs)
+    (λ c. rw (c .before .before .e .given .1) (c .with .ensures)) (λ c. search needs) (λ c. search needs) (λ c. search needs) (λ c. search needs)
+    (λ c. search needs) (λ c. search needs) (λ c. search needs))

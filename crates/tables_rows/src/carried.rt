@@ -1,0 +1,31 @@
+// What roles carry: the granted rows joined by the closed table of juniors, for the roles that are asked for.
+ghost use mathlib.Core.Path.{_≡_};
+ghost use Rattle.model.specs.Sets.{unionAt};
+ghost use Rattle.sets.specs.Words.{value, values};
+ghost use Rattle.tables_rows.specs.Carried.{carriedRows, carriedOf};
+use hierarchy::reach::reach;
+use hierarchy::reach::reached_by;
+
+// What each role of `wanted` carries: the permissions granted to the roles that it reaches by the closed table.
+pub fn carried(granted: &[[u64; 4]; 64], below: &[u64; 64], wanted: u64) -> [[u64; 4]; 64]
+    ensures { λ t. ⌜ values t ≡ carriedRows (values (now (granted .entry))) (now (below .entry)) wanted ⌝ }
+{
+    let mut left = wanted;
+    let mut out = [[0u64; 4]; 64];
+    while left != 0 {
+        let r = sets::lowest(left);
+        let row = sets::perm_union_at(granted, reach(below, r));
+        out[r.0 as usize] = row;
+        left = sets::without(left, r);
+    }
+    out
+}
+
+// What the roles of a set carry, by the closed table: the grants of all that they reach, joined. A permission is in it exactly if a role of
+// the set has a granting role of it (the model's `shown-named`).
+pub fn carried_by(granted: &[[u64; 4]; 64], below: &[u64; 64], set: u64) -> [u64; 4]
+    ensures { λ s. ⌜ value s ≡ unionAt (carriedOf (values (now (granted .entry))) (now (below .entry))) set ⌝ }
+{
+    let reached = reached_by(below, set);
+    sets::perm_union_at(granted, reached)
+}

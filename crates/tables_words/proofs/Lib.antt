@@ -1,0 +1,2 @@
+-- The laws that the proofs of the code that takes words in use.
+pub mod Steps

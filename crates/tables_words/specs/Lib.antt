@@ -1,0 +1,2 @@
+-- What the contracts of the code that takes words in say, beside the model's definitions.
+pub mod Step

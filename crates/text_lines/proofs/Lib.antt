@@ -1,0 +1,2 @@
+-- The laws of the text of an output line.
+pub mod LineLaws

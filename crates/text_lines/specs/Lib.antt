@@ -1,0 +1,2 @@
+-- The hexadecimal digits of the number that bytes make.
+pub mod Pairs

@@ -1,0 +1,2 @@
+-- What the contracts of the sorting say, beside the order of exclusions.
+pub mod Placed

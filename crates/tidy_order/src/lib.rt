@@ -1,0 +1,2 @@
+// The order of exclusions in the tidy image.
+pub mod sort; // sort.rt: exclusions ascending and without repeats

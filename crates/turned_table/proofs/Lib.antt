@@ -1,0 +1,4 @@
+-- The laws of the closed grant table, and the theorem.
+pub mod TableProof
+pub mod TableCallProof
+pub mod Theorems

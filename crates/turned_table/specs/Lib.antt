@@ -1,0 +1,3 @@
+-- The closed grant table in bytes, and the call that gives it.
+pub mod Table
+pub mod TableCalls

@@ -1,0 +1,2 @@
+// The closed grant table in bytes.
+pub mod table; // table.rt: the closed grant table in bytes

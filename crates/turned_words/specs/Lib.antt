@@ -1,0 +1,2 @@
+-- What the contracts of 64 words turned say.
+pub mod Stages

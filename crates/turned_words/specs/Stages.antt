@@ -1,0 +1,64 @@
+-- 64 words of 64 bits turned by exchanges: each exchanges the bits at the places of a mask with those j further, in
+-- rows j apart.
+-- Assumes nothing.
+use mathlib.Core.Path.{_≡_}
+use mathlib.Core.Bool.{Bool, true, _&&_, not}
+use mathlib.Core.List.{List}
+use Prim.Native.Nat.{ℕ, zero, suc, _+_, _-_, _<_}
+use lib.Dec.{eqb, ltb, leb}
+use lib.ListN.{getD}
+use Rattle.model.specs.Tests.{pick}
+use Rattle.model.specs.Sets.{has, one, setOf}
+
+-- the test holds for every number below n
+unfoldable pub allBelow : (ℕ → Bool) → ℕ → Bool
+allBelow f zero = true
+allBelow f (suc n) = f n && allBelow f n
+
+-- the mask m marks one of each two places that are j apart, the lower one
+unfoldable pub marks : ℕ → ℕ → Bool
+marks j m = allBelow (λ c. pick (has m c) (ltb (c + j) 64 && not (has m (c + j))) (leb j c && has m (c - j))) 64
+
+-- the other place of the two
+unfoldable pub across : ℕ → ℕ → ℕ → ℕ
+across j m x = pick (has m x) (x + j) (x - j)
+
+-- both are marked, or neither
+unfoldable pub alike : ℕ → ℕ → ℕ → Bool
+alike m x y = eqb (one (has m x)) (one (has m y))
+
+-- a bit of a row
+pub record Place : Type 0 where
+  pub row : ℕ
+  pub bit : ℕ
+
+-- where the bit at a place comes from
+unfoldable pub source : ℕ → ℕ → Place → Place
+source j m q = pick (alike m (q .row) (q .bit)) q (record { row = across j m (q .row); bit = across j m (q .bit) })
+
+-- a bit of the words a
+unfoldable pub bitAt : List ℕ → Place → Bool
+bitAt a q = has (getD a (q .row) 0) (q .bit)
+
+-- row k after the exchange
+unfoldable pub exchanged : ℕ → ℕ → List ℕ → ℕ → ℕ
+exchanged j m a k = setOf (λ c. bitAt a (source j m (record { row = k; bit = c }))) 64
+
+-- the row of a marked place, made of itself and the one j further, and that of the other
+unfoldable pub lowRow : ℕ → ℕ → ℕ → ℕ → ℕ
+lowRow j m own other = setOf (λ c. pick (has m c) (has own c) (has other (c - j))) 64
+
+unfoldable pub highRow : ℕ → ℕ → ℕ → ℕ → ℕ
+highRow j m own other = setOf (λ c. pick (has m c) (has other (c + j)) (has own c)) 64
+
+-- all rows are exchanged
+abbrev pub Exchanged : ℕ → ℕ → List ℕ → List ℕ → Type 0
+Exchanged j m a b = (k : ℕ) → k < 64 → getD b k 0 ≡ exchanged j m a k
+
+-- which of the 64 words have k
+unfoldable pub columnOf : List ℕ → ℕ → ℕ
+columnOf a k = setOf (λ r. has (getD a r 0) k) 64
+
+-- all columns are made rows
+abbrev pub Transposed : List ℕ → List ℕ → Type 0
+Transposed a b = (k : ℕ) → k < 64 → getD b k 0 ≡ columnOf a k
