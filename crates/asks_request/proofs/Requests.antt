@@ -1,12 +1,12 @@
 -- The refusals of an ask before the search, case by case, and what holds where there is none.
 -- Assumes nothing.
-use mathlib.Core.Path.{_≡_, refl, sym, ap, subst, _∙_}
+use mathlib.Core.Path.{_≡_, refl, sym, ap, _∙_}
 use mathlib.Core.Bool.{Bool, true, false, not, _&&_, _||_}
 use mathlib.Core.Option.{none}
 use mathlib.Core.List.{List, []}
 use Prim.Native.Nat.{ℕ, zero, suc, _+_, _*_, _^_, _≤_, _<_}
 use native.Mathlib.Omega.{arith}
-use lib.Dec.{eqb, ltb, leb}
+use lib.Dec.{eqb, ltb}
 use lib.ListN.{length, take}
 use borrow.Table.Steps.{cases}
 use borrow.Author.Tests.{not-true, not-false, le-leb, lt-leb, leb-false, lt-ltb, le-ltb, ltb-false, eq-eqb, ne-eqb, eqb-true}

@@ -1,7 +1,7 @@
 -- What a run comes to does not depend on the chunks in which its input comes.
 -- Assumes nothing.
 use mathlib.Core.Path.{_≡_, refl, _∙_}
-use mathlib.Core.List.{List, [], _∷_, _++_}
+use mathlib.Core.List.{List, []}
 use Prim.Native.Nat.{ℕ}
 use Rattle.chunks.specs.Joined.{joined, TakesAll, none-left, one-taken}
 

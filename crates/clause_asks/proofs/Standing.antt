@@ -3,7 +3,7 @@
 use mathlib.Core.Path.{_≡_, refl, sym, ap, ap₂, subst, _∙_}
 use mathlib.Core.Bool.{true}
 use mathlib.Core.List.{List}
-use Prim.Native.Nat.{ℕ, _^_, _≤_, _<_}
+use Prim.Native.Nat.{ℕ, _≤_, _<_}
 use native.Mathlib.Omega.{arith}
 use lib.Dec.{lit<}
 use lib.ListN.{length, getD, take, length-take}
@@ -14,7 +14,7 @@ use Rattle.model.specs.declared.Exclusion.{Exclusion}
 use Rattle.model.specs.declared.Exclusions.{Exclusions}
 use Rattle.model.specs.declared.Line.{Line}
 use Rattle.model.specs.Sets.{has}
-use Rattle.model.specs.Policy.{Policy, authorized, belowTable, carriedTable, meaning}
+use Rattle.model.specs.Policy.{Policy, belowTable, meaning}
 use Rattle.model.specs.Line.{SESSIONS, readLine, exclusionsMet}
 use Rattle.model.specs.Limits.{Others, unbarred}
 use Rattle.model.specs.Dimacs.{textOf}

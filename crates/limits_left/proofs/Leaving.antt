@@ -3,7 +3,7 @@
 use mathlib.Core.Path.{_≡_, refl, sym, ap, _∙_, subst}
 use mathlib.Core.Bool.{Bool, true, false, _&&_, _||_, not}
 use mathlib.Core.List.{List}
-use Prim.Native.Nat.{ℕ, zero, suc, _+_, _-_, _/_, _%_, _^_, _≤_, _<_}
+use Prim.Native.Nat.{ℕ, suc, _+_, _-_, _/_, _%_, _^_, _≤_, _<_}
 use native.Mathlib.Numerals.{add-one}
 use native.Mathlib.Nat.{mod-lt}
 use native.Mathlib.Decide.{decLt}
@@ -14,7 +14,6 @@ use lib.ListN.{length, getD, drop, drop-of-length-le}
 use lib.Seq.{drop-cons}
 use borrow.Author.Tests.{eq-eqb, ne-eqb, lt-ltb, le-ltb, lt-leb, le-leb}
 use borrow.Table.Steps.{cases}
-use Rattle.model.specs.declared.Line.{Line}
 use Rattle.model.specs.Tests.{pick, any}
 use Rattle.model.specs.Sets.{has, setOf, sumTo}
 use Rattle.model.specs.Policy.{Policy, Meaning, limited, hasLimits, authorized, meaning}
@@ -22,7 +21,7 @@ use Rattle.model.specs.Line.{SESSIONS, holding, others}
 use Rattle.model.specs.Limits.{elsewhere, barred, unbarred}
 use Rattle.model.specs.Session.{isAsk}
 use Rattle.model.specs.Run.{Call, lineOf, holdingOf, heldByOthers, othersOf, told}
-use Rattle.model_laws.proofs.Bools.{or-l, or-r}
+use Rattle.model_laws.proofs.Bools.{or-l}
 use Rattle.model_laws.proofs.Barred.{unlimited-choice, none-limited}
 use Rattle.limits.proofs.CardProof.{sum-same, sum-split}
 use Rattle.limits_held.specs.Held.{heldBut, heldByAll}

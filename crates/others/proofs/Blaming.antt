@@ -1,6 +1,6 @@
 -- The lowest line that is not sound: an ask under a policy with limits is refused for it, and where there is none it is told of none.
 -- Assumes nothing.
-use mathlib.Core.Path.{_≡_, refl, sym, ap, _∙_, subst}
+use mathlib.Core.Path.{_≡_, sym, ap, _∙_, subst}
 use mathlib.Core.Bool.{Bool, true, false, _&&_, not, and-false}
 use mathlib.Core.Logic.{inl, inr}
 use mathlib.Core.Option.{none}
@@ -15,11 +15,11 @@ use borrow.Author.Tests.{eqb-true, ltb-true, eq-eqb, ne-eqb, lt-ltb, le-ltb, not
 use borrow.Table.Steps.{cases}
 use Rattle.model.specs.declared.Line.{Line}
 use Rattle.model.specs.Tests.{pick, any}
-use Rattle.model.specs.Policy.{Policy, hasLimits, meaning, tableOf}
+use Rattle.model.specs.Policy.{Policy, hasLimits, meaning}
 use Rattle.model.specs.Line.{lineSize, sound}
 use Rattle.model.specs.Limits.{Others, nobody}
 use Rattle.model.specs.Session.{isAsk, refuse, Result}
-use Rattle.model.specs.Run.{Call, Event, lineAt, withLine, lineOf, unsoundOther, othersOf, told, ruled, stepOn}
+use Rattle.model.specs.Run.{Call, withLine, lineOf, unsoundOther, othersOf, told, ruled, stepOn}
 use Rattle.model_laws.proofs.Bools.{and-l, and-r, both}
 use Rattle.model_laws.proofs.UnionLaws.{below-or-last}
 use Rattle.model_laws.proofs.CallLaws.{first-below}

@@ -1,6 +1,6 @@
 -- The counts add up to the length of the list of answers, and each fits 64 bits where that does.
 -- Assumes nothing.
-use mathlib.Core.Path.{_≡_, refl, sym, ap, _∙_}
+use mathlib.Core.Path.{_≡_, refl, ap, _∙_}
 use mathlib.Core.Bool.{Bool, true, false}
 use mathlib.Core.List.{List, [], _∷_}
 use Prim.Native.Nat.{ℕ, zero, suc, _+_, _^_, _≤_, _<_}
@@ -15,7 +15,7 @@ use Rattle.model.specs.Session.{Reply}
 use Rattle.model.specs.Ranges.{Each}
 use Rattle.script.specs.Script.{linesOf, firstLedger}
 use Rattle.choose.specs.Choose.{sumBelow}
-use Rattle.survey.specs.Survey.{answersFor, answersOf, countOf}
+use Rattle.survey.specs.Survey.{answersOf, countOf}
 use Rattle.survey.proofs.Answers.{Small, all-small}
 
 -- ---- one answer counts once

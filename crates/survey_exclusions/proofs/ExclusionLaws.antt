@@ -19,7 +19,6 @@ use Rattle.tables.specs.Tables.{Tables}
 use Rattle.text.specs.Writing.{Puts}
 use Rattle.text.proofs.TextLaws.{put-nothing, text-put}
 use Rattle.choose.specs.Choose.{choose, sumBelow}
-use Rattle.survey_exclusions.specs.declared.exclusions.Opening.{Opening}
 use Rattle.survey.specs.Survey.{twoFigures, fourFigures, allowed, exclusionLine, exclusionLines}
 use Rattle.survey.specs.Parts.{openingOf, isAccepted}
 use Rattle.survey_exclusions.specs.Writing.{Fitting, RowsFit, Opens}

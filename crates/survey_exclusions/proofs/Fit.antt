@@ -1,8 +1,8 @@
 -- The figures of an accepted image's exclusions fit 64 bits, and the last of them counts the sets that an exclusion allows.
 -- Assumes nothing.
-use mathlib.Core.Path.{_≡_, sym, _∙_}
+use mathlib.Core.Path.{_≡_}
 use mathlib.Core.List.{List, [], _∷_}
-use Prim.Native.Nat.{ℕ, _^_, _≤_, _<_}
+use Prim.Native.Nat.{ℕ, _^_, _≤_}
 use native.Mathlib.Omega.{arith}
 use Rattle.model.specs.declared.Head.{Head}
 use Rattle.model.specs.declared.Exclusion.{Exclusion}

@@ -32,11 +32,6 @@ module _ {A : Type 0} where
   each-mem P (y ∷ xs) e x m =
       elim (List·Memᴰ·cases-cons m) [ inl q ↦ subst P (sym q) (e .0) | inr k ↦ each-mem P xs (e .1) x k ]
 
-  -- from the members
-  pub each-from : (P : A → Type 0) (xs : List A) → ((x : A) → List·Memᴰ x xs → P x) → Each P xs
-  each-from P [] f = tt
-  each-from P (x ∷ xs) f = (f x (List·Memᴰ·head refl), each-from P xs (λ y m. f y (List·Memᴰ·tail m)))
-
   -- a list with no member
   pub nil-of : (xs : List A) → length xs ≡ 0 → xs ≡ []
   nil-of [] e = refl

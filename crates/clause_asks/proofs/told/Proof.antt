@@ -1,6 +1,5 @@
 -- `clause_asks::told` meets its contract.
 -- Assumes nothing.
-use borrow.Author.Needs.{needs}
 use Rattle.clause_asks.proofs.TextCalls.{told-long, told-short}
 use Rattle.clause_asks.proofs.told.Statement.{statement}
 use Rattle.clause_asks.proofs.told.Tie as tie

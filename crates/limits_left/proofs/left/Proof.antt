@@ -1,6 +1,6 @@
 -- `limits_left::left` meets its contract: by the counts of other sessions, or all of the roles.
 -- Assumes nothing.
-use mathlib.Core.Path.{_≡_, sym, ap, subst, _∙_}
+use mathlib.Core.Path.{sym, ap, subst, _∙_}
 use Prim.Native.Nat.{ℕ, _<_}
 use borrow.Author.Needs.{needs}
 use Rattle.limits_counts.specs.Counted.{countAt}

@@ -9,7 +9,6 @@ use borrow.Fn.Kinds.{In}
 use borrow.Fn.PlainCycle.{Measures, is, falls, and}
 use denote.Ref.{now}
 use Rattle.model.specs.Sets.{count}
-use Rattle.sets.specs.Words.{value}
 use Rattle.search_steps.specs.Search.{taskOf}
 use Rattle.query_rooms.proofs.RoomLaws.{roomy-less}
 use Rattle.search_steps.proofs.Turns.{judges, ready-more, takes-both, takes-one, cuts-off, reaches-less, roles-less}

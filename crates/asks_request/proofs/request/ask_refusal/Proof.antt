@@ -1,10 +1,9 @@
 -- `asks_request::request::ask_refusal` meets its contract: each return names the refusals that come first.
 -- Assumes nothing.
-use mathlib.Core.Path.{_≡_}
 use borrow.Author.Needs.{needs}
 use Rattle.model.specs.Run.{lineOf}
 use Rattle.calls.proofs.FirstSteps.{passed}
-use Rattle.asks_request.specs.Refusals.{sessionRefusal, queryRefusal, askRefusal}
+use Rattle.asks_request.specs.Refusals.{askRefusal}
 use Rattle.asks_request.proofs.Requests.{or-first, or-second}
 use Rattle.asks_request.proofs.request.ask_refusal.Statement.{statement}
 use Rattle.asks_request.proofs.request.ask_refusal.Tie as tie
