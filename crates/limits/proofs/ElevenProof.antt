@@ -31,13 +31,13 @@ use Rattle.model_laws.proofs.Judgements.{accepted-in-range}
 use Rattle.model_laws.proofs.KeptProof.{step-well}
 
 -- ---- of the numbers below n all pass a test, or there is a lowest that does not
-record Lowest (f : ℕ → Bool) (n : ℕ) : Type 0 where
-  at : ℕ
-  below : at < n
-  fails : f at ≡ false
-  lowest : (k : ℕ) → k < at → f k ≡ true
+pub record Lowest (f : ℕ → Bool) (n : ℕ) : Type 0 where
+  pub at : ℕ
+  pub below : at < n
+  pub fails : f at ≡ false
+  pub lowest : (k : ℕ) → k < at → f k ≡ true
 
-lowest-of : (f : ℕ → Bool) (n : ℕ) → ((k : ℕ) → k < n → f k ≡ true) ⊎ Lowest f n
+pub lowest-of : (f : ℕ → Bool) (n : ℕ) → ((k : ℕ) → k < n → f k ≡ true) ⊎ Lowest f n
 lowest-of f zero = inl (λ k i. absurd (omega arith))
 lowest-of f (suc n) = go (f n) refl (lowest-of f n)
   where

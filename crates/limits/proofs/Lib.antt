@@ -3,4 +3,5 @@ pub mod LimitTable
 pub mod OneLine
 pub mod CardProof
 pub mod ElevenProof
+pub mod ApartProof
 pub mod Theorems

@@ -14,10 +14,12 @@ use Rattle.model.specs.Read.{LimitsRead}
 use Rattle.model_laws.proofs.Judgements.{words-pass}
 use Rattle.limits.specs.Card.{LimitsKept}
 use Rattle.limits.specs.Eleven.{AsksEleven}
+use Rattle.limits.specs.Apart.{ApartLimited}
 use Rattle.limits.proofs.LimitTable
 use Rattle.limits.proofs.OneLine
 use Rattle.limits.proofs.CardProof
 use Rattle.limits.proofs.ElevenProof
+use Rattle.limits.proofs.ApartProof
 
 module _ (s : List ℕ) (h : Head) (accepted : judge s ≡ Accepted h) where
   -- a role's limit is the smallest that a word gives it
@@ -35,3 +37,7 @@ module _ (s : List ℕ) (h : Head) (accepted : judge s ≡ Accepted h) where
 -- an open, a close, a show and an explain look at one line
 pub one-line : (W : ℕ) (m : Meaning) (x y : Others) (bs : List ℕ) (op : Operation) → isAsk op ≡ false → rule W m x bs op ≡ rule W m y bs op
 one-line = OneLine.one-line
+
+-- two runs under a policy with limits that differ in all that others may change are the same for a user
+pub apart-limited : ApartLimited
+apart-limited = ApartProof.apart-limited

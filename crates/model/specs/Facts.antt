@@ -1,16 +1,17 @@
 -- What single definitions give on small arguments, by computation. Each fact is false of a wrong definition that must-fail/ tries. The
 -- cases from the bytes of whole images stand in crates/model_cases.
 -- Assumes nothing.
-use mathlib.Core.Path.{_≡_, refl}
+use mathlib.Core.Path.{_≡_, refl, ap}
 use mathlib.Core.Bool.{Bool, true, false}
 use mathlib.Core.Option.{none, some}
-use mathlib.Core.List.{List, [], _∷_, _++_}
+use mathlib.Core.List.{List, [], _∷_, _++_, map}
 use Prim.Native.Nat.{ℕ, _-_, _^_}
-use lib.ListN.{replicate}
+use native.Mathlib.Omega.{arith}
+use lib.ListN.{getD, replicate}
 use Rattle.model.specs.declared.Head.{Head}
 use Rattle.model.specs.declared.Kind.the-variants.{MsDmer, MsHmer}
 use Rattle.model.specs.declared.Exclusion.{Exclusion}
-use Rattle.model.specs.declared.Entry.the-variants.{Assignment, Exclude}
+use Rattle.model.specs.declared.Entry.the-variants.{Assignment, Grant, Senior, Exclude, Member, Limit, End}
 use Rattle.model.specs.declared.Scan.{Scan}
 use Rattle.model.specs.declared.Checked.the-variants.{Accepted, Refused}
 use Rattle.model.specs.declared.Session.{Session}
@@ -18,7 +19,7 @@ use Rattle.model.specs.declared.Line.{Line}
 use Rattle.model.specs.Tests.{first, ifBelow}
 use Rattle.model.specs.Bytes.{bytesOf}
 use Rattle.model.specs.Words.{headWord, seniorWord, ended, imageBytes}
-use Rattle.model.specs.Image.{user, role, says, inRange, crowds, fault, balanced, start, lengthRight, judgeWords, checkNumber}
+use Rattle.model.specs.Image.{user, role, permission, says, inRange, crowds, fault, balanced, start, lengthRight, judgeWords, checkNumber}
 use Rattle.model.specs.Policy.{Policy, Meaning, Agree, belowTable, granter, authorized, lesser, meaning, met}
 use Rattle.model.specs.Judgement.{lowestOnLoop, lowestOverReach, judgeMeaning}
 use Rattle.model.specs.Line.{SESSIONS, activeIn, counted, holding, putIn, sound}
@@ -27,11 +28,12 @@ use Rattle.model.specs.Choice.{admissible, better, cost, permissionCost,
 use Rattle.model.specs.Reduced.{stays}
 use Rattle.model.specs.Clauses.{must, mustNot, soft}
 use Rattle.model.specs.Dimacs.{textOf}
-use Rattle.model.specs.Session.{Query, Operation, ask, short-ask, explain, queryOf, refuse, canGive, carrier, numberAfter, textFor, twoRoles, applies, unless, is-full, bad-session, bad-permission, bad-aim, not-below}
+use Rattle.model.specs.Session.{Query, Operation, ask, short-ask, explain, clauses, queryOf, refuse, done, given, asked, canGive, carrier, numberAfter, textFor, twoRoles, applies, unless, is-full, bad-session, bad-permission, bad-aim, not-below}
 use Rattle.model.specs.Loop.{chainDown, loopCall, loopFrom, loopLength, shownChain}
 use Rattle.model.specs.Run.{answered, openBy, returned, stepBy, stepOn, unsoundOther}
 use Rattle.model.specs.Moves.{moveAnswer, moveOn, resized, writtenIf}
 use Rattle.model.specs.OwnWords.{isOwn}
+use Rattle.model.specs.Independence.{besideText}
 use Rattle.model.specs.Computing.{computing}
 
 -- ---- the words of an image
@@ -138,8 +140,12 @@ pub smaller-limit : lesser 3 2 ≡ 2
 unfolding computing
 smaller-limit = refl
 
-pub limits-agree : (u : ℕ) (p q : Policy) → Agree u p q → p .limits ≡ q .limits
-limits-agree u p q a = a .limits
+abbrev limitedBy : ℕ → Policy
+limitedBy t = record { head = small; assigned = []; granted = []; juniors = []; exclusions = []; limits = t ∷ [] }
+
+-- policies with other limits do not agree
+pub limits-agree : ¬ Agree 0 (limitedBy 2) (limitedBy 3)
+limits-agree a = let e : _≡_ {A = ℕ} 2 3 = ap (λ (l : List ℕ). getD l 0 0) (a .limits) in omega arith
 
 pub met-below-the-limit : met (λ k. 3) (record { kind = MsDmer; limit = 2; members = 3 }) ≡ false
 unfolding computing
@@ -166,6 +172,13 @@ words-first = refl
 pub others-words : isOwn 0 (Assignment (user 1) (role 0)) ≡ false
 unfolding computing
 others-words = refl
+
+-- all else but the end word is the user's too
+pub own-words : map (isOwn 0)
+    (Assignment (user 0) (role 1) ∷ Grant (role 1) (permission 0) ∷ Senior (role 0) (role 1) ∷ Exclude (exclusion 2) 2 ∷ Member (role 1)
+    ∷ Limit (role 1) 2 ∷ End ∷ []) ≡ true ∷ true ∷ true ∷ true ∷ true ∷ true ∷ false ∷ []
+unfolding computing
+own-words = refl
 
 -- ---- loops shown
 
@@ -334,6 +347,11 @@ pub refused-line-stays : unless nobody (some is-full) [] (record { reply = refus
 unfolding computing
 refused-line-stays = refl
 
+-- a user whose past is role 0 is given role 1 where that is the set chosen
+pub asked-anew : asked (two 3) busy [] 0 (some 2) .reply ≡ given 2 1
+unfolding computing
+asked-anew = refl
+
 -- ---- clause texts
 
 pub replaced-not-counted : stays busy 0 MsDmer ≡ 0
@@ -375,6 +393,14 @@ extra-told = refl
 pub buffer-stays : answered (7 ∷ []) (refuse 20 0) ≡ (7 ∷ [])
 unfolding computing
 buffer-stays = refl
+
+-- ---- what a user sees beside clause texts
+
+-- that a text is too long follows the order of the image's words, as the text does
+pub too-long-left-out : besideText (clauses 0 (record { lower = []; upper = []; permissionAim = 0; roleAim = 0; room = 0 }))
+    (record { reply = refuse 19 0; line = [] }) ≡ record { reply = done 0; line = [] }
+unfolding computing besideText
+too-long-left-out = refl
 
 -- ---- moves
 

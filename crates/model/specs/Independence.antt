@@ -3,19 +3,19 @@
 -- of the other users, and by nothing else of them.
 -- Assumes nothing.
 use mathlib.Core.Path.{_≡_}
-use mathlib.Core.Bool.{Bool, true, false}
+use mathlib.Core.Bool.{Bool, true, false, _&&_, _||_}
 use mathlib.Core.List.{List, [], _∷_}
 use Prim.Native.Nat.{ℕ, _*_, _<_}
 use lib.Dec.{eqb}
 use lib.ListN.{length, getD, drop}
 use Rattle.model.specs.declared.Head.{Head}
 use Rattle.model.specs.declared.Checked.the-variants.{Accepted}
-use Rattle.model.specs.Tests.{any}
+use Rattle.model.specs.Tests.{pick, any}
 use Rattle.model.specs.Judgement.{judge}
 use Rattle.model.specs.Policy.{Meaning, policyOf, hasLimits, meaning, onlyFor, Agree, Policy}
 use Rattle.model.specs.Line.{lineSize}
 use Rattle.model.specs.Limits.{Others, nobody}
-use Rattle.model.specs.Session.{Operation, isText, Result, rule}
+use Rattle.model.specs.Session.{Operation, isText, Result, done, rule}
 use Rattle.model.specs.Run.{Call, Event, lineAt, told, run}
 use Rattle.model.specs.OwnWords.{policyIn, ownWords}
 
@@ -97,23 +97,37 @@ SteadyFor W u r = Steady (lineSize W) u (firstLine W u r) (r .calls) (eventsOf W
 unfoldable pub hasText : List Operation → Bool
 hasText os = any isText os
 
+-- a result without what follows the order of the image's words: of a clause text that is written, or refused by 19 as too long, the line
+-- after it is left, and not which of the two it is, nor the text; every other result is left whole
+unfoldable pub besideText : Operation → Result → Result
+besideText o r = pick (isText o && (eqb (r .reply .number) 0 || eqb (r .reply .number) 19)) (record { reply = done 0; line = r .line }) r
+
+-- the results of calls in turn, each so
+unfoldable pub besideTexts : List Operation → List Result → List Result
+besideTexts [] rs = rs
+besideTexts (o ∷ os) [] = []
+besideTexts (o ∷ os) (r ∷ rs) = besideText o r ∷ besideTexts os rs
+
 -- two runs that are the same for user u, who has a line: the policies agree in all but other users' assignments, the first ledgers
--- agree in u's line, u makes the same calls in the same order and, where the policy has limits, is told the same of the other users.
--- Where a clause text is among the calls, both images, other users' assignments and the end word left out, are the same words in the
--- same order.
+-- agree in u's line, u makes the same calls in the same order and, where the policy has limits, is told the same of the other users
 pub record SameFor (W u : ℕ) (r s : Run W) : Type 0 where
   pub agree : Agree u (policyOf (r .image)) (policyOf (s .image))
   pub below : u < r .head .users
   pub line : firstLine W u r ≡ firstLine W u s
   pub calls : callsOf u (r .calls) ≡ callsOf u (s .calls)
-  pub words : hasText (callsOf u (r .calls)) ≡ true → ownWords u (r .image) ≡ ownWords u (s .image)
   pub told : toldOf W u r ≡ toldOf W u s
 
--- user u sees the same in both runs, and it is what the session rules give from u's own policy, first line, calls and what those are
--- told; nobody else's call changes u's line. The rules may be fed the image's words in place of the policy, other users' assignments and
--- the end word left out.
+-- where a clause text is among u's calls, both images, other users' assignments and the end word left out, are the same words in the
+-- same order
+abbrev pub SameWords : (W u : ℕ) → Run W → Run W → Type 0
+SameWords W u r s = hasText (callsOf u (r .calls)) ≡ true → ownWords u (r .image) ≡ ownWords u (s .image)
+
+-- User u sees the same in both runs: at every call, texts that are written or too long aside, and at these too where the words are the
+-- same. It is what the session rules give from u's own policy, first line, calls and what those are told; nobody else's call changes u's
+-- line. The rules may be fed the image's words in place of the policy, other users' assignments and the end word left out.
 pub record Independent (W u : ℕ) (r s : Run W) : Type 0 where
-  pub same : viewOf W u r ≡ viewOf W u s
+  pub beside-texts : besideTexts (callsOf u (r .calls)) (viewOf W u r) ≡ besideTexts (callsOf u (s .calls)) (viewOf W u s)
+  pub same : SameWords W u r s → viewOf W u r ≡ viewOf W u s
   pub by-rules : viewOf W u r ≡ rules W (meaning (onlyFor u (policyOf (r .image))) u) (firstLine W u r) (toldOf W u r) (callsOf u (r .calls))
   pub by-words : viewOf W u r ≡ rules W (meaning (policyIn (ownWords u (r .image))) u) (firstLine W u r) (toldOf W u r) (callsOf u (r .calls))
   pub steady : SteadyFor W u r × SteadyFor W u s

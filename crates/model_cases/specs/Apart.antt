@@ -1,50 +1,61 @@
--- Two runs of one user that differ in all that others may change: the order and repeats of entries, the other user's assignments, line
+-- Two runs of one user that differ in all that others may change: the order and repeats of entries, the other users' assignments, lines
 -- and calls. That they are the same for the user keeps the independence rule from being claimed of equal runs alone.
 -- Assumes nothing.
 use mathlib.Core.Path.{_≡_}
-use mathlib.Core.List.{List, [], _∷_, _++_}
+use mathlib.Core.List.{List, [], _∷_, _++_, map}
 use Prim.Native.Nat.{ℕ}
 use lib.ListN.{replicate}
 use Rattle.model.specs.Policy.{policyOf, onlyFor}
 use Rattle.model.specs.Line.{SESSIONS}
-use Rattle.model.specs.Run.{Call, openBy, closeBy, clausesBy}
-use Rattle.model.specs.Independence.{Run, SameFor}
+use Rattle.model.specs.Run.{Call, openBy, closeBy, askBy, clausesBy}
+use Rattle.model.specs.Independence.{Run, eventsOf, viewOf, SameFor, SameWords}
 use Rattle.model.specs.Bytes.{bytesOf}
 use Rattle.model.specs.Words.{imageBytes, ended}
-use Rattle.model_cases.specs.Ward.{opens, asks, shows, damaged}
+use Rattle.model_cases.specs.Ward.{opens, asks, shows, damaged, activeRole}
 
--- image A for two users, the second with the Doctor's role alone
+-- image A for three users, the second with the Doctor's role alone, the third with the other
 unfoldable pub oneImage : List ℕ
 oneImage =
     imageBytes
     (ended
-    (0x104080A0 ∷ 0x20000000 ∷ 0x20010000 ∷ 0x20400000 ∷ 0x30000000 ∷ 0x30004000 ∷ 0x30008000 ∷ 0x3000C000 ∷ 0x30404000 ∷ 0x30410000 ∷ 0x40010000
-    ∷ 0x54102000 ∷ 0x60000000 ∷ 0x60400000 ∷ []))
+    (0x106080A0 ∷ 0x20000000 ∷ 0x20010000 ∷ 0x20400000 ∷ 0x20810000 ∷ 0x30000000 ∷ 0x30004000 ∷ 0x30008000 ∷ 0x3000C000 ∷ 0x30404000 ∷ 0x30410000
+    ∷ 0x40010000 ∷ 0x54102000 ∷ 0x60000000 ∷ 0x60400000 ∷ []))
 
 -- the same in another order, with an assignment, a grant, a senior word and the exclusion said twice, the members the other way round, and
--- the second user with the other role
+-- the other users' roles exchanged
 unfoldable pub otherImage : List ℕ
 otherImage =
     imageBytes
     (ended
-    (0x104080A0 ∷ 0x54102000 ∷ 0x60400000 ∷ 0x60000000 ∷ 0x40010000 ∷ 0x20410000 ∷ 0x30410000 ∷ 0x30404000 ∷ 0x3000C000 ∷ 0x30008000 ∷ 0x30004000
-    ∷ 0x30000000 ∷ 0x30000000 ∷ 0x20010000 ∷ 0x20000000 ∷ 0x20010000 ∷ 0x54102000 ∷ 0x60000000 ∷ 0x60400000 ∷ 0x40010000 ∷ []))
+    (0x106080A0 ∷ 0x54102000 ∷ 0x60400000 ∷ 0x60000000 ∷ 0x40010000 ∷ 0x20410000 ∷ 0x30410000 ∷ 0x30404000 ∷ 0x3000C000 ∷ 0x30008000 ∷ 0x30004000
+    ∷ 0x20800000 ∷ 0x30000000 ∷ 0x30000000 ∷ 0x20010000 ∷ 0x20000000 ∷ 0x20010000 ∷ 0x54102000 ∷ 0x60000000 ∷ 0x60400000 ∷ 0x40010000 ∷ []))
 
--- the second user's line is zero, or damaged
+-- the other users' lines are zero; or the second's is damaged, and the third has the Doctor's role active in session 0
 unfoldable pub oneLedger : List ℕ
-oneLedger = replicate 144 0 ++ replicate 144 0
+oneLedger = replicate 144 0 ++ (replicate 144 0 ++ replicate 144 0)
 
 unfoldable pub otherLedger : List ℕ
-otherLedger = replicate 144 0 ++ damaged
+otherLedger = replicate 144 0 ++ (damaged ++ activeRole 1)
 
--- the first user's calls alone, and with others before, between and behind them, some by a user without a line
+-- an ask of the third user
+unfoldable pub thirdAsks : ℕ → Call
+thirdAsks k = askBy 2 k (bytesOf 32 0x3) (bytesOf 32 0x1f) 1 0 40
+
+unfoldable pub clauseText : Call
+clauseText = clausesBy 0 0 (bytesOf 32 0x3) (bytesOf 32 0x1f) 1 0 1000
+
+-- the first user's calls alone, and with others before, between and behind them: by a user with a damaged line, by one with a sound line,
+-- by one without a line
 unfoldable pub oneList : List Call
-oneList = opens ∷ asks 0 0x3 0x1f 1 0 ∷ shows 0 ∷ []
+oneList = opens ∷ asks 0 0x3 0x1f 1 0 ∷ clauseText ∷ shows 0 ∷ []
 
 unfoldable pub otherList : List Call
-otherList = openBy 1 ∷ opens ∷ closeBy 1 0 ∷ openBy 2 ∷ asks 0 0x3 0x1f 1 0 ∷ shows 0 ∷ openBy 1 ∷ []
+otherList =
+    openBy 1 ∷ openBy 2 ∷ opens ∷ closeBy 1 0 ∷ thirdAsks 1 ∷ asks 0 0x3 0x1f 1 0 ∷ closeBy 2 0 ∷ openBy 3 ∷ clauseText ∷ thirdAsks 0 ∷ shows 0
+    ∷ openBy 1 ∷ []
 
--- these are two runs, and they are the same for the first user; the session rules are fed no other user's assignments, so the same ones
+-- These are two runs, and they are the same for the first user; the session rules are fed no other user's assignments, so the same ones.
+-- The third user's calls are done, all but the one in a session just closed. The texts differ, since the order of the exclusions does.
 pub record Apart : Type 0 where
   pub one : Run SESSIONS
   pub other : Run SESSIONS
@@ -53,25 +64,25 @@ pub record Apart : Type 0 where
   pub calls : (one .calls ≡ oneList) × (other .calls ≡ otherList)
   pub same : SameFor SESSIONS 0 one other
   pub fed : onlyFor 0 (policyOf oneImage) .assigned ≡ onlyFor 0 (policyOf otherImage) .assigned
+  pub numbers : map (λ e. e .reply .number) (eventsOf SESSIONS other) ≡ 11 ∷ 0 ∷ 0 ∷ 11 ∷ 0 ∷ 0 ∷ 0 ∷ 10 ∷ 0 ∷ 13 ∷ 0 ∷ 11 ∷ []
+  pub differ : ¬ (viewOf SESSIONS 0 one ≡ viewOf SESSIONS 0 other)
 
--- ---- the same with a clause text among the user's calls
+-- ---- the same words, for a clause text among the user's calls
 
--- image A for two users again, with the second user's assignments at other places and to the other role, and so another end word: the other
+-- image A for three users again, with the other users' assignments at other places and to other roles, and so another end word: the other
 -- words are the same in the same order
 unfoldable pub movedImage : List ℕ
 movedImage =
     imageBytes
     (ended
-    (0x104080A0 ∷ 0x20410000 ∷ 0x20000000 ∷ 0x20010000 ∷ 0x30000000 ∷ 0x30004000 ∷ 0x20410000 ∷ 0x30008000 ∷ 0x3000C000 ∷ 0x30404000 ∷ 0x30410000
-    ∷ 0x40010000 ∷ 0x54102000 ∷ 0x60000000 ∷ 0x60400000 ∷ []))
-
-unfoldable pub clauseText : Call
-clauseText = clausesBy 0 0 (bytesOf 32 0x3) (bytesOf 32 0x1f) 1 0 1000
+    (0x106080A0 ∷ 0x20410000 ∷ 0x20000000 ∷ 0x20010000 ∷ 0x30000000 ∷ 0x30004000 ∷ 0x20410000 ∷ 0x30008000 ∷ 0x3000C000 ∷ 0x20800000 ∷ 0x30404000
+    ∷ 0x30410000 ∷ 0x40010000 ∷ 0x54102000 ∷ 0x60000000 ∷ 0x60400000 ∷ []))
 
 pub record ApartText : Type 0 where
   pub one : Run SESSIONS
   pub other : Run SESSIONS
   pub images : (one .image ≡ oneImage) × (other .image ≡ movedImage)
   pub ledgers : (one .ledger ≡ oneLedger) × (other .ledger ≡ otherLedger)
-  pub calls : (one .calls ≡ opens ∷ clauseText ∷ []) × (other .calls ≡ openBy 1 ∷ opens ∷ closeBy 1 0 ∷ clauseText ∷ [])
+  pub calls : (one .calls ≡ opens ∷ clauseText ∷ []) × (other .calls ≡ openBy 1 ∷ opens ∷ openBy 2 ∷ closeBy 1 0 ∷ thirdAsks 1 ∷ clauseText ∷ [])
   pub same : SameFor SESSIONS 0 one other
+  pub words : SameWords SESSIONS 0 one other

@@ -11,6 +11,7 @@ use lib.ListN.{length, getD}
 use borrow.Author.Tests.{eqb-true, eqb-false}
 use borrow.Table.Steps.{cases}
 use Rattle.model.specs.declared.Head.{Head}
+use Rattle.model.specs.declared.Checked.{Checked}
 use Rattle.model.specs.declared.Checked.the-variants.{Accepted}
 use Rattle.model.specs.Tests.{any}
 use Rattle.model.specs.Judgement.{judge}
@@ -18,15 +19,15 @@ use Rattle.model.specs.Policy.{Policy, Meaning, policyOf, hasLimits, meaning, o
 use Rattle.model.specs.Line.{lineSize}
 use Rattle.model.specs.Limits.{Others, nobody}
 use Rattle.model.specs.Session.{Result, rule, isAsk}
-use Rattle.model.specs.Run.{Call, Event, lineAt, told, stepOn, run}
+use Rattle.model.specs.Run.{Call, Event, lineAt, told, stepOn, stepBy, step, run}
 use Rattle.model.specs.OwnWords.{policyIn, ownWords}
-use Rattle.model.specs.Independence.{rules, callsOf, seenBy, toldBy, toldOf, Steady, no-call, own-call, other-call, SteadyFor, Run, eventsOf, viewOf, firstLine, hasText, SameFor, Independent}
-use Rattle.model_laws.proofs.Bools.{elim-case}
+use Rattle.model.specs.Independence.{rules, callsOf, seenBy, toldBy, toldOf, Steady, no-call, own-call, other-call, SteadyFor, Run, eventsOf, viewOf, firstLine, hasText, besideTexts, SameFor, SameWords, Independent}
 use Rattle.model_laws.proofs.Judgements.{accepted-head, accepted-in-range}
-use Rattle.model_laws.proofs.LedgerLaws.{step-on, step-length, step-own, step-other}
-use Rattle.model_laws.proofs.Listed.{rules-listed}
+use Rattle.model_laws.proofs.LedgerLaws.{step-length, step-own, step-other, step-on}
+use Rattle.model_laws.proofs.Listed.{listed, rules-listed, rules-beside}
 use Rattle.model_laws.proofs.Meanings.{agree-listed, only-meaning}
 use Rattle.model_laws.proofs.OwnWords.{words-agree, words-meaning}
+use Rattle.model_laws.proofs.Bools.{elim-case}
 
 -- ---- a policy without limits
 module _ (W : ℕ) (p : Policy) (free : hasLimits p ≡ false) where
@@ -140,31 +141,45 @@ same-words-agree u s t g h a b small e =
       limits = x .limits ∙ ap (λ (q : Policy). q .limits) p ∙ sym (y .limits);
     }
 
--- the session rules give the same: where no clause text is asked for, whatever the order of the exclusions, else by the same words
+-- the session rules give the same: texts aside whatever the order of the exclusions; where no clause text is asked for that is all, else
+-- the rest is by the same words
 module _ (W u : ℕ) (r s : Run W) (h : SameFor W u r s) (below : u < s .head .users) where
   abbrev given : Meaning → List Result
   given m = rules W m (firstLine W u r) (toldOf W u r) (callsOf u (r .calls))
 
-  same-rules : given (meaning (policyOf (r .image)) u) ≡ given (meaning (policyOf (s .image)) u)
-  same-rules =
+  abbrev beside : Meaning → List Result
+  beside m = besideTexts (callsOf u (r .calls)) (given m)
+
+  beside-rules : beside (meaning (policyOf (r .image)) u) ≡ beside (meaning (policyOf (s .image)) u)
+  beside-rules =
+      rules-beside (meaning (policyOf (r .image)) u) [] W (firstLine W u r) (toldOf W u r) (callsOf u (r .calls))
+      ∙ ap beside (agree-listed u (policyOf (r .image)) (policyOf (s .image)) (h .agree) [])
+      ∙ sym (rules-beside (meaning (policyOf (s .image)) u) [] W (firstLine W u r) (toldOf W u r) (callsOf u (r .calls)))
+
+  same-rules : SameWords W u r s → given (meaning (policyOf (r .image)) u) ≡ given (meaning (policyOf (s .image)) u)
+  same-rules words =
       cases (hasText (callsOf u (r .calls)))
-      (λ e. ap given (words-mean W u r (h .below) ∙ ap (λ (ws : List ℕ). meaning (policyIn ws) u) (h .words e) ∙ sym (words-mean W u s below)))
+      (λ e. ap given (words-mean W u r (h .below) ∙ ap (λ (ws : List ℕ). meaning (policyIn ws) u) (words e) ∙ sym (words-mean W u s below)))
       (λ e. rules-listed (meaning (policyOf (r .image)) u) [] W (firstLine W u r) (toldOf W u r) (callsOf u (r .calls)) e
       ∙ ap given (agree-listed u (policyOf (r .image)) (policyOf (s .image)) (h .agree) [])
       ∙ sym (rules-listed (meaning (policyOf (s .image)) u) [] W (firstLine W u r) (toldOf W u r) (callsOf u (r .calls)) e))
+
+  -- the other run starts from the same line, with the same calls that are told the same
+  other-given : given (meaning (policyOf (s .image)) u) ≡ viewOf W u s
+  other-given = (λ i. rules W (meaning (policyOf (s .image)) u) (h .line i) (h .told i) (h .calls i)) ∙ sym (view-by-rules W u s below)
 
 -- The independence rule (demand 3).
 pub independence : (W u : ℕ) (r s : Run W) → SameFor W u r s → Independent W u r s
 independence W u r s h =
     let below : u < s .head .users =
     rw (sym (head-is W u r (h .below)) ∙ h .agree .heads ∙ accepted-head (s .image) (s .head) (s .accepted)) at (h .below) in
+    let seen = view-by-rules W u r (h .below) in
     record {
-      same =
-          view-by-rules W u r (h .below) ∙ same-rules W u r s h below
-          ∙ (λ i. rules W (meaning (policyOf (s .image)) u) (h .line i) (h .told i) (h .calls i))
-          ∙ sym (view-by-rules W u s below);
-      by-rules = view-by-rules W u r (h .below) ∙ ap (given W u r s h below) (only-means W u r (h .below));
-      by-words = view-by-rules W u r (h .below) ∙ ap (given W u r s h below) (words-mean W u r (h .below));
+      beside-texts =
+          ap (besideTexts (callsOf u (r .calls))) seen ∙ beside-rules W u r s h below ∙ (λ i. besideTexts (h .calls i) (other-given W u r s h below i));
+      same = λ words. seen ∙ same-rules W u r s h below words ∙ other-given W u r s h below;
+      by-rules = seen ∙ ap (given W u r s h below) (only-means W u r (h .below));
+      by-words = seen ∙ ap (given W u r s h below) (words-mean W u r (h .below));
       steady = (steady-run W u r (h .below), steady-run W u s below);
     }
 

@@ -92,7 +92,7 @@ module _ (p : Policy) (range : InRange p) where
       ]
 
 -- ---- how an image is judged: one of four
-data Verdict (s : List ℕ) : Type 0 where
+pub data Verdict (s : List ℕ) : Type 0 where
   words : (n place : ℕ) → OneTo 8 n → judgeWords s ≡ Refused n place → judge s ≡ Refused n place → Verdict s
   loops : (h : Head) (r : ℕ) → judgeWords s ≡ Accepted h → LowestOnLoop (policyOf s) r → judge s ≡ Refused 22 r → Verdict s
   reaches : (h : Head) (u : ℕ) → judgeWords s ≡ Accepted h → Loopless (policyOf s) → LowestOverReach (policyOf s) u → judge s ≡ Refused 23 u
@@ -121,7 +121,7 @@ module _ (s : List ℕ) where
             ]
       ]
 
-  verdict : Verdict s
+  pub verdict : Verdict s
   unfolding judge judgeMeaning
   verdict = go (judgeWords s) refl
     where

@@ -21,6 +21,7 @@ pub mod Choices
 pub mod Barred
 pub mod AnyWidth
 pub mod Every
+pub mod Eachs
 pub mod Actives
 pub mod ConditionsProof
 pub mod LineLaws
@@ -46,4 +47,5 @@ pub mod AgreeingCalls
 pub mod MoveLines
 pub mod Padding
 pub mod MovesProof
+pub mod AdmittedProof
 pub mod Theorems

@@ -1,24 +1,24 @@
 -- A call that is no clause text does not look at the order in which the exclusions stand: it goes by the rest of a policy's meaning.
 -- Assumes nothing.
-use mathlib.Core.Path.{_≡_, refl, ap, ap₂, _∙_}
-use mathlib.Core.Bool.{Bool, true, false, _&&_, not, true≢false}
+use mathlib.Core.Path.{_≡_, refl, ap, ap₂, _∙_, sym}
+use mathlib.Core.Bool.{Bool, true, false, _&&_, not, true≢false, _||_}
 use mathlib.Core.Option.{Option, none, some}
-use mathlib.Core.List.{List, [], _∷_}
+use mathlib.Core.List.{List, [], _∷_, _++_}
 use Prim.Native.Nat.{ℕ, suc, _^_}
-use lib.Dec.{ltb}
+use lib.Dec.{eqb, ltb}
 use lib.ListN.{getD, drop}
 use Rattle.model.specs.declared.Exclusion.{Exclusion}
 use Rattle.model.specs.declared.Session.{Session}
 use Rattle.model.specs.declared.Line.{Line}
-use Rattle.model.specs.Tests.{any, first}
+use Rattle.model.specs.Tests.{pick, any, first}
 use Rattle.model.specs.Sets.{subsets}
 use Rattle.model.specs.Bytes.{number}
 use Rattle.model.specs.Policy.{Meaning}
 use Rattle.model.specs.Line.{readLine, exclusionsMet, sessionSound, sessionsSound, sound}
 use Rattle.model.specs.Limits.{Others, nobody, barred, unbarred}
 use Rattle.model.specs.Choice.{carriedBy, admissible, permissionCost, better, best, choose}
-use Rattle.model.specs.Session.{Query, Operation, open-session, close-session, ask, short-ask, show, explain, clauses, sessionOf, queryOf, isText, Result, Refusal, bad-other, bad-line, no-set, canGive, chosen, isNone, otherFirst, applies, asked, perform, unless, rule}
-use Rattle.model.specs.Independence.{rules, hasText}
+use Rattle.model.specs.Session.{Query, Operation, open-session, close-session, ask, short-ask, show, explain, clauses, sessionOf, queryOf, isText, Result, Refusal, bad-other, bad-line, bad-session, is-closed, is-full, bad-set, bad-permission, bad-bounds, bad-aim, bad-room, no-set, not-below, not-carried, too-long, refusalNumber, refuse, wrote, done, canGive, chosen, isNone, otherFirst, applies, asked, perform, unless, rule}
+use Rattle.model.specs.Independence.{rules, hasText, besideText, besideTexts}
 use Rattle.model.specs.Ranges.{Each}
 use Rattle.model_laws.proofs.Bools.{neither}
 
@@ -140,3 +140,80 @@ rules-listed m xs W bs ys (o ∷ os) e =
     ap₂ {C = List Result} (λ (r : Result) (rs : List Result). r ∷ rs) q
     (rules-listed m xs W (rule W m (getD ys 0 nobody) bs o .line) (drop 1 ys) os (f .1)
     ∙ ap (λ (r : Result). rules W (listed m xs) (r .line) (drop 1 ys) os) q)
+
+-- ---- clause texts: up to 18 they go by the rest of the meaning too, and the line after them is the line before
+
+-- what is left of a clause text
+module _ (k : ℕ) (q : Query) (x : Others) (bs : List ℕ) where
+  -- written or too long
+  abbrev textAt : Bool → List ℕ → Result
+  textAt long text = unless x (elim long [ true ↦ some too-long | false ↦ none ]) bs (record { reply = wrote text; line = bs })
+
+  beside-at : (a : Bool) (t : List ℕ) → besideText (clauses k q) (textAt a t) ≡ record { reply = done 0; line = bs }
+  unfolding besideText pick isText unless wrote refuse refusalNumber
+  beside-at true t = refl
+  beside-at false t = refl
+
+  -- two tests that agree on the refusals before
+  beside-same : (f g : Refusal → Bool) (t s : List ℕ) (es : List Refusal) → Each (λ (e : Refusal). f e ≡ g e) es
+      → besideText (clauses k q) (unless x (first f (es ++ (too-long ∷ []))) bs (record { reply = wrote t; line = bs }))
+      ≡ besideText (clauses k q) (unless x (first g (es ++ (too-long ∷ []))) bs (record { reply = wrote s; line = bs }))
+  unfolding first
+  beside-same f g t s [] h = beside-at (f too-long) t ∙ sym (beside-at (g too-long) s)
+  beside-same f g t s (e ∷ es) h = go (f e) (g e) (h .0) (beside-same f g t s es (h .1))
+    where
+      go : (a b : Bool) → a ≡ b
+          → besideText (clauses k q) (unless x (first f (es ++ (too-long ∷ []))) bs (record { reply = wrote t; line = bs }))
+          ≡ besideText (clauses k q) (unless x (first g (es ++ (too-long ∷ []))) bs (record { reply = wrote s; line = bs }))
+          → besideText (clauses k q)
+          (unless x (elim a [ true ↦ some e | false ↦ first f (es ++ (too-long ∷ [])) ]) bs (record { reply = wrote t; line = bs }))
+          ≡ besideText (clauses k q)
+          (unless x (elim b [ true ↦ some e | false ↦ first g (es ++ (too-long ∷ [])) ]) bs (record { reply = wrote s; line = bs }))
+      go true true p ih = unfold unless in refl
+      go true false p ih = absurd (true≢false p)
+      go false true p ih = absurd (true≢false (sym p))
+      go false false p ih = ih
+
+-- a text's line is kept as it is
+beside-line : (o : Operation) (r : Result) → besideText o r .line ≡ r .line
+unfolding besideText pick
+beside-line o r = go (isText o && (eqb (r .reply .number) 0 || eqb (r .reply .number) 19))
+  where
+    go : (b : Bool) → pick b (record { reply = done 0; line = r .line }) r .line ≡ r .line
+    go true = refl
+    go false = refl
+
+module _ (m : Meaning) (xs : List Exclusion) (x : Others) (W : ℕ) (bs : List ℕ) where
+  text-listed : (k : ℕ) (q : Query)
+      → besideText (clauses k q) (rule W m x bs (clauses k q)) ≡ besideText (clauses k q) (rule W (listed m xs) x bs (clauses k q))
+  unfolding rule perform canGive sessionOf queryOf
+  text-listed k q =
+      let l = readLine W bs in
+      beside-same k q x bs (applies W m x l k q) (applies W (listed m xs) x l k q) _ _
+      (bad-other ∷ bad-line ∷ bad-session ∷ is-closed ∷ bad-set ∷ bad-permission ∷ bad-bounds ∷ bad-aim ∷ [])
+      (unfold applies in
+      (same-other m xs x W l k q, (same-line m xs x W l k q, (refl, (refl, (refl, (refl, (refl, (refl, tt)))))))))
+
+  beside-listed : (op : Operation) → besideText op (rule W m x bs op) ≡ besideText op (rule W (listed m xs) x bs op)
+  unfolding isText
+  beside-listed open-session = ap (besideText open-session) (rule-listed m xs x W bs open-session refl)
+  beside-listed (close-session k) = ap (besideText (close-session k)) (rule-listed m xs x W bs (close-session k) refl)
+  beside-listed (ask k q) = ap (besideText (ask k q)) (rule-listed m xs x W bs (ask k q) refl)
+  beside-listed (short-ask k lower upper room) =
+      ap (besideText (short-ask k lower upper room)) (rule-listed m xs x W bs (short-ask k lower upper room) refl)
+  beside-listed (show k room) = ap (besideText (show k room)) (rule-listed m xs x W bs (show k room) refl)
+  beside-listed (explain k n) = ap (besideText (explain k n)) (rule-listed m xs x W bs (explain k n) refl)
+  beside-listed (clauses k q) = text-listed k q
+
+pub rules-beside : (m : Meaning) (xs : List Exclusion) (W : ℕ) (bs : List ℕ) (ys : List Others) (os : List Operation)
+    → besideTexts os (rules W m bs ys os) ≡ besideTexts os (rules W (listed m xs) bs ys os)
+unfolding rules besideTexts
+rules-beside m xs W bs ys [] = refl
+rules-beside m xs W bs ys (o ∷ os) =
+    let x = getD ys 0 nobody in
+    let q = beside-listed m xs x W bs o in
+    let same-after : rule W m x bs o .line ≡ rule W (listed m xs) x bs o .line =
+    sym (beside-line o (rule W m x bs o)) ∙ ap (λ (r : Result). r .line) q ∙ beside-line o (rule W (listed m xs) x bs o) in
+    ap₂ {C = List Result} (λ (r : Result) (rs : List Result). r ∷ rs) q
+    (rules-beside m xs W (rule W m x bs o .line) (drop 1 ys) os
+    ∙ ap (λ (y : List ℕ). besideTexts os (rules W (listed m xs) y (drop 1 ys) os)) same-after)

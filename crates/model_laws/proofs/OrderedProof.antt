@@ -106,7 +106,7 @@ module _ (s : List ℕ) where
         answer = call-from h e ∙ rw (lt-ltb r (p .head .roles) l, loopFrom);
       }
 
-  none-shown : (h : Head) → judgeWords s ≡ Accepted h → ¬ (lowestOnLoop (policyOf s) < policyOf s .head .roles) → loopCall s 64 ≡ refuse 20 0
+  pub none-shown : (h : Head) → judgeWords s ≡ Accepted h → ¬ (lowestOnLoop (policyOf s) < policyOf s .head .roles) → loopCall s 64 ≡ refuse 20 0
   unfolding loopFrom
   none-shown h e l = call-from h e ∙ rw (le-ltb (lowestOnLoop (policyOf s)) (policyOf s .head .roles) (omega arith), loopFrom)
 

@@ -207,7 +207,7 @@ unfolding count countTo
 count-within zero a b w = zero-le
 count-within (suc d) a b w = add-le-add (one-le (has a d) (has b d) (within-has a b w d)) (count-within d a b w)
 
-count-more : (f : ℕ → Bool) (d k : ℕ) → k < d → f k ≡ false → countTo (λ j. f j || eqb j k) d ≡ suc (countTo f d)
+pub count-more : (f : ℕ → Bool) (d k : ℕ) → k < d → f k ≡ false → countTo (λ j. f j || eqb j k) d ≡ suc (countTo f d)
 unfolding countTo
 count-more f zero k l h = absurd (not-suc-le-zero l)
 count-more f (suc d) k l h =

@@ -21,7 +21,7 @@ use Rattle.model.specs.Policy.{Meaning, policyOf, entriesOf, withMembers, reach
 use Rattle.model.specs.Limits.{Others, unbarred}
 use Rattle.model.specs.OwnWords.{ownWords}
 use Rattle.model.specs.Choice.{carriedBy, admissible}
-use Rattle.model.specs.Line.{lineSize}
+use Rattle.model.specs.Line.{lineSize, exclusionsMet}
 use Rattle.model.specs.Session.{Query, explanation}
 use Rattle.model.specs.Read.{ReadOff}
 use Rattle.model.specs.Chains.{Chain, Authorized, Carries, Provides, GranterIs}
@@ -29,7 +29,7 @@ use Rattle.model.specs.Explained.{ExplanationIs}
 use Rattle.model.specs.Ordered.{FewRoles, JudgeIs, Antisymmetric, LoopCallIs}
 use Rattle.model.specs.Ranges.{InRange}
 use Rattle.model.specs.Chosen.{ChoiceIs, Unbarred, ChosenIs, RankIs}
-use Rattle.model.specs.Conditions.{Conditions, Admitted, Permitted}
+use Rattle.model.specs.Conditions.{Conditions, Solution, Admitted, Permitted}
 use Rattle.model.specs.Independence.{Run, toldOf, SameFor, Independent}
 use Rattle.model.specs.Kept.{LineKept, RunKept}
 use Rattle.model.specs.Frames.{LineBytes, StepFrame, ShowKeeps, ExplainKeeps, ClausesKeep, AnswerKeepsLength, TextsKeep, SessionFrames}
@@ -46,6 +46,7 @@ use Rattle.model_laws.proofs.Ranks
 use Rattle.model_laws.proofs.Choices
 use Rattle.model_laws.proofs.Barred
 use Rattle.model_laws.proofs.ConditionsProof
+use Rattle.model_laws.proofs.AdmittedProof
 use Rattle.model_laws.proofs.IndependenceProof
 use Rattle.model_laws.proofs.KeptProof
 use Rattle.model_laws.proofs.RoundTrip
@@ -127,66 +128,35 @@ module _ (s : List ℕ) (h : Head) (accepted : judge s ≡ Accepted h) where
 
   -- ---- the choice: demand 2
 
-  own-below : (u : ℕ) → authorized (policyOf s) u < 2 ^ 64
-  own-below u = lt-of-lt-of-le (Reaches.authorized-below (policyOf s) in-range u) (pow-mono (in-range .roles .1))
-
   -- the choice is the one admissible set that none is better than, and none exactly if no set is admissible
   pub choice-is : (u : ℕ) (l : Line) (k lower upper a b : ℕ) → ChoiceIs (meaning (policyOf s) u) l k lower upper a b
-  choice-is u l k lower upper a b = Choices.choice (meaning (policyOf s) u) l k lower upper a b (unfold meaning in (own-below u))
+  choice-is u l k lower upper a b = Choices.choice (meaning (policyOf s) u) l k lower upper a b (unfold meaning in (AdmittedProof.own-below s h accepted u))
 
   -- an ask is answered with the one best admissible set without barred roles, and with none exactly if there is no such set
   pub chosen-is : (u : ℕ) (x : Others) (l : Line) (k : ℕ) (q : Query) → ChosenIs (meaning (policyOf s) u) x l k q
-  chosen-is u x l k q = Barred.chosen-is (meaning (policyOf s) u) x l k (unfold meaning in (own-below u)) q
+  chosen-is u x l k q = Barred.chosen-is (meaning (policyOf s) u) x l k (unfold meaning in (AdmittedProof.own-below s h accepted u)) q
 
   -- under a policy without limits nothing is barred: it is answered with `choose`
   pub unlimited-choice : hasLimits (policyOf s) ≡ false → (u : ℕ) (x : Others) (l : Line) (k : ℕ)
       → unbarred (meaning (policyOf s) u) x l k ≡ meaning (policyOf s) u
   unlimited-choice e u x l k =
       unfold meaning hasLimits in
-      (Barred.unlimited-choice (meaning (policyOf s) u) x l k (own-below u) (Barred.none-limited (policyOf s .limits) e))
+      (Barred.unlimited-choice (meaning (policyOf s) u) x l k (AdmittedProof.own-below s h accepted u) (Barred.none-limited (policyOf s .limits) e))
 
   module _ (u : ℕ) (l : Line) (k lb ub t : ℕ) (open-k : k < length (l .sessions)) where
-    -- below 2 ^ 64, what the set's roles carry is what the set provides
-    provided : t < 2 ^ 64 → (q : ℕ) → (has (carriedBy (meaning (policyOf s) u) t) q ≡ true) ↔ Provides (policyOf s) t q
-    unfolding carriedBy meaning
-    provided small q = Closure.provided-is (policyOf s) in-range t q small
-
-    own-small : ((r : ℕ) → has t r ≡ true → has (authorized (policyOf s) u) r ≡ true) → t < 2 ^ 64
-    own-small own = Choices.within-below t (authorized (policyOf s) u) 64 (own-below u) (AnyWidth.within-iff t (authorized (policyOf s) u) .1 own)
-
-    admitted : Conditions (policyOf s) u l k lb ub t → Admitted (policyOf s) u l k lb ub t
-    admitted c =
-        let small = own-small (c .own) in
-        record {
-          own = λ r e. authorized-is u r .0 (c .own r e);
-          lower = λ q e. provided small q .0 (c .lower q e);
-          upper = λ q e. c .upper q (provided small q .1 e);
-          exclusions = c .exclusions;
-        }
-
-    conditions : Admitted (policyOf s) u l k lb ub t → Conditions (policyOf s) u l k lb ub t
-    conditions c =
-        let own : (r : ℕ) → has t r ≡ true → has (authorized (policyOf s) u) r ≡ true = λ r e. authorized-is u r .1 (c .own r e) in
-        let small = own-small own in
-        record {
-          own = own;
-          lower = λ q e. provided small q .1 (c .lower q e);
-          upper = λ q e. c .upper q (provided small q .0 e);
-          exclusions = c .exclusions;
-        }
-
     -- admissible is 001's conditions 1 to 6
     pub admissible-is : (admissible (meaning (policyOf s) u) l k lb ub t ≡ true) ↔ Admitted (policyOf s) u l k lb ub t
-    admissible-is =
-        let c = ConditionsProof.conditions (policyOf s) u l k lb ub t open-k in
-        (λ e. admitted (c .0 e), λ a. c .1 (conditions a))
+    admissible-is = AdmittedProof.admissible-is s h accepted u l k lb ub t open-k
+
+    -- on a line where every exclusion is met, as on a sound one, they are 001's as they stand there, condition 6 for session k alone
+    pub solution-is : exclusionsMet (meaning (policyOf s) u) l ≡ true
+        → (admissible (meaning (policyOf s) u) l k lb ub t ≡ true) ↔ Solution (policyOf s) u l k lb ub t
+    solution-is = ConditionsProof.solution (policyOf s) u l k lb ub t open-k
 
     -- admissible without barred roles is those conditions and 001's CARD
     pub permitted-is : (x : Others)
         → ((admissible (meaning (policyOf s) u) l k lb ub t ≡ true) × Unbarred (meaning (policyOf s) u) x l k t) ↔ Permitted (policyOf s) u x l k lb ub t
-    permitted-is x =
-        let c = Barred.card-is (meaning (policyOf s) u) x l k t open-k in
-        (λ e. record { admitted = admissible-is .0 (e .0); card = c .0 (e .1) }, λ w. (admissible-is .1 (w .admitted), c .1 (w .card)))
+    permitted-is = AdmittedProof.permitted-is s h accepted u l k lb ub t open-k
 
   -- ---- soundness is kept
 
@@ -200,7 +170,8 @@ module _ (s : List ℕ) (h : Head) (accepted : judge s ≡ Accepted h) where
 
 -- ---- independence: demand 3
 
--- two runs that are the same for a user tell that user the same, which is what the session rules give
+-- two runs that are the same for a user tell that user the same, which is what the session rules give: clause texts too where the words of
+-- the images are the same, and every other call without that
 pub independence : (W u : ℕ) (r s : Run W) → SameFor W u r s → Independent W u r s
 independence = IndependenceProof.independence
 

@@ -1,0 +1,19 @@
+-- The laws of the register, and the theorems over it.
+pub mod BitsProof
+pub mod LedgerProof
+pub mod EntriesProof
+pub mod Decided
+pub mod Looking
+pub mod FaultsProof
+pub mod CaseLaws
+pub mod SoundProof
+pub mod MetProof
+pub mod ChangesProof
+pub mod CardProof
+pub mod AnswerLaws
+pub mod CallsProof
+pub mod ReturnsProof
+pub mod AsCheckProof
+pub mod LoopsProof
+pub mod MovesProof
+pub mod Theorems

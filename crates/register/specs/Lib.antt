@@ -1,0 +1,14 @@
+-- What the register of refusals says.
+pub mod Bits
+pub mod Ledger
+pub mod Entries
+pub mod Faults
+pub mod Sound
+pub mod Met
+pub mod Card
+pub mod Calls
+pub mod Returns
+pub mod AsCheck
+pub mod Loops
+pub mod Moves
+pub mod Changes
