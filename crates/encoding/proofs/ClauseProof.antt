@@ -27,6 +27,7 @@ use Rattle.model.specs.Reduced.{stay, stays, maskOf, roomOf}
 use Rattle.model.specs.Clauses.{Clause, holds, fails, must, mustNot, listTo, when, roleVariable, permissionVariable, lastPlain, barring, carries, carrying, carriers, carried, bounding, variablesIn, uncounted, room, counter, excluding, helpers, excludingAll, hard}
 use Rattle.encoding.specs.Satisfied.{Valuation, makes, satisfies, satisfiesAll, named, Says, HardIs, FewClauses}
 use borrow.Table.Steps.{cases}
+use Rattle.model_laws.proofs.Eachs.{each-append, each-mem, mem-each}
 use Rattle.model_laws.proofs.Bools.{and-l, or-l, or-r, or-cases, not-both, bool-ext}
 use Rattle.model_laws.proofs.SetLaws.{has-union, has-inter, count-within}
 use Rattle.model_laws.proofs.UnionLaws.{has-below, has-unionAt, unionTo-lt}
@@ -101,10 +102,6 @@ module _ (m b s : ℕ) (v : Valuation) where
 
 -- ---- properties of each member
 module _ {A : Type 0} (P : A → Type 0) where
-  each-join : (xs ys : List A) → Each P xs → Each P ys → Each P (xs ++ ys)
-  each-join [] ys h k = k
-  each-join (x ∷ xs) ys h k = (h .0, each-join xs ys (h .1) k)
-
   pub each-when : (b : Bool) (x : A) → (b ≡ true → P x) → Each P (when b x)
   unfolding when
   each-when true x h = (h refl, tt)
@@ -113,16 +110,7 @@ module _ {A : Type 0} (P : A → Type 0) where
   pub each-listTo : (n : ℕ) (f : ℕ → List A) → ((k : ℕ) → k < n → Each P (f k)) → Each P (listTo n f)
   unfolding listTo
   each-listTo zero f h = tt
-  each-listTo (suc n) f h = each-join (listTo n f) (f n) (each-listTo n f (λ k l. h k (omega arith))) (h n (omega arith))
-
-  pub mem-each : (xs : List A) → ((x : A) → List·Memᴰ x xs → P x) → Each P xs
-  mem-each [] h = tt
-  mem-each (x ∷ xs) h = (h x (List·Memᴰ·head refl), mem-each xs (λ y m. h y (List·Memᴰ·tail m)))
-
-  pub each-mem : (xs : List A) → Each P xs → (x : A) → List·Memᴰ x xs → P x
-  each-mem [] h x m = absurd (List·Memᴰ·not-nil m)
-  each-mem (y ∷ xs) h x m =
-      elim (List·Memᴰ·cases-cons m) [ inl e ↦ subst P (sym e) (h .0) | inr k ↦ each-mem xs (h .1) x k ]
+  each-listTo (suc n) f h = each-append P (listTo n f) (f n) (each-listTo n f (λ k l. h k (omega arith))) (h n (omega arith))
 
 pub uncounted-length : (x : Exclusion) (base : ℕ) → length (uncounted x base) ≤ count 64 (x .members)
 uncounted-length x base = omega (arith, ap length (uncounted-is x base), left-length (x .members) base 0 (λ y. true) 64)

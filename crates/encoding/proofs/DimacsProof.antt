@@ -25,7 +25,8 @@ use Rattle.model_laws.proofs.Bools.{and-l, and-r, both}
 use Rattle.model_laws.proofs.UnionLaws.{has-below}
 use Rattle.encoding.proofs.ClauseLaws.{all-join, all-one, all-when, all-listTo}
 use Rattle.encoding.proofs.Meant.{Meant}
-use Rattle.encoding.proofs.ClauseProof.{uncounted-is, some-room, mem-each, each-mem, each-when, each-listTo}
+use Rattle.model_laws.proofs.Eachs.{mem-each, each-mem}
+use Rattle.encoding.proofs.ClauseProof.{uncounted-is, some-room, each-when, each-listTo}
 
 -- ---- variables
 module _ (N : ℕ) where

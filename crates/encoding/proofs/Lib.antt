@@ -6,5 +6,6 @@ pub mod ClauseWeights
 pub mod DimacsProof
 pub mod DimacsSizes
 pub mod RoomProof
-pub mod DimacsCases
+pub mod ReadingProof
+pub mod CalledProof
 pub mod Theorems

@@ -23,12 +23,16 @@ use Rattle.model_laws.proofs.Judgements.{accepted-in-range}
 use Rattle.model_laws.proofs.Barred.{admissible-unbarred}
 use Rattle.encoding.specs.Satisfied.{HardIs, SoftIs, FewClauses}
 use Rattle.encoding.specs.Texts.{TextIs, TextSmall, RoomEnough}
+use Rattle.encoding.specs.Reading.{ReadsBack}
+use Rattle.encoding.specs.Called.{CallSays}
 use Rattle.encoding.proofs.Meant.{Meant, meant, left-meant}
 use Rattle.encoding.proofs.ClauseProof
 use Rattle.encoding.proofs.ClauseWeights
 use Rattle.encoding.proofs.DimacsProof
 use Rattle.encoding.proofs.DimacsSizes
 use Rattle.encoding.proofs.RoomProof
+use Rattle.encoding.proofs.ReadingProof
+use Rattle.encoding.proofs.CalledProof
 
 module _ (s : List ℕ) (h : Head) (accepted : judge s ≡ Accepted h) where
   by-policy : (u : ℕ) → Meant (meaning (policyOf s) u)
@@ -70,6 +74,10 @@ module _ (s : List ℕ) (h : Head) (accepted : judge s ≡ Accepted h) where
     pub clause-text : (a b : ℕ) → TextIs (left u x l k) l k lower upper a b
     clause-text a b = DimacsProof.text-is (left u x l k) (left-policy u x l k) l k lower upper open-k met-left a b
 
+    -- read by a reader of the form, the text gives the head's numbers and exactly the hard and the soft clauses
+    pub text-reads-back : (a b : ℕ) → ReadsBack (left u x l k) l k lower upper a b
+    text-reads-back a b = ReadingProof.reads (left u x l k) l k lower upper a b (clause-text a b)
+
     -- its numbers and its length are small
     pub clause-sizes : (a b : ℕ) → TextSmall (left u x l k) l k lower upper a b
     clause-sizes = DimacsSizes.text-small (left u x l k) (left-policy u x l k) l k lower upper open-k met-left
@@ -81,3 +89,8 @@ module _ (s : List ℕ) (h : Head) (accepted : judge s ≡ Accepted h) where
   -- an exclusion has at most 4 times m times n clauses
   pub few-clauses : (l : Line) (k a : ℕ) → Each (FewClauses l k a) (policyOf s .exclusions)
   few-clauses l k a = ClauseProof.all-few l k a (policyOf s .head .roles) (policyOf s .exclusions) (accepted-in-range s h accepted .exclusions)
+
+-- at the call, for every image, ledger, user and session: what the text that is written reads back to has for its models the sets that an ask
+-- may be answered with, and none exactly if an ask is answered 20
+pub call-says : (W : ℕ) (image : List ℕ) → CallSays W image
+call-says = CalledProof.call-says

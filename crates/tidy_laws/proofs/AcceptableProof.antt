@@ -24,7 +24,7 @@ use Rattle.model_laws.proofs.Bools.{and-l, and-r}
 use Rattle.model_laws.proofs.Tables.{empty-length}
 use Rattle.model_laws.proofs.Accepted.{head-tests, one-to}
 use Rattle.model_laws.proofs.Judgements.{judge-is, words-pass, loopless, few-authorized, accepted-in-range}
-use Rattle.tidy_laws.proofs.Eachs.{each-map, nil-of}
+use Rattle.model_laws.proofs.Eachs.{each-map, nil-of}
 use Rattle.tidy_laws.proofs.ScanWords.{Scans, Passed, passed-of, words-of}
 use Rattle.tidy_laws.proofs.Roomy.{Room, room-of}
 use Rattle.tidy_laws.proofs.GroupsFound.{Ahead, ahead}

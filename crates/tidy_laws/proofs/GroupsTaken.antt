@@ -18,7 +18,7 @@ use Rattle.model.specs.Image.{isKind, decode, wrongKind, inRange, repeats, assi
 use Rattle.model.specs.Ranges.{Each}
 use Rattle.tidying.specs.Groups.{entryOf, memberRole, Group, spread, leads, dueBehind, Distinct, RightMember, RightGroup}
 use Rattle.model_laws.proofs.Bools.{pick-case}
-use Rattle.tidy_laws.proofs.Eachs.{each-two, each-of, each-append, map-each, nil-of}
+use Rattle.model_laws.proofs.Eachs.{each-two, each-of, each-append, map-each, nil-of}
 use Rattle.model_laws.proofs.SetLaws.{has-with}
 use Rattle.model_laws.proofs.UnionLaws.{has-none}
 use Rattle.tidy_laws.proofs.ScanWords.{none, Scans}

@@ -1,5 +1,4 @@
 -- The laws of groups and tidy images, and the theorems over them.
-pub mod Eachs
 pub mod ScanWords
 pub mod Roomy
 pub mod GroupsFound
@@ -20,7 +19,12 @@ pub mod TidyExclusions
 pub mod TidyGroups
 pub mod TidyImage
 pub mod TidyProof
+pub mod ArrangedLaws
+pub mod TidyArranged
+pub mod ArrangedWords
+pub mod ArrangedProof
 pub mod TidyFrameProof
+pub mod TidyRefusalsProof
 pub mod Permutations
 pub mod ExclusionsMoved
 pub mod OrderProof

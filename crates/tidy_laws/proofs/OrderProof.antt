@@ -23,7 +23,7 @@ use Rattle.tidying.specs.Same.{SamePolicy}
 use Rattle.tidying.specs.Order.{Rearranged, none-moved, one-kept, two-swapped, moved-twice, Permuted, SameGroup, Reordered, endOf, OrderFree, Covered}
 use Rattle.tidying.specs.Tidy.{tidyOf}
 use Rattle.limits.proofs.LimitTable.{limits-matched}
-use Rattle.tidy_laws.proofs.Eachs.{each-by}
+use Rattle.model_laws.proofs.Eachs.{each-by}
 use Rattle.tidy_laws.proofs.WordLaws.{bytes-length, head-read, behind-read}
 use Rattle.tidy_laws.proofs.AcceptableProof.{entries-behind, entries-range, acceptable-of, accepted-of}
 use Rattle.tidy_laws.proofs.Permutations.{permuted-same, moved-length, moved-each, permuted-append, exchanged, permuted-mem, permuted-back, permuted-map, permuted-distinct, permuted-sum}

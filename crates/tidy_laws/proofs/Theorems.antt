@@ -2,8 +2,10 @@
 -- Assumes nothing.
 use mathlib.Core.Path.{_≡_}
 use mathlib.Core.Logic.{_↔_}
+use mathlib.Core.Bool.{true}
 use mathlib.Core.List.{List}
 use Prim.Native.Nat.{ℕ, _≤_}
+use lib.Pow.{areBytes}
 use lib.ListN.{length}
 use Rattle.model.specs.declared.Head.{Head}
 use Rattle.model.specs.declared.Checked.the-variants.{Accepted}
@@ -11,8 +13,9 @@ use Rattle.model.specs.Judgement.{judge}
 use Rattle.model.specs.Policy.{Policy, policyOf}
 use Rattle.tidying.specs.Groups.{Group, Acceptable}
 use Rattle.tidying.specs.Same.{SameSets, SamePolicy, Alike}
-use Rattle.tidying.specs.Tidy.{tidyOf, TidyOrder, TidyWords, Shared, TidyFrame}
+use Rattle.tidying.specs.Tidy.{tidyOf, TidyOrder, TidyWords, Shared, TidyFrame, TidyRefuses}
 use Rattle.tidying.specs.TidyCases.{TidyCases}
+use Rattle.tidying.specs.Arranged.{TidyArranged, TidyIs}
 use Rattle.tidying.specs.Order.{Reordered, OrderFree, Covered}
 use Rattle.tidying.specs.OrderCases.{OrderCases}
 use Rattle.tidy_laws.proofs.AcceptableProof
@@ -20,7 +23,10 @@ use Rattle.tidy_laws.proofs.SameSetsProof
 use Rattle.tidy_laws.proofs.TidyOrderProof
 use Rattle.tidy_laws.proofs.TidyImage
 use Rattle.tidy_laws.proofs.TidyProof
+use Rattle.tidy_laws.proofs.TidyArranged as TidyArrangedProof
+use Rattle.tidy_laws.proofs.ArrangedProof
 use Rattle.tidy_laws.proofs.TidyFrameProof
+use Rattle.tidy_laws.proofs.TidyRefusalsProof
 use Rattle.tidy_laws.proofs.TidyCasesProof
 use Rattle.tidy_laws.proofs.OrderProof
 use Rattle.tidy_laws.proofs.OrderCasesProof
@@ -83,6 +89,14 @@ tidy-short = TidyImage.tidy-short
 pub tidy-order : (p : Policy) → TidyOrder p
 tidy-order = TidyOrderProof.tidy-order
 
+-- its whole entries are arranged: each comes before all behind it, by sort and then by its fields, and the members of each by role
+pub tidy-arranged : (s : List ℕ) (h : Head) → judge s ≡ Accepted h → TidyArranged s h
+tidy-arranged = TidyArrangedProof.tidy-arranged
+
+-- and an accepted image so arranged is its own tidy image: tidy images are exactly these
+pub tidy-is : (s : List ℕ) (h : Head) → judge s ≡ Accepted h → areBytes s ≡ true → TidyIs s h
+tidy-is = ArrangedProof.tidy-is
+
 -- ---- the call
 
 -- a tidy image is whole words
@@ -92,6 +106,10 @@ tidy-words = TidyImage.tidy-words
 -- a refused call changes no byte of the buffer, and a call that is done none beyond the tidy image; its extra counts the words
 pub tidy-frame : (s out : List ℕ) → TidyFrame s out
 tidy-frame = TidyFrameProof.tidy-frame
+
+-- it refuses as a check does, then by 19 a buffer smaller than the tidy image, and leaves every byte of the buffer then
+pub tidy-refuses : (s out : List ℕ) → TidyRefuses s out
+tidy-refuses = TidyRefusalsProof.tidy-refuses
 
 -- jumbled images with their tidy image, and calls, by computation
 pub tidy-cases : TidyCases

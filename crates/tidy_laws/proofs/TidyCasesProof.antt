@@ -4,13 +4,15 @@ use mathlib.Core.Path.{refl}
 use Rattle.model.specs.Policy.{kindNumber}
 use Rattle.tidying.specs.Groups.{spread}
 use Rattle.tidying.specs.Tidy.{membersTo, tableGroups, exclusionGroup, before, insert, sorted, tidyGroups, tidyWords, tidy, tidyOf, tidyBy, tidyCall, limitGroups, limitedRows}
-use Rattle.tidying.specs.TidyCases.{jumbled, shuffled, neat, sevens, refusing, TidyCases}
+use Rattle.model_cases.specs.Refusals.{overOthers}
+use Rattle.tidying.specs.TidyCases.{jumbled, shuffled, neat, looped, overReaching, sevens, refusing, TidyCases}
 use Rattle.model.specs.Computing.{computing}
 use Rattle.model.specs.Words.{limitWord}
 
 pub tidy-cases : TidyCases
 unfolding computing kindNumber spread membersTo tableGroups exclusionGroup before insert sorted limitWord limitedRows
-    limitGroups tidyGroups tidyWords tidy tidyOf tidyBy tidyCall jumbled shuffled neat sevens refusing
+    limitGroups tidyGroups tidyWords tidy tidyOf tidyBy tidyCall jumbled shuffled neat looped overReaching overOthers sevens
+    refusing
 tidy-cases =
     record {
       accepted = refl;
@@ -22,4 +24,8 @@ tidy-cases =
       short = refl;
       bad = refl;
       open-ended = refl;
+      loop = refl;
+      loop-short = refl;
+      reach = refl;
+      reach-short = refl;
     }

@@ -30,7 +30,7 @@ use Rattle.model_laws.proofs.Bools.{both, bool-ext, not-both}
 use Rattle.model_laws.proofs.SetLaws.{same-members}
 use Rattle.model_laws.proofs.UnionLaws.{has-none, has-below}
 use Rattle.model_laws.proofs.Tables.{read-off}
-use Rattle.tidy_laws.proofs.Eachs.{each-map, each-mem}
+use Rattle.model_laws.proofs.Eachs.{each-map, each-mem}
 use Rattle.tidy_laws.proofs.GroupsFound.{member-role}
 use Rattle.tidy_laws.proofs.GroupExclusions.{exclusionIn, exclusionsIn, joined-below}
 use Rattle.tidy_laws.proofs.WordLaws.{decode-exclusion, decode-member, kind-below}
@@ -38,24 +38,24 @@ use Rattle.tidy_laws.proofs.SortedLaws.{weights}
 use Rattle.tidy_laws.proofs.TidyLists.{members-each, members-mem, members-length, members-distinct}
 
 -- ---- member words
-entry-member : (j : ℕ) → j < 64 → entryOf (memberWord j) ≡ Member (role j)
+pub entry-member : (j : ℕ) → j < 64 → entryOf (memberWord j) ≡ Member (role j)
 entry-member j l = ap (λ (d : Word). d .entry) (decode-member j l)
 
 pub role-back : (j : ℕ) → j < 64 → memberRole (memberWord j) ≡ j
 role-back j l = sym (member-role (memberWord j) (role j) (entry-member j l))
 
-roles-back : (js : List ℕ) → Each (λ j. j < 64) js → map memberRole (map memberWord js) ≡ js
+pub roles-back : (js : List ℕ) → Each (λ j. j < 64) js → map memberRole (map memberWord js) ≡ js
 roles-back [] l = refl
 roles-back (j ∷ js) l = ap₂ {C = List ℕ} (λ (x : ℕ) (xs : List ℕ). x ∷ xs) (role-back j (l .0)) (roles-back js (l .1))
 
-below-64 : (s : ℕ) → Each (λ j. j < 64) (membersTo 64 s)
+pub below-64 : (s : ℕ) → Each (λ j. j < 64) (membersTo 64 s)
 below-64 s = members-each (λ j. j < 64) 64 s (λ j l e. l)
 
-member-inj : (r j : ℕ) → Member (role r) ≡ Member (role j) → r ≡ j
+pub member-inj : (r j : ℕ) → Member (role r) ≡ Member (role j) → r ≡ j
 member-inj r j e = let q : role r ≡ role j = cc in ap (λ (x : Role). x .0) q
 
 -- the member words of a set, read as the set
-members-read : (s : ℕ) → s < 2 ^ 64 → fold joining 0 (map entryOf (map memberWord (membersTo 64 s))) ≡ s
+pub members-read : (s : ℕ) → s < 2 ^ 64 → fold joining 0 (map entryOf (map memberWord (membersTo 64 s))) ≡ s
 unfolding withMembers
 members-read s low =
     same-members 64 (fold joining 0 es) s (joined-below (map memberWord (membersTo 64 s)) 0 (pow-pos 64)) low

@@ -21,7 +21,7 @@ use Rattle.model.specs.Ranges.{Each, ExclusionInRange, InRange}
 use Rattle.tidying.specs.Groups.{entryOf, Group, spread, leads, dueBehind, RightMember, RightGroup}
 use Rattle.tidying.specs.Tidy.{single, tableGroups, exclusionGroup, sorted, tidyGroups, limitGroups, limitedRows}
 use Rattle.model_laws.proofs.Bools.{both}
-use Rattle.tidy_laws.proofs.Eachs.{each-by, each-two, each-append, each-map}
+use Rattle.model_laws.proofs.Eachs.{each-by, each-two, each-append, each-map}
 use Rattle.tidy_laws.proofs.GroupExclusions.{exclusionIn, exclusionsIn}
 use Rattle.tidy_laws.proofs.WordLaws.{decode-assignment, decode-grant, decode-senior, decode-end, decode-limit}
 use Rattle.tidy_laws.proofs.SortedLaws.{each-sorted}

@@ -30,7 +30,7 @@ use Rattle.model_laws.proofs.Bools.{both, and-r, bool-ext}
 use Rattle.model_laws.proofs.UnionLaws.{has-none}
 use Rattle.model_laws.proofs.Tables.{read-off}
 use Rattle.model_laws.proofs.Judgements.{accepted-head, accepted-in-range, words-pass}
-use Rattle.tidy_laws.proofs.Eachs.{each-by, each-append, each-map, each-mem}
+use Rattle.model_laws.proofs.Eachs.{each-by, each-append, each-map, each-mem}
 use Rattle.tidy_laws.proofs.AcceptableProof.{entries-behind, acceptable-of, accepted-of, entries-range}
 use Rattle.tidy_laws.proofs.GroupExclusions.{exclusions-in}
 use Rattle.tidy_laws.proofs.SameTables.{same-policy}
@@ -52,12 +52,12 @@ tidy-words p =
     ∙ (let a = length-append (spread (tidyGroups p)) (endWord (sumOf (tidyWords p)) ∷ []) in omega arith)
 
 -- ---- lengths and sums
-words-length : (l : List ℕ) (n place : ℕ) → length (wordsFrom l n place) ≡ n
+pub words-length : (l : List ℕ) (n place : ℕ) → length (wordsFrom l n place) ≡ n
 unfolding wordsFrom
 words-length l zero place = refl
 words-length l (suc n) place = ap suc (words-length l n (place + 1))
 
-sum-last : (xs : List ℕ) (x : ℕ) → sumOf (xs ++ (x ∷ [])) ≡ sumOf xs + x
+pub sum-last : (xs : List ℕ) (x : ℕ) → sumOf (xs ++ (x ∷ [])) ≡ sumOf xs + x
 unfolding sumOf
 sum-last [] x = omega arith
 sum-last (y ∷ xs) x = let a = sum-last xs x in omega arith
@@ -335,3 +335,13 @@ module _ (s : List ℕ) (h : Head) (accepted : judge s ≡ Accepted h) where
   pub tidy-short : length (tidyOf s) ≤ length s
   unfolding image
   tidy-short = image-short
+
+  -- it is acceptable by the groups that it is written from
+  pub tidy-acceptable : (a : Acceptable (tidyOf s) h) × (a .parts .groups ≡ tidyGroups (policyOf s))
+  unfolding image image-acceptable groups p
+  tidy-acceptable = (image-acceptable, refl)
+
+  -- no role is senior to itself
+  pub none-self : (a b : ℕ) → has (getD (policyOf s .juniors) a 0) b ≡ true → eqb a b ≡ false
+  unfolding p
+  none-self = p-apart

@@ -18,7 +18,7 @@ use Rattle.tidying.specs.Tidy.{membersTo, single, tableGroups}
 use Rattle.model_laws.proofs.Bools.{pick-case, not-both}
 use Rattle.model_laws.proofs.SetLaws.{has-with, one-most}
 use Rattle.model_laws.proofs.UnionLaws.{has-none, below-or-last}
-use Rattle.tidy_laws.proofs.Eachs.{each-append, each-map}
+use Rattle.model_laws.proofs.Eachs.{each-append, each-map}
 
 -- ---- the members of a set, ascending
 -- each of them is one

@@ -14,7 +14,7 @@ use Rattle.model.specs.Ranges.{Each}
 use Rattle.tidying.specs.Groups.{spread}
 use Rattle.tidying.specs.Tidy.{membersTo, tableGroups, exclusionGroup, limitedRows, limitGroups, Ascending, TidyOrder}
 use Rattle.model_laws.proofs.Bools.{pick-case}
-use Rattle.tidy_laws.proofs.Eachs.{each-append, each-map}
+use Rattle.model_laws.proofs.Eachs.{each-append, each-map}
 use Rattle.tidy_laws.proofs.SortedLaws.{ascending-sorted}
 use Rattle.tidy_laws.proofs.TidyLists.{row-words, members-each, table-each, spread-each}
 use Rattle.tidy_laws.proofs.TidyLimits.{row-limited}
@@ -36,7 +36,7 @@ ascending-map d f up (j ∷ js) b a = (each-map (λ y. f j < y) f js (over js (b
     over (k ∷ ks) b e = (up j k (e .0) (b .0), over ks (b .1) (e .1))
 
 -- the members of a set
-members-ascending : (d s : ℕ) → Ascending _<_ (membersTo d s)
+pub members-ascending : (d s : ℕ) → Ascending _<_ (membersTo d s)
 unfolding membersTo
 members-ascending zero s = tt
 members-ascending (suc d) s =

@@ -169,7 +169,7 @@ next-word w bs place =
     + 256 * (at (4 * suc place + 2) (4 * place + 2) (omega arith) i + 256 * at (4 * suc place + 3) (4 * place + 3) (omega arith) i))
 
 -- n words from a place on, past the first word
-words-next : (w : ℕ) (bs : List ℕ) (n place : ℕ) → wordsFrom (bytesOf 4 w ++ bs) n (suc place) ≡ wordsFrom bs n place
+pub words-next : (w : ℕ) (bs : List ℕ) (n place : ℕ) → wordsFrom (bytesOf 4 w ++ bs) n (suc place) ≡ wordsFrom bs n place
 unfolding wordsFrom
 words-next w bs zero place = refl
 words-next w bs (suc n) place =

@@ -3,5 +3,6 @@ pub mod Groups
 pub mod Same
 pub mod Tidy
 pub mod TidyCases
+pub mod Arranged
 pub mod Order
 pub mod OrderCases

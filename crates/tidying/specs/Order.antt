@@ -1,13 +1,14 @@
 -- Entries moved about: images that differ in the order of their groups and of the members of a group.
 -- Assumes nothing.
-use mathlib.Core.Path.{_≡_}
+use mathlib.Core.Path.{_≡_, refl, ap₂, _∙_}
 use mathlib.Core.List.{List, [], _∷_, _++_}
-use Prim.Native.Nat.{ℕ, _^_, _<_}
+use Prim.Native.Nat.{ℕ, _+_, _^_, _<_}
+use native.Mathlib.Omega.{arith}
 use lib.ListN.{length}
 use Rattle.model.specs.declared.Head.{Head}
 use Rattle.model.specs.declared.Checked.the-variants.{Accepted}
 use Rattle.model.specs.Image.{wordAt, behindHead}
-use Rattle.model.specs.Words.{imageBytes}
+use Rattle.model.specs.Words.{memberWord, sumOf, imageBytes}
 use Rattle.model.specs.Policy.{policyOf}
 use Rattle.model.specs.Judgement.{judge}
 use Rattle.model.specs.Ranges.{Each}
@@ -33,9 +34,18 @@ pub record SameGroup (g k : Group) : Type 0 where
   pub word : g .word ≡ k .word
   pub members : Permuted ℕ (g .members) (k .members)
 
--- a member stays in its group
-pub members-kept : (g k : Group) → SameGroup g k → Permuted ℕ (g .members) (k .members)
-members-kept g k same = same .members
+-- moved about, numbers have the same sum
+sum-kept : {xs ys : List ℕ} → Permuted ℕ xs ys → sumOf xs ≡ sumOf ys
+unfolding sumOf
+sum-kept none-moved = refl
+sum-kept (one-kept e p) = ap₂ (λ (a b : ℕ). a + b) e (sum-kept p)
+sum-kept two-swapped = omega arith
+sum-kept (moved-twice p q) = sum-kept p ∙ sum-kept q
+
+-- a member stays in its group: one of role 0 is not one of role 1
+pub members-kept : ¬ SameGroup (record { word = 0; members = memberWord 0 ∷ [] }) (record { word = 0; members = memberWord 1 ∷ [] })
+unfolding sumOf memberWord
+members-kept same = let e = sum-kept (same .members) in omega arith
 
 -- ---- images
 

@@ -21,7 +21,9 @@ use Rattle.model.specs.Words.{headWord, assignWord, grantWord, seniorWord, excl
 use Rattle.model.specs.Policy.{Policy, policyOf, kindNumber}
 use Rattle.model.specs.Judgement.{judge}
 use Rattle.model.specs.Choice.{earlier}
+use Rattle.register.specs.AsCheck.{Passes, RefusesAsCheck}
 use Rattle.model.specs.Ranges.{Each, LimitsInRange}
+use Rattle.model.specs.Computing.{computing}
 use Rattle.tidying.specs.Groups.{Group, spread}
 use Rattle.tidying.specs.Same.{SameSets}
 
@@ -159,6 +161,11 @@ bare-extra h = refl
 unfoldable pub tidyCall : List ℕ → List ℕ → Written
 tidyCall image out = tidyBy (judge image) (policyOf image) out
 
+-- two roles each over the other are refused by 22, whatever the buffer
+pub loop-refused : tidyCall (imageBytes (ended (headWord 1 2 1 ∷ seniorWord 0 1 ∷ seniorWord 1 0 ∷ []))) [] .number ≡ 22
+unfolding computing tidyCall tidyBy
+loop-refused = refl
+
 -- ---- the claims
 
 -- the bytes of a tidy image are four for each word: the head, those of the groups, and the end
@@ -193,3 +200,12 @@ pub record TidyFrame (s out : List ℕ) : Type 0 where
   -- where it is done, the tidy image stands in front, and the extra counts its words
   pub front : tidyCall s out .number ≡ 0 → take (length (tidyOf s)) (tidyCall s out .out) ≡ tidyOf s
   pub counted : tidyCall s out .number ≡ 0 → 4 * tidyCall s out .extra ≡ length (tidyOf s)
+
+-- how the call is answered, beside the register: it refuses as a check does, whatever the buffer; then by 19 with extra 0 exactly if the
+-- buffer is smaller than the tidy image; it is done exactly if neither is so; and a call that is not done leaves every byte of the buffer
+pub record TidyRefuses (s out : List ℕ) : Type 0 where
+  pub check : RefusesAsCheck s (tidyCall s out .number) (tidyCall s out .extra)
+  pub room : (tidyCall s out .number ≡ 19) ↔ (Passes s × (length out < length (tidyOf s)))
+  pub room-extra : tidyCall s out .number ≡ 19 → tidyCall s out .extra ≡ 0
+  pub done : (tidyCall s out .number ≡ 0) ↔ (Passes s × (length (tidyOf s) ≤ length out))
+  pub untouched : ¬ (tidyCall s out .number ≡ 0) → tidyCall s out .out ≡ out

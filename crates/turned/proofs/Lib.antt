@@ -4,4 +4,5 @@ pub mod Words
 pub mod Parts
 pub mod TurnProof
 pub mod CallProof
+pub mod RefusalsProof
 pub mod Theorems

@@ -6,10 +6,16 @@ use mathlib.Core.List.{List}
 use Prim.Native.Nat.{ℕ, _*_}
 use lib.Pow.{areBytes}
 use lib.ListN.{length}
-use Rattle.turned.specs.Turned.{Turns}
-use Rattle.turned.specs.Calls.{RoundTrips}
+use Rattle.model.specs.declared.Head.{Head}
+use Rattle.model.specs.declared.Checked.the-variants.{Accepted}
+use Rattle.model.specs.Judgement.{judge}
+use Rattle.model.specs.Policy.{policyOf}
+use Rattle.model_laws.proofs.Judgements.{accepted-in-range}
+use Rattle.turned.specs.Turned.{turned, unturned, Turns}
+use Rattle.turned.specs.Calls.{turnCall, unturnCall, RoundTrips, TurnRefuses}
 use Rattle.turned.proofs.TurnProof as TurnProof
 use Rattle.turned.proofs.CallProof as CallProof
+use Rattle.turned.proofs.RefusalsProof as RefusalsProof
 
 -- ---- every 2,048 bytes, and not only tables of grants
 
@@ -21,3 +27,12 @@ turns = TurnProof.turns
 -- undoing what was done, and doing what was undone, give the bytes back
 pub round-trips : (bs : List ℕ) → areBytes bs ≡ true → length bs ≡ 2048 → RoundTrips bs
 round-trips = CallProof.round-trips
+
+-- ---- refusals
+
+-- turning and turning back refuse by 19 a source or a buffer of other than 2,048 bytes, and nothing else
+pub turn-refuses : (source buffer : List ℕ) → TurnRefuses turnCall turned source buffer
+turn-refuses = RefusalsProof.turn-refuses
+
+pub unturn-refuses : (source buffer : List ℕ) → TurnRefuses unturnCall unturned source buffer
+unturn-refuses = RefusalsProof.unturn-refuses
