@@ -13,7 +13,7 @@ use Rattle.model.specs.Session.{Reply}
 use Rattle.model.specs.Loop.{loopCall}
 use Rattle.model.specs.Words.{seniorWord, imageBytes, ended}
 use Rattle.model.specs.Tests.{sameList}
-use Rattle.model_cases.specs.Ward.{imageA, loop}
+use Rattle.model_cases.specs.Ward.{imageA, fewerOf, loop}
 
 unfoldable pub verdict : Checked → List ℕ
 verdict (Accepted h) = 0 ∷ 0 ∷ []
@@ -40,6 +40,14 @@ assignments (suc n) = assignments n ++ ((0x20000000 + n * 2 ^ 16) ∷ [])
 unfoldable pub exclusionWords : ℕ → List ℕ
 exclusionWords zero = []
 exclusionWords (suc n) = 0x54102000 ∷ 0x60000000 ∷ 0x60400000 ∷ exclusionWords n
+
+-- image A with this last word
+unfoldable pub endedBy : ℕ → List ℕ
+endedBy w = imageBytes (bodyA ++ (w ∷ []))
+
+-- image A's head, 32 exclusions and the words
+unfoldable pub afterThirtyTwo : List ℕ → List ℕ
+afterThirtyTwo ws = imageBytes (ended (0x102080A0 ∷ (exclusionWords 32 ++ ws)))
 
 -- one user, 17 roles
 unfoldable pub wide : List ℕ → List ℕ
@@ -71,6 +79,7 @@ judgedImages =
     ∷ judged [] 1 0
     ∷ judged (0 ∷ imageBytes imageA) 1 0
     ∷ judged (take 51 (imageBytes imageA)) 1 0
+    ∷ judged (imageBytes imageA ++ (0 ∷ 0 ∷ [])) 1 0
     ∷ judged (take 4 (imageBytes imageA)) 1 0
     ∷ judged (replicate 16388 0) 1 0
     -- 2, head: kind, U, R and P too small and too large, spare bits
@@ -82,6 +91,7 @@ judgedImages =
     ∷ judged (edited 0 (0x10208000 ∷ [])) 2 0
     ∷ judged (edited 0 (0x1020A020 ∷ [])) 2 0
     ∷ judged (edited 0 (0x102080A1 ∷ [])) 2 0
+    ∷ judged (edited 0 (0x102080A4 ∷ [])) 2 0
     ∷ judged (edited 0 (0x102080B0 ∷ [])) 2 0
     -- the largest head
     ∷ judged (edited 0 (0x18102000 ∷ [])) 0 0
@@ -97,12 +107,25 @@ judgedImages =
     ∷ judged (edited 3 (0xF0000000 ∷ [])) 3 3
     ∷ judged (imageBytes bodyA) 3 11
     ∷ judged (imageBytes (take 9 bodyA)) 3 8
-    -- 4, spare: one bit in each of the kinds 2 to 6, and the highest
+    -- a last word of kind 0, 1 and 14, which balances the image
+    ∷ judged (endedBy 0x0B0B9F60) 3 12
+    ∷ judged (endedBy 0x1B0B9F60) 3 12
+    ∷ judged (endedBy 0xEB0B9F60) 3 12
+    -- 4, spare: in each of the kinds 2 to 6 the lowest bit, one in the middle, and the highest
     ∷ judged (edited 1 (0x20000001 ∷ [])) 4 1
+    ∷ judged (edited 1 (0x20000100 ∷ [])) 4 1
     ∷ judged (edited 1 (0x20008000 ∷ [])) 4 1
+    ∷ judged (edited 3 (0x30000001 ∷ [])) 4 3
+    ∷ judged (edited 3 (0x30000080 ∷ [])) 4 3
     ∷ judged (edited 3 (0x30002000 ∷ [])) 4 3
+    ∷ judged (edited 1 (0x40010001 ∷ [])) 4 1
+    ∷ judged (edited 1 (0x40010100 ∷ [])) 4 1
     ∷ judged (edited 1 (0x40018000 ∷ [])) 4 1
+    ∷ judged (edited 9 (0x54102001 ∷ [])) 4 9
+    ∷ judged (edited 9 (0x54102040 ∷ [])) 4 9
     ∷ judged (edited 9 (0x54102800 ∷ [])) 4 9
+    ∷ judged (edited 10 (0x60000001 ∷ [])) 4 10
+    ∷ judged (edited 10 (0x60000800 ∷ [])) 4 10
     ∷ judged (edited 10 (0x60200000 ∷ [])) 4 10
     -- 5, range: user, role, permission, senior, junior, m of 0, of 1 and above R, n of 0, of 1 and above m, member
     ∷ judged (edited 1 (0x20400000 ∷ [])) 5 1
@@ -119,18 +142,28 @@ judgedImages =
     ∷ judged (edited 9 (0x54082000 ∷ [])) 5 9
     ∷ judged (edited 9 (0x54182000 ∷ [])) 5 9
     ∷ judged (edited 10 (0x60800000 ∷ [])) 5 10
+    -- in range: n 2 of m 3 and n 3 of m 4, each kind
+    ∷ judged (imageBytes (fewerOf 0 2 3)) 0 0
+    ∷ judged (imageBytes (fewerOf 1 2 3)) 0 0
+    ∷ judged (imageBytes (fewerOf 2 2 3)) 0 0
+    ∷ judged (imageBytes (fewerOf 3 2 3)) 0 0
+    ∷ judged (imageBytes (fewerOf 0 3 4)) 0 0
+    ∷ judged (imageBytes (fewerOf 1 3 4)) 0 0
+    ∷ judged (imageBytes (fewerOf 2 3 4)) 0 0
+    ∷ judged (imageBytes (fewerOf 3 3 4)) 0 0
     -- 6, repeat: a member again, a senior over itself; not a repeat: an entry said twice
     ∷ judged (edited 11 (0x60000000 ∷ [])) 6 11
     ∷ judged (edited 1 (0x40000000 ∷ [])) 6 1
+    ∷ judged (edited 1 (0x40410000 ∷ [])) 6 1
     ∷ judged (edited 1 (0x20000000 ∷ 0x20000000 ∷ 0x30000000 ∷ [])) 0 0
-    -- 7, crowd: a 17th role, the same 16 twice being none; a 33rd exclusion
+    -- 7, crowd: a 17th role, the same 16 twice being none; a 33rd exclusion, an entry of another kind behind the 32nd being none
     ∷ judged (imageBytes (ended (wide (assignments 16)))) 0 0
     ∷ judged (imageBytes (ended (wide (assignments 16 ++ assignments 16)))) 0 0
     ∷ judged (imageBytes (ended (wide (assignments 17)))) 7 17
-    ∷ judged (imageBytes (ended (0x102080A0 ∷ exclusionWords 32))) 0 0
-    ∷ judged (imageBytes (ended (0x102080A0 ∷ exclusionWords 33))) 7 97
+    ∷ judged (afterThirtyTwo (0x20000000 ∷ 0x30000000 ∷ 0x40010000 ∷ 0x70004000 ∷ [])) 0 0
+    ∷ judged (afterThirtyTwo (0x54102000 ∷ 0x60000000 ∷ 0x60400000 ∷ [])) 7 97
     -- limits: the smallest and the largest t, in any place, several for one role; 3 where a member is due and as the last word;
-    -- 4 for a spare bit, and the highest; 5 for the role and for t of 0, 1, 257 and 511; ties
+    -- 4 for the lowest spare bit, one in the middle and the highest; 5 for the role and for t of 0, 1, 257 and 511; ties
     ∷ judged (edited 3 (0x70004000 ∷ [])) 0 0
     ∷ judged (edited 1 (0x70600000 ∷ [])) 0 0
     ∷ judged (edited 9 (0x70004000 ∷ 0x54102000 ∷ [])) 0 0
@@ -139,6 +172,7 @@ judgedImages =
     ∷ judged (edited 11 (0x70004000 ∷ [])) 3 11
     ∷ judged (imageBytes (take 9 bodyA ++ (0x70004000 ∷ []))) 3 9
     ∷ judged (edited 3 (0x70004001 ∷ [])) 4 3
+    ∷ judged (edited 3 (0x70004040 ∷ [])) 4 3
     ∷ judged (edited 3 (0x70005000 ∷ [])) 4 3
     ∷ judged (edited 3 (0x70804000 ∷ [])) 5 3
     ∷ judged (edited 3 (0x70000000 ∷ [])) 5 3
@@ -147,18 +181,26 @@ judgedImages =
     ∷ judged (edited 3 (0x703FE000 ∷ [])) 5 3
     ∷ judged (edited 10 (0x70802001 ∷ [])) 3 10
     ∷ judged (edited 3 (0x70802001 ∷ [])) 4 3
-    -- 8, balance, at the last word; a sum that drops its carries
-    ∷ judged (imageBytes (bodyA ++ (0xFB0B9F61 ∷ []))) 8 12
-    ∷ judged (imageBytes (bodyA ++ (0xF30B9F60 ∷ []))) 8 12
-    ∷ judged (imageBytes (ended (0x102080A0 ∷ exclusionWords 30))) 0 0
+    -- 8, balance, at the last word; the sum with 32 exclusions, above, drops its carries
+    ∷ judged (endedBy 0xFB0B9F61) 8 12
+    ∷ judged (endedBy 0xF30B9F60) 8 12
     -- two faults of one word: the lower number
     ∷ judged (edited 10 (0x20400001 ∷ [])) 3 10
     ∷ judged (edited 1 (0x20400001 ∷ [])) 4 1
     ∷ judged (edited 1 (0x40820000 ∷ [])) 5 1
     ∷ judged (edited 11 (0x60000001 ∷ [])) 4 11
     ∷ judged (edited 9 (0x54082001 ∷ [])) 4 9
-    ∷ judged (imageBytes (ended (0x102080A0 ∷ (exclusionWords 32 ++ (0x54082000 ∷ []))))) 5 97
-    ∷ judged (imageBytes (ended (0x102080A0 ∷ (exclusionWords 32 ++ (0x54182000 ∷ []))))) 5 97
+    -- 3 and 6: a senior over itself where a member is due, a member again and not due
+    ∷ judged (edited 10 (0x40000000 ∷ [])) 3 10
+    ∷ judged (edited 12 (0x60000000 ∷ [])) 3 12
+    -- 7 with 3, 4 and 5: a 17th role where a member is due, as the last word, with a spare bit, and not below R; a 33rd exclusion with n of
+    -- 1, and above m
+    ∷ judged (imageBytes (ended (wide (assignments 16 ++ (0x54102000 ∷ 0x20100000 ∷ []))))) 3 18
+    ∷ judged (imageBytes (wide (assignments 17))) 3 17
+    ∷ judged (imageBytes (ended (wide (assignments 16 ++ (0x20100001 ∷ []))))) 4 17
+    ∷ judged (imageBytes (ended (wide (assignments 16 ++ (0x20110000 ∷ []))))) 5 17
+    ∷ judged (afterThirtyTwo (0x54082000 ∷ [])) 5 97
+    ∷ judged (afterThirtyTwo (0x54182000 ∷ [])) 5 97
     -- two bad words: the earlier, whatever the numbers; 8 last
     ∷ judged (edited 1 (0x40000000 ∷ 0x20000001 ∷ [])) 6 1
     ∷ judged (edited 1 (0x20400000 ∷ 0x80000000 ∷ [])) 5 1

@@ -3,18 +3,19 @@
 -- close, ask, short ask, show and explain, refused images, and every refusal of a check.
 -- Assumes nothing.
 use mathlib.Core.Bool.{Bool, true, _&&_}
-use mathlib.Core.List.{List, [], _∷_, _++_}
+use mathlib.Core.List.{List, [], _∷_, _++_, map}
 use Prim.Native.Nat.{ℕ, zero, suc, _+_, _*_, _/_, _%_, _^_}
 use lib.Dec.{eqb}
-use lib.ListN.{getD, set, replicate, take, drop}
-use Rattle.model.specs.Image.{checkNumber}
+use lib.ListN.{getD, set, length, replicate, take, drop}
+use Rattle.model.specs.declared.Checked.{Checked}
+use Rattle.model.specs.Image.{headOf, emptyRows, start, scan, checkNumber}
 use Rattle.model.specs.Judgement.{judge}
 use Rattle.model.specs.Line.{SESSIONS}
 use Rattle.model.specs.Run.{Call, step, returned, answered, openBy, closeBy, askBy, shortAskBy, showBy, explainBy}
 use Rattle.model.specs.Words.{headWord, assignWord, grantWord, seniorWord, exclusionWord, memberWord, imageBytes, ended}
 use Rattle.model.specs.Tests.{sameList}
 use Rattle.model_cases.specs.Ward.{imageA, imageOfKind, opens, closes, shows, damaged, widest, explains}
-use Rattle.model_cases.specs.Refusals.{bodyA, edited, assignments, exclusionWords, wide}
+use Rattle.model_cases.specs.Refusals.{bodyA, edited, assignments, wide}
 
 -- ---- images
 
@@ -197,15 +198,47 @@ askRefused lower upper a b n number = leaves opened0 (askBy 0 0 lower upper a b 
 unfoldable pub shortRefused : List ℕ → List ℕ → ℕ → ℕ → HostCall
 shortRefused lower upper n number = leaves opened0 (shortAskBy 0 0 lower upper n) n number
 
--- 15 to 20, with nothing behind them right: a set not of 32 bytes, a permission not below P, bounds, objectives, room, no set
+-- 201 permissions, and no entry
+unfoldable pub highs : List ℕ
+highs = imageOf (headWord 1 1 201 ∷ [])
+
+-- lengths that are not a bound's 32 bytes
+unfoldable pub otherLengths : List ℕ
+otherLengths = 0 ∷ 31 ∷ 33 ∷ 34 ∷ 64 ∷ []
+
+-- 15, with nothing behind it right: a lower and an upper bound of another length, and two that are together as long as right ones
+unfoldable pub refusedLengths : HostCase
+refusedLengths =
+    under highs opened0
+    (map (λ n. askRefused (setBytes n []) (bound (201 ∷ [])) 3 3 39 15) otherLengths
+    ++ (map (λ n. askRefused (bound (201 ∷ [])) (setBytes n []) 3 3 39 15) otherLengths
+    ++ (map (λ n. shortRefused (setBytes n []) (bound (201 ∷ [])) 39 15) otherLengths
+    ++ (map (λ n. shortRefused (bound (201 ∷ [])) (setBytes n []) 39 15) otherLengths
+    ++ (askRefused (setBytes 31 []) (setBytes 33 []) 3 3 39 15 ∷ shortRefused (setBytes 64 []) [] 39 15 ∷ [])))))
+
+-- 16 and 17, by bounds that differ above permission 63 alone; 18, by high objectives
+unfoldable pub refusedAbove : HostCase
+refusedAbove =
+    under highs opened0
+    (askRefused (bound (200 ∷ [])) (bound (201 ∷ [])) 3 3 39 16
+    ∷ shortRefused (bound (201 ∷ [])) (bound (200 ∷ [])) 39 16
+    ∷ askRefused (bound (100 ∷ [])) (bound []) 3 3 39 17
+    ∷ askRefused (bound (150 ∷ [])) (bound (100 ∷ [])) 3 3 39 17
+    ∷ askRefused (bound (100 ∷ 150 ∷ 200 ∷ [])) (bound (100 ∷ 150 ∷ [])) 3 3 39 17
+    ∷ shortRefused (bound (200 ∷ [])) (bound (150 ∷ [])) 39 17
+    ∷ askRefused (bound (200 ∷ [])) (bound (200 ∷ [])) 4 0 39 18
+    ∷ askRefused (bound (200 ∷ [])) (bound (200 ∷ [])) 0 4 39 18
+    ∷ askRefused (bound (200 ∷ [])) (bound (200 ∷ [])) 256 0 39 18
+    ∷ askRefused (bound (200 ∷ [])) (bound (200 ∷ [])) 0 256 39 18
+    ∷ askRefused (bound (200 ∷ [])) (bound (200 ∷ [])) (2 ^ 32) 0 39 18
+    ∷ askRefused (bound (200 ∷ [])) (bound (200 ∷ [])) 0 (2 ^ 32) 39 18
+    ∷ [])
+
+-- 16 to 20, with nothing behind them right: a permission not below P, bounds, objectives, room, no set
 unfoldable pub refusedAsks : HostCase
 refusedAsks =
     under (imageBytes imageA) opened0
-    (askRefused (setBytes 31 []) (bound (5 ∷ [])) 3 3 39 15
-    ∷ askRefused (setBytes 33 []) (bound (5 ∷ [])) 3 3 39 15
-    ∷ askRefused (bound (5 ∷ [])) (setBytes 31 []) 3 3 39 15
-    ∷ askRefused (bound (5 ∷ [])) (setBytes 33 []) 3 3 39 15
-    ∷ askRefused (bound (5 ∷ [])) (bound []) 3 3 39 16
+    (askRefused (bound (5 ∷ [])) (bound []) 3 3 39 16
     ∷ askRefused (bound (255 ∷ [])) (bound []) 3 3 39 16
     ∷ askRefused (bound (4 ∷ [])) (bound (5 ∷ [])) 3 3 39 16
     ∷ askRefused (bound (4 ∷ [])) (bound (3 ∷ [])) 3 3 39 17
@@ -215,8 +248,6 @@ refusedAsks =
     ∷ askRefused (bound (4 ∷ [])) (bound (4 ∷ [])) 2 2 41 19
     ∷ askRefused (bound (4 ∷ [])) (bound (4 ∷ [])) 2 2 0 19
     ∷ askRefused (bound (4 ∷ [])) (bound (4 ∷ [])) 2 2 40 20
-    ∷ shortRefused (setBytes 31 []) (bound (5 ∷ [])) 39 15
-    ∷ shortRefused (bound (5 ∷ [])) (setBytes 33 []) 39 15
     ∷ shortRefused (bound (5 ∷ [])) (bound []) 39 16
     ∷ shortRefused (bound (4 ∷ [])) (bound (3 ∷ [])) 39 17
     ∷ shortRefused (bound (4 ∷ [])) (bound (4 ∷ [])) 39 19
@@ -313,6 +344,8 @@ objectives =
     ∷ ranks ranked (rankedBy 1 2) (61 ∷ 63 ∷ []) (64 ∷ 128 ∷ 192 ∷ [])
     ∷ ranks ranked (rankedBy 2 0) (62 ∷ 63 ∷ []) allRanked
     ∷ ranks ranked (rankedBy 2 2) (61 ∷ 62 ∷ 63 ∷ []) allRanked
+    -- an upper bound that differs above permission 63 alone keeps out the other two
+    ∷ ranks ranked (asksFor 0 (64 ∷ []) (64 ∷ 128 ∷ []) 2 0) (61 ∷ []) (64 ∷ [])
     ∷ []
 
 -- Role 0 carries 0 and 2, role 1 1, role 2 all three, role 3 0, role 4 0 and 1. For 0 and 1, the best sets are the roles 0 and 1 by the
@@ -419,20 +452,29 @@ returnedCases =
     ∷ refusesAll (two (1 ∷ []) [] idle idle) 0 0 13
     ∷ refusesAll (two (1 ∷ []) [] idle idle) 0 7 13
     ∷ unsoundLine (imageBytes imageA) damaged
+    ∷ refusedLengths
+    ∷ refusedAbove
     ∷ refusedAsks
     ∷ (linesJudged ++ (objectives ++ (shortObjectives ++ (lastUser ∷ []))))
 
 -- ---- what a check returns
 
 pub record CheckCase : Type 0 where
-  pub image : List ℕ
+  pub judgement : Checked
   pub number : ℕ
 
 unfoldable pub isChecked : CheckCase → Bool
-isChecked c = eqb (checkNumber (judge (c .image))) (c .number)
+isChecked c = eqb (checkNumber (c .judgement)) (c .number)
 
 unfoldable pub checks : List ℕ → ℕ → CheckCase
-checks image number = record { image = image; number = number }
+checks image number = record { judgement = judge image; number = number }
+
+-- the last words of an image alone, from the place on, under image A's head: to compute the judgement of all the words before a high place
+-- takes as long as all the other cases of the list
+unfoldable pub checksFrom : ℕ → List ℕ → ℕ → CheckCase
+checksFrom place ws number =
+    let words = replicate (4 * place) 0 ++ imageBytes ws in
+    record { judgement = scan words (headOf (headWord 1 2 5)) (length ws) place emptyRows start 0; number = number }
 
 unfoldable pub checkedCases : List CheckCase
 checkedCases =
@@ -450,7 +492,9 @@ checkedCases =
     ∷ checks (edited 10 (0x60800000 ∷ [])) 2565
     ∷ checks (edited 11 (0x60000000 ∷ [])) 2822
     ∷ checks (imageOf (wide (assignments 17))) 4359
-    ∷ checks (imageOf (0x102080A0 ∷ exclusionWords 33)) 24839
+    -- 3 at place 256, and 5 at place 300
+    ∷ checksFrom 255 (grantWord 0 0 ∷ 0x80000000 ∷ 0xF0000000 ∷ []) 65539
+    ∷ checksFrom 299 (grantWord 0 0 ∷ grantWord 0 5 ∷ 0xF0000000 ∷ []) 76805
     ∷ checks (imageBytes (bodyA ++ (0xFB0B9F61 ∷ []))) 3080
     -- 22, with 256 times the lowest role on the loop
     ∷ checks looping 15894

@@ -1,5 +1,5 @@
 -- The ward examples: images, first ledgers and calls with the answers that 01 gives them. `starred` are 01's starred cases, `settled`
--- further ones on what 01 says in words, `carded` those on limits.
+-- further ones on what 01 says in words, `fewer`, which are among these, those on exclusions with n below m, `carded` those on limits.
 -- Assumes nothing.
 use mathlib.Core.Bool.{Bool, true, false, _&&_}
 use mathlib.Core.List.{List, [], _∷_, _++_, map}
@@ -45,6 +45,17 @@ doctors t = 0x70000000 + t * 2 ^ 13
 
 unfoldable pub managers : ℕ → ℕ
 managers t = 0x70400000 + t * 2 ^ 13
+
+-- four roles that carry nothing, three of them the user's; by kind k fewer than n of the first m roles may be counted
+unfoldable pub fewerOf : ℕ → ℕ → ℕ → List ℕ
+fewerOf k n m =
+    ended
+    (0x10210020 ∷ 0x20000000 ∷ 0x20010000 ∷ 0x20020000 ∷ (0x50000000 + k * 2 ^ 26 + n * 2 ^ 19 + m * 2 ^ 12)
+    ∷ take m (0x60000000 ∷ 0x60400000 ∷ 0x60800000 ∷ 0x60C00000 ∷ []))
+
+-- three users with one role, which carries the one permission; fewer than t sessions may hold it
+unfoldable pub oneRole : ℕ → List ℕ
+oneRole t = ended (0x10604020 ∷ 0x20000000 ∷ 0x20400000 ∷ 0x20800000 ∷ 0x30000000 ∷ doctors t ∷ [])
 
 -- 003's three roles, which carry 0 and 2, 1 and 3, 1 and 2
 unfoldable pub threeRoles : List ℕ
@@ -113,6 +124,13 @@ asksDoctor k = shortAskBy 1 k (bytesOf 32 0x3) (bytesOf 32 0x1f) 40
 
 unfoldable pub asksManager : ℕ → Call
 asksManager k = shortAskBy 1 k (bytesOf 32 0x10) (bytesOf 32 0x1f) 40
+
+-- a short ask by user 1 in session 0 for permission 0, and the clause text of it, which has no room
+unfoldable pub asksMiddle : Call
+asksMiddle = shortAskBy 1 0 (bytesOf 32 1) (bytesOf 32 1) 40
+
+unfoldable pub textsMiddle : Call
+textsMiddle = clausesBy 1 0 (bytesOf 32 1) (bytesOf 32 1) 1 1 0
 
 -- a clause text, for at least 1 and none but 0 to 3
 unfoldable pub textsLow : ℕ → ℕ → Call
@@ -192,6 +210,10 @@ activeRole s = bytesOf 8 1 ++ (bytesOf 8 s ++ (bytesOf 8 s ++ (bytesOf 8 s ++ re
 unfoldable pub caseOfTwo : List ℕ → List ℕ → List Call → List (List ℕ) → Case
 caseOfTwo ws ledger calls answers = record { image = imageLimited ws; ledger = ledger; calls = calls; answers = answers }
 
+-- a case of three users, with their lines, in which fewer than t sessions may hold the role
+unfoldable pub caseOfThree : ℕ → List ℕ → List ℕ → List ℕ → List Call → List (List ℕ) → Case
+caseOfThree t l0 l1 l2 calls answers = record { image = oneRole t; ledger = l0 ++ (l1 ++ l2); calls = calls; answers = answers }
+
 -- limits
 unfoldable pub carded : List Case
 carded =
@@ -232,6 +254,51 @@ carded =
     (shows 0 ∷ asksShort 0 0x3 0x1f ∷ openBy 1 ∷ asksDoctor 0 ∷ asksManager 0 ∷ closes 1 ∷ asksShort 0 0x3 0x1f ∷ [])
     (chose 1 0xf ∷ refused 20 ∷ opened 0 ∷ refused 20 ∷ chose 2 0x12 ∷ opened 0 ∷ chose 1 0xf ∷ [])
     ∷ caseOfTwo [] (replicate 144 0 ++ damaged) (opens ∷ asksShort 0 0x3 0x1f ∷ []) (opened 0 ∷ chose 1 0xf ∷ [])
+    -- the middle one of three users asks: sessions of the user below and of the user above count
+    ∷ caseOfThree 3 (activeRole 1) (activeRole 0) (activeRole 1) (asksMiddle ∷ closeBy 2 0 ∷ asksMiddle ∷ []) (refused 20 ∷ opened 0 ∷ chose 1 1 ∷ [])
+    -- a damaged line of the user above, of the one below, and of both; the asker's own and that of the user above, and of the one below
+    ∷ caseOfThree 2 (activeRole 0) (activeRole 0) damaged (asksMiddle ∷ textsMiddle ∷ []) (refusedFor 11 3 ∷ refusedFor 11 3 ∷ [])
+    ∷ caseOfThree 2 damaged (activeRole 0) (activeRole 0) (asksMiddle ∷ []) (refusedFor 11 1 ∷ [])
+    ∷ caseOfThree 2 damaged (activeRole 0) damaged (asksMiddle ∷ []) (refusedFor 11 1 ∷ [])
+    ∷ caseOfThree 2 (activeRole 0) damaged damaged (asksMiddle ∷ []) (refused 11 ∷ [])
+    ∷ caseOfThree 2 damaged damaged (activeRole 0) (asksMiddle ∷ []) (refusedFor 11 1 ∷ [])
+    ∷ []
+
+-- the line of one user with the sessions 0 and 1 open: her history, and what is active in each, with its history
+unfoldable pub twoSessions : ℕ → ℕ → ℕ → ℕ → ℕ → List ℕ
+twoSessions history a0 h0 a1 h1 =
+    bytesOf 8 3 ++ (bytesOf 8 history ++ (bytesOf 8 a0 ++ (bytesOf 8 h0 ++ (bytesOf 8 a1 ++ (bytesOf 8 h1 ++ replicate 96 0)))))
+
+-- an ask for the most roles in session 0, under `fewerOf`, puts in the roles s; and a line that is not sound there
+unfoldable pub puts : List ℕ → List ℕ → ℕ → Case
+puts image ledger s = record { image = image; ledger = ledger; calls = asks 0 0 0 0 2 ∷ []; answers = chose s 0 ∷ [] }
+
+unfoldable pub unmet : List ℕ → List ℕ → Case
+unmet image ledger = record { image = image; ledger = ledger; calls = shows 0 ∷ []; answers = refused 11 ∷ [] }
+
+-- exclusions with n below m, each kind met by n - 1 members and not by n
+unfoldable pub fewer : List Case
+fewer =
+    -- kind 0: one session, whatever another holds
+    puts (fewerOf 0 2 3) (twoSessions 0x6 0 0x4 0x2 0x2) 0x1
+    ∷ unmet (fewerOf 0 2 3) (twoSessions 0x5 0 0 0x5 0x5)
+    ∷ puts (fewerOf 0 3 4) (twoSessions 0xE 0 0xC 0x2 0x2) 0x3
+    ∷ unmet (fewerOf 0 3 4) (twoSessions 0x7 0 0 0x7 0x7)
+    -- kind 1: with what session 1 holds, each member once
+    ∷ puts (fewerOf 1 2 3) (twoSessions 0x6 0 0x4 0x2 0x2) 0x2
+    ∷ unmet (fewerOf 1 2 3) (twoSessions 0x5 0x4 0x4 0x1 0x1)
+    ∷ puts (fewerOf 1 3 4) (twoSessions 0xE 0 0xC 0x4 0x4) 0x5
+    ∷ unmet (fewerOf 1 3 4) (twoSessions 0x7 0x4 0x4 0x3 0x3)
+    -- kind 2: with the session's history
+    ∷ puts (fewerOf 2 2 3) (twoSessions 0x6 0 0x4 0x2 0x2) 0x4
+    ∷ unmet (fewerOf 2 2 3) (twoSessions 0x5 0 0 0 0x5)
+    ∷ puts (fewerOf 2 3 4) (twoSessions 0xA 0 0x8 0x2 0x2) 0x1
+    ∷ unmet (fewerOf 2 3 4) (twoSessions 0xB 0 0 0 0xB)
+    -- kind 3: with the user's
+    ∷ puts (fewerOf 3 2 3) (twoSessions 0x2 0 0 0 0) 0x2
+    ∷ unmet (fewerOf 3 2 3) (twoSessions 0x5 0 0 0 0)
+    ∷ puts (fewerOf 3 3 4) (twoSessions 0xC 0 0 0 0) 0x4
+    ∷ unmet (fewerOf 3 3 4) (twoSessions 0xB 0 0 0 0)
     ∷ []
 
 unfoldable pub settled : List Case
@@ -307,4 +374,5 @@ settled =
     ∷ asks 0 0 0x20 3 3 ∷ asks 0 0x3 0x1 3 3 ∷ askBy 0 0 (bytesOf 32 0) (bytesOf 32 0) 3 0 39 ∷ askBy 0 0 (bytesOf 32 0) (bytesOf 32 0) 0 3 39
     ∷ askBy 0 0 (bytesOf 32 0x3) (bytesOf 32 0x3) 0 0 39 ∷ shortAskBy 0 0 (bytesOf 32 0x3) (bytesOf 32 0x3) 41 ∷ asksShort 0 0x3 0x3 ∷ [])
     (opened 0 ∷ refused 15 ∷ refused 15 ∷ refused 16 ∷ refused 16 ∷ refused 17 ∷ refused 18 ∷ refused 18 ∷ refused 19 ∷ refused 19 ∷ refused 20 ∷ [])
-    ∷ []
+    -- n below m
+    ∷ fewer

@@ -3,3 +3,4 @@ pub mod Computing
 pub mod ExamplesProof
 pub mod ReplyLaws
 pub mod LengthLaws
+pub mod Theorems

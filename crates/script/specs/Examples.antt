@@ -58,6 +58,9 @@ examples =
     ∷ under (imageBytes twoAndBoth) "open 0\nask 0 0 3 3 0 0\nask 0 0 3 3\n" "1 0 0 0 0\n2 0 0 3 3\n3 0 0 4 3\n"
     -- the first ledger has a line for each user
     ∷ under (imageBytes imageOfTwo) "open 1\nopen 2\n" "1 0 0 0 0\n2 10 0 0 0\n"
+    -- the user comes before the session: short asks of user 1 in session 0, and of user 0 in a session 1 that is not open
+    ∷ under (imageBytes imageOfTwo) "open 1\nask 1 0 3 1f\nask 0 1 3 1f\nask 1 0 10 1f\nshow 1 0\n"
+    "1 0 0 0 0\n2 0 0 1 f\n3 13 0 0 0\n4 0 0 2 12\n5 0 0 2 12\n"
     -- call numbers are decimals
     ∷ underA "\n\n\n\n\n\n\n\n\n\n"
     "1 21 0 0 0\n2 21 0 0 0\n3 21 0 0 0\n4 21 0 0 0\n5 21 0 0 0\n6 21 0 0 0\n7 21 0 0 0\n8 21 0 0 0\n9 21 0 0 0\n10 21 0 0 0\n"
