@@ -92,16 +92,32 @@ fn four_words(row: [u64; 4])
     ensures { λ _. ⌜ FourWords row ⌝ }
 {}
 
-// Row r takes in the permission p: of its four words the one that has p is stored, and no other is read.
+// A role's number in 32 bits, as a pass over the words of an image has it.
+pub struct WideRole(pub u32);
+
+// A permission's number in 32 bits.
+pub struct WidePermission(pub u32);
+
+// Row r takes in the permission p: of its four words the one that has p is stored, and no other is read. A shift finds the place, and a
+// subtraction the bit: a pass over grants in any order guesses wrong at comparisons.
+pub fn wide_put(rows: &mut [[u64; 4]; 64], r: WideRole, p: WidePermission)
+    requires { ⌜ (r .0 < 64) × (p .0 < 256) ⌝ }
+    ensures { λ _. ⌜ values (now (rows .exit)) ≡ set (values (now (rows .entry))) (r .0) (withOf (getD (values (now (rows .entry))) (r .0) 0) (p .0)) ⌝ }
+{
+    let who = r.0 as usize;
+    let high = p.0 >> 6;
+    let place = high as usize;
+    let bit = p.0 - high * 64;
+    four_words(rows[who]);
+    rows[who][place] = rows[who][place] | (1 << bit);
+}
+
+// The same of a role and a permission in 8 bits.
 pub fn perm_put(rows: &mut [[u64; 4]; 64], r: Role, p: Permission)
     requires { ⌜ r .0 < 64 ⌝ }
     ensures { λ _. ⌜ values (now (rows .exit)) ≡ set (values (now (rows .entry))) (r .0) (withOf (getD (values (now (rows .entry))) (r .0) 0) (p .0)) ⌝ }
 {
-    let spot = split(p);
-    let place = spot.place;
-    let who = r.0 as usize;
-    four_words(rows[who]);
-    rows[who][place] = rows[who][place] | (1 << spot.bit);
+    wide_put(rows, WideRole(r.0 as u32), WidePermission(p.0 as u32));
 }
 
 pub fn perm_union(a: [u64; 4], b: [u64; 4]) -> [u64; 4]
