@@ -16,6 +16,8 @@ use image_faults::fault::member_fault;
 use image_faults::fault::senior_fault;
 use image_faults::fault::spared;
 use image_faults::fault::wrong_kind;
+use image_usual::usual::Run;
+use image_usual::usual::pass;
 use image_words::word::decode;
 use image_words::word::head_of;
 use image_words::word::head_right;
@@ -91,6 +93,17 @@ fn taken(
     }
 }
 
+// What the first word behind the head is judged by: no exclusion so far, and no member due.
+pub fn fresh() -> Scan
+    ensures { λ t. ⌜ t ≡ start ⌝ }
+{
+    Scan {
+        exclusions: 0,
+        due: 0,
+        members: 0,
+    }
+}
+
 // What a word without fault leaves to judge the next one by.
 pub fn next(t: Scan, e: Entry) -> Scan
     requires { ⌜ Small e × Due t e ⌝ }
@@ -132,24 +145,27 @@ fn check_words(
         → (now (assigned .exit) ≡ fold assigning (now (assigned .entry)) (entriesFrom (now (image .entry)) (words - 1) 1))
         × (now (juniors .exit) ≡ fold ordering (now (juniors .entry)) (entriesFrom (now (image .entry)) (words - 1) 1))) ⌝ }
 {
-    let mut t = Scan {
-        exclusions: 0,
-        due: 0,
-        members: 0,
+    let mut t = fresh();
+    let mut at = Run {
+        place: 1,
+        sum: first,
     };
-    let mut sum = first;
-    for place in 1..words {
-        let w = octets::word_at(image, place);
+    while at.place < words {
+        let w = octets::word_at(image, at.place);
         let word = decode(w);
-        let number = taken(h, assigned, juniors, t, place + 1 == words, word);
+        let number = taken(h, assigned, juniors, t, at.place + 1 == words, word);
         if number != 0 {
-            return Checked::Refused(number, place as u16);
+            return Checked::Refused(number, at.place as u16);
         }
         let e = word.entry;
         t = next(t, e);
-        sum = std::num::wrapping_add_u32(sum, w);
+        let behind = Run {
+            place: at.place + 1,
+            sum: std::num::wrapping_add_u32(at.sum, w),
+        };
+        at = pass(image, words, behind, h, t.due, assigned, juniors);
     }
-    if sum % 268435456 == 0 {
+    if at.sum % 268435456 == 0 {
         Checked::Accepted(h)
     } else {
         Checked::Refused(8, (words - 1) as u16)

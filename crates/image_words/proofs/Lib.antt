@@ -1,2 +1,3 @@
 -- The laws that the proofs of walks over an image's words use.
 pub mod Folds
+pub mod Scans

@@ -2,7 +2,7 @@
 -- Assumes nothing.
 use mathlib.Core.Path.{_≡_, refl, sym, ap, ap₂, subst, _∙_}
 use mathlib.Core.Bool.{Bool, true, false}
-use mathlib.Core.List.{List, [], _∷_, _++_, map, append-nil}
+use mathlib.Core.List.{List, _∷_, _++_, map, append-nil}
 use Prim.Native.Nat.{ℕ, zero, suc, _+_, _-_, _≤_, _<_}
 use native.Mathlib.Omega.{arith}
 use native.Mathlib.Numerals.{add-one}
@@ -17,25 +17,10 @@ use Rattle.model.specs.declared.Entry.the-variants.{Assignment, Grant, Senior, 
 use Rattle.model.specs.declared.Word.{Word}
 use Rattle.model.specs.Image.{wordAt, decode, next}
 use Rattle.model.specs.Policy.{entryAt, entriesFrom, exclusionsOf}
+use Rattle.image_usual.specs.Usual.{placed, placesFrom}
 use Rattle.image.specs.Taken.{Due}
 use Rattle.tables_exclusions.specs.Exclusions.{exclusionBy, exclusionAt}
 use Rattle.tables_words.specs.Step.{noting}
-
--- the place first, where the entry is an exclusion
-unfoldable pub placed : Entry → ℕ → List ℕ → List ℕ
-placed (Assignment u r) p ps = ps
-placed (Grant r q) p ps = ps
-placed (Senior a b) p ps = ps
-placed (Exclude x m) p ps = p ∷ ps
-placed (Member r) p ps = ps
-placed (Limit r t) p ps = ps
-placed End p ps = ps
-placed Unknown p ps = ps
-
--- the places of the exclusion words among n words from p on
-unfoldable pub placesFrom : List ℕ → ℕ → ℕ → List ℕ
-placesFrom s zero p = []
-placesFrom s (suc n) p = placed (entryAt s p) p (placesFrom s n (p + 1))
 
 -- ---- the exclusions at those places are the image's
 

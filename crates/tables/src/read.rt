@@ -7,16 +7,18 @@ ghost use Rattle.model.specs.Image.{scan, start, judgeWords};
 ghost use Rattle.model.specs.Judgement.{judge};
 ghost use Rattle.model.specs.Policy.{policyOf};
 ghost use Rattle.sets.specs.Words.{values};
-ghost use Rattle.tables.specs.Tables.{Fresh, Gathered, Read, Tables};
+ghost use Rattle.tables.specs.Tables.{Closing, Fresh, Gathered, Read, Tables};
 use hierarchy_judged::loops::judged;
+use image::check::fresh;
 use image::check::next;
+use image_usual::usual::Run;
 use image_words::word::decode;
 use image_words::word::head_of;
 use image_words::word::head_right;
 use model::Checked;
 use model::Head;
-use model::Scan;
 use tables_exclusions::exclusions::exclusions_at;
+use tables_usual::usual::pass;
 use tables_words::take::end_fault;
 use tables_words::take::step;
 
@@ -34,6 +36,23 @@ fn refused(number: u8, place: u16) -> Reading
         checked: Checked::Refused(number, place),
         count: 0,
     }
+}
+
+// The last word, where so many members are due, and the sum of all words; `sum` is that of the words before it.
+fn closing(image: &[u8], words: usize, h: Head, due: u32, sum: u32) -> Checked
+    requires { ⌜ (4 * words ≤ length (now image)) × (1 ≤ words) × (words ≤ 4096) ⌝ }
+    ensures { λ r. ⌜ Closing (now (image .entry)) h words due sum r ⌝ }
+{
+    let end = words - 1;
+    let w = octets::word_at(image, end);
+    let number = end_fault(due, decode(w));
+    if number != 0 {
+        return Checked::Refused(number, end as u16);
+    }
+    if std::num::wrapping_add_u32(sum, w) % 268435456 != 0 {
+        return Checked::Refused(8, end as u16);
+    }
+    Checked::Accepted(h)
 }
 
 fn read_words(
@@ -54,15 +73,13 @@ fn read_words(
         (now (assigned .exit)) (values (now (granted .exit))) (now (juniors .exit)) (now (limits .exit)) (now (xs .exit)) (r .count)) ⌝ }
 {
     let mut places = [0usize; 32];
-    let mut t = Scan {
-        exclusions: 0,
-        due: 0,
-        members: 0,
+    let mut t = fresh();
+    let mut at = Run {
+        place: 1,
+        sum: first,
     };
-    let mut sum = first;
-    let end = words - 1;
-    for place in 1..end {
-        let w = octets::word_at(image, place);
+    while at.place + 1 < words {
+        let w = octets::word_at(image, at.place);
         let word = decode(w);
         let number = step(
             h,
@@ -72,31 +89,27 @@ fn read_words(
             limits,
             &mut places,
             t,
-            place,
+            at.place,
             word,
         );
         if number != 0 {
-            return refused(number, place as u16);
+            return refused(number, at.place as u16);
         }
         let e = word.entry;
         t = next(t, e);
-        sum = std::num::wrapping_add_u32(sum, w);
+        let behind = Run {
+            place: at.place + 1,
+            sum: std::num::wrapping_add_u32(at.sum, w),
+        };
+        at = pass(image, words, behind, h, t.due, assigned, granted, juniors);
     }
-    let w = octets::word_at(image, end);
-    let number = end_fault(t.due, decode(w));
-    if number != 0 {
-        return refused(number, end as u16);
-    }
-    sum = std::num::wrapping_add_u32(sum, w);
-    if sum % 268435456 != 0 {
-        return refused(8, end as u16);
-    }
+    let checked = closing(image, words, h, t.due, at.sum);
+    let Checked::Accepted(_) = checked else {
+        return Reading { checked, count: 0 };
+    };
     let count = t.exclusions as usize;
     exclusions_at(image, words, &places, count, xs);
-    Reading {
-        checked: Checked::Accepted(h),
-        count,
-    }
+    Reading { checked, count }
 }
 
 // Judges an image by its words and, where they pass, leaves in the tables the roles assigned to each user, the permissions granted to each

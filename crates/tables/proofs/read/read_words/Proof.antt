@@ -9,50 +9,54 @@ use lib.ListN.{length, getD, take}
 use borrow.Author.Needs.{needs}
 use Rattle.sets.specs.Words.{values}
 use Rattle.model.specs.declared.Scan.{Scan}
-use Rattle.model.specs.declared.Checked.the-variants.{Refused}
-use Rattle.model.specs.Image.{wordAt, assigning, scan, start}
+use Rattle.model.specs.Image.{assigning, scan, start}
 use Rattle.model.specs.Policy.{entriesFrom, fold, granting, ordering, limiting}
 use Rattle.tables_exclusions.specs.Exclusions.{exclusionAt}
-use Rattle.image.proofs.Turns.{due-of, stops, goes}
 use Rattle.image_words.proofs.Folds.{fold-next}
+use Rattle.image_words.proofs.Scans.{before-last, stops, goes}
+use Rattle.image_usual.specs.Usual.{placesFrom}
+use Rattle.image.proofs.Turns.{due-of}
 use Rattle.image.proofs.Judged.{never}
-use Rattle.tables.proofs.Places.{placesFrom, exclusions-placed, places-next, length-noted, noted-below, none-noted, next-few}
-use Rattle.tables.proofs.Last.{before-last, at-last, fold-last, places-last, last-right, last-wrong}
+use Rattle.tables.proofs.Places.{exclusions-placed, places-next, length-noted, noted-below, none-noted, next-few}
+use Rattle.tables.proofs.Last.{last-scan, last-entry, fold-last, places-last}
 use Rattle.tables.proofs.read.read_words.Statement.{statement}
 use Rattle.tables.proofs.read.read_words.Tie as tie
 
 abbrev Inv-loop : tie.InvT-loop
-Inv-loop image words h first assigned₀ granted₀ juniors₀ limits₀ xs places₀ t₀ sum₀ end place₀ assigned granted juniors limits places t sum place =
-    (1 ≤ place) × (place ≤ words - 1) × (scan image h (words - place) place assigned t sum ≡ scan image h (words - 1) 1 assigned₀ start first)
+Inv-loop image words h first assigned₀ granted₀ juniors₀ limits₀ xs places₀ t₀ at₀ assigned granted juniors limits places t at =
+    (1 ≤ at .place) × (at .place ≤ words - 1)
+    × (scan image h (words - at .place) (at .place) assigned t (at .sum) ≡ scan image h (words - 1) 1 assigned₀ start first)
     × (t .exclusions ≤ 32) × (length places ≡ 32) × ((j : ℕ) → getD places j 0 < words)
-    × (fold assigning assigned (entriesFrom image (words - place) place) ≡ fold assigning assigned₀ (entriesFrom image (words - 1) 1))
-    × (fold granting (values granted) (entriesFrom image (words - place) place) ≡ fold granting (values granted₀) (entriesFrom image (words - 1) 1))
-    × (fold ordering juniors (entriesFrom image (words - place) place) ≡ fold ordering juniors₀ (entriesFrom image (words - 1) 1))
-    × (fold limiting limits (entriesFrom image (words - place) place) ≡ fold limiting limits₀ (entriesFrom image (words - 1) 1))
-    × (take (t .exclusions) places ++ placesFrom image (words - place) place ≡ placesFrom image (words - 1) 1)
+    × (fold assigning assigned (entriesFrom image (words - at .place) (at .place)) ≡ fold assigning assigned₀ (entriesFrom image (words - 1) 1))
+    × (fold granting (values granted) (entriesFrom image (words - at .place) (at .place)) ≡ fold granting (values granted₀) (entriesFrom image (words - 1) 1))
+    × (fold ordering juniors (entriesFrom image (words - at .place) (at .place)) ≡ fold ordering juniors₀ (entriesFrom image (words - 1) 1))
+    × (fold limiting limits (entriesFrom image (words - at .place) (at .place)) ≡ fold limiting limits₀ (entriesFrom image (words - 1) 1))
+    × (take (t .exclusions) places ++ placesFrom image (words - at .place) (at .place) ≡ placesFrom image (words - 1) 1)
 
 abbrev μ-loop : tie.MeasureT-loop
-μ-loop image words h first assigned₀ granted₀ juniors₀ limits₀ xs places₀ t₀ sum₀ end place₀ assigned granted juniors limits places t sum place = words - place
+μ-loop image words h first assigned₀ granted₀ juniors₀ limits₀ xs places₀ t₀ at₀ assigned granted juniors limits places t at = words - at .place
 
 loop-holds : tie.Need-loop-holds Inv-loop μ-loop
 unfolding start
 loop-holds c =
-    let two = c .before .pre .1 in
-    (omega arith, omega arith, refl, omega arith, refl, none-noted 32 (c .before .args .words) (omega (arith, two)), refl, refl, refl, refl, refl)
+    let a = c .before .before in
+    let none = none-noted 32 (a .args .words) (omega (arith, a .pre .1)) in
+    let e = c .fresh .ensures in
+    (omega arith, omega (arith, a .pre .1), rw e, rw e (omega arith), refl, none, refl, refl, refl, refl, rw e)
 
 returns : tie.Need-returns Inv-loop μ-loop
 returns c =
-    let f = c .before .before in
+    let i = c .before .before in
+    let f = i .before in
     let d = f .before .before .before .before .before .before in
     let w = d .before in
-    let l = w .before .before in
-    let a = l .before .before .args in
-    let in-loop = w .before .loop-test .taken in
-    let more : l .loop .place + 1 < a .words = omega (arith, in-loop) in
-    let lt : l .loop .place < a .words = omega (arith, in-loop) in
+    let l = w .before .before .before in
+    let a = l .before .before .before .args in
+    let more = w .before .if1 .taken in
+    let lt : l .loop .at .place < a .words = omega (arith, more) in
     let e = before-last _ _ _ _ _ _ _ more (f .step .ensures .faulty) in (
       c .refused .ensures
-          ∙ stops _ _ _ _ _ _ _ _ _ _ lt (w .word-at .ensures) (d .decode .ensures .0) e _ (c .before .if1 .taken) (l .loop .inv .2),
+          ∙ stops _ _ _ _ _ _ _ _ _ _ lt (w .word-at .ensures) (d .decode .ensures .0) e _ (i .if2 .taken) (l .loop .inv .2),
       λ g e. never _ _ g (sym (c .refused .ensures) ∙ e),
     )
 
@@ -60,113 +64,85 @@ next-requires : tie.Need-next-requires Inv-loop μ-loop
 next-requires c κs =
     let f = c .before in
     let d = f .before .before .before .before .before .before in
-    (d .decode .ensures .1, due-of _ _ _ _ _ _ (f .step .ensures .faulty) (c .if1 .left))
+    (d .decode .ensures .1, due-of _ _ _ _ _ _ (f .step .ensures .faulty) (c .if2 .left))
+
+loop-less : tie.Need-loop-less Inv-loop μ-loop
+loop-less c = omega (arith, c .pass .ensures .passed .onward, c .pass .ensures .inside)
 
 loop-again : tie.Need-loop-again Inv-loop μ-loop
 loop-again c =
-    let f = c .before .before .before in
+    let r = c .pass .ensures in
+    let s = c .before .before .before .before in
+    let n = s .before .before in
+    let f = n .before .before in
     let d = f .before .before .before .before .before .before in
     let w = d .before in
-    let l = w .before .before in
-    let a = l .before .before .args in
-    let z = c .before .before .if1 .left in
-    let in-loop = w .before .loop-test .taken in
-    let more : l .loop .place + 1 < a .words = omega (arith, in-loop) in
-    let lt : l .loop .place < a .words = omega (arith, in-loop) in
+    let l = w .before .before .before in
+    let a = l .before .before .before .args in
+    let z = n .before .if2 .left in
+    let more = w .before .if1 .taken in
+    let lt : l .loop .at .place < a .words = omega (arith, more) in
     let ew = w .word-at .ensures in
     let ed = d .decode .ensures .0 in
-    let s = f .step .ensures in
-    let due = due-of _ _ _ _ _ _ (s .faulty) z in
-    let noted = s .places-is z in (
-      omega (arith, l .loop .inv .0),
-      omega (arith, in-loop),
-      goes _ _ _ _ _ _ _ _ _ _ lt ew ed (before-last _ _ _ _ _ _ _ more (s .faulty)) _ z _ _ _ (s .assigned-is z) (c .before .next .ensures)
-          (c .wrapping-add-u32 .ensures) (l .loop .inv .2),
-      subst (λ (x : Scan). x .exclusions ≤ 32) (sym (c .before .next .ensures)) (next-few (l .loop .t) _ due (l .loop .inv .3)),
+    let e = f .step .ensures in
+    let due = due-of _ _ _ _ _ _ (e .faulty) z in
+    let noted = e .places-is z in (
+      omega (arith, r .passed .onward),
+      r .inside,
+      r .passed .scanned (n .next .result) refl
+          ∙ goes _ _ _ _ _ _ _ _ _ _ lt ew ed (before-last _ _ _ _ _ _ _ more (e .faulty)) _ z _ _ _ (e .assigned-is z) (n .next .ensures)
+          (s .wrapping-add-u32 .ensures) (l .loop .inv .2),
+      subst (λ (x : Scan). x .exclusions ≤ 32) (sym (n .next .ensures)) (next-few (l .loop .t) _ due (l .loop .inv .3)),
       ap length noted ∙ length-noted _ _ _ _ ∙ l .loop .inv .4,
       λ j. subst (λ (v : List ℕ). getD v j 0 < a .words) (sym noted) (noted-below _ _ _ _ _ lt (l .loop .inv .5) j),
-      fold-next _ _ _ _ _ _ _ _ _ lt ew ed (s .assigned-is z) (l .loop .inv .6),
-      fold-next _ _ _ _ _ _ _ _ _ lt ew ed (s .granted-is z) (l .loop .inv .7),
-      fold-next _ _ _ _ _ _ _ _ _ lt ew ed (s .juniors-is z) (l .loop .inv .8),
-      fold-next _ _ _ _ _ _ _ _ _ lt ew ed (s .limits-is z) (l .loop .inv .9),
-      places-next _ _ _ _ _ _ _ _ _ lt (l .loop .inv .4) ew ed due (c .before .next .ensures) noted ∙ l .loop .inv .10,
+      r .passed .assigned-is ∙ fold-next _ _ _ _ _ _ _ _ _ lt ew ed (e .assigned-is z) (l .loop .inv .6),
+      r .granted-is ∙ fold-next _ _ _ _ _ _ _ _ _ lt ew ed (e .granted-is z) (l .loop .inv .7),
+      r .passed .juniors-is ∙ fold-next _ _ _ _ _ _ _ _ _ lt ew ed (e .juniors-is z) (l .loop .inv .8),
+      r .limits-is _ ∙ fold-next _ _ _ _ _ _ _ _ _ lt ew ed (e .limits-is z) (l .loop .inv .9),
+      rw (r .places-are) (places-next _ _ _ _ _ _ _ _ _ lt (l .loop .inv .4) ew ed due (n .next .ensures) noted ∙ l .loop .inv .10),
     )
 
 -- where the loop ends is the place of the last word
-last-place : (n p : ℕ) → 2 ≤ n → p ≤ n - 1 → n - 1 ≤ p → p + 1 ≡ n
+last-place : (n p : ℕ) → 2 ≤ n → p ≤ n - 1 → n ≤ p + 1 → p + 1 ≡ n
 last-place n p a b c = omega arith
-
-end-place : (n p : ℕ) → p + 1 ≡ n → n - 1 ≡ p
-end-place n p e = omega arith
 
 returns-2 : tie.Need-returns-2 Inv-loop μ-loop
 returns-2 c =
-    let f = c .before .before in
-    let w = f .before .before in
-    let l = w .before .before in
-    let a = l .before .before .args in
-    let p = last-place _ _ (l .before .before .pre .1) (l .loop .inv .1) (w .before .loop-test .left) in
-    let q = end-place _ _ p in
-    let lt : l .loop .place < a .words = omega (arith, p) in
-    let e = at-last _ _ _ _ _ _ _ p (f .end-fault .ensures .0 (a .h) (l .loop .assigned) (l .loop .t) refl) in (
-      c .refused2 .ensures
-          ∙ ap (Refused (f .end-fault .result)) q
-          ∙ stops _ _ _ _ _ _ _ _ _ _ lt (w .word-at2 .ensures ∙ ap (wordAt (a .image .now)) q) (f .before .decode2 .ensures .0) e _ (c .before .if2 .taken)
-          (l .loop .inv .2),
-      λ g e. never _ _ g (sym (c .refused2 .ensures) ∙ e),
-    )
-
-returns-3 : tie.Need-returns-3 Inv-loop μ-loop
-returns-3 c =
-    let u = c .before .before in
-    let f = u .before .before in
-    let w = f .before .before in
-    let l = w .before .before in
-    let a = l .before .before .args in
-    let z = u .before .if2 .left in
-    let p = last-place _ _ (l .before .before .pre .1) (l .loop .inv .1) (w .before .loop-test .left) in
-    let ew = w .word-at2 .ensures ∙ ap (wordAt (a .image .now)) (end-place _ _ p) in
-    let ef = f .end-fault .ensures .0 (a .h) (l .loop .assigned) (l .loop .t) refl in (
-      c .refused3 .ensures
-          ∙ last-wrong _ _ _ _ _ p ew (f .before .decode2 .ensures .0) (f .end-fault .ensures .1 z) _ _ _ _ ef z _ _ _ (u .wrapping-add-u322 .ensures)
-          (l .loop .inv .2) (c .before .if3 .taken),
-      λ g e. never _ _ g (sym (c .refused3 .ensures) ∙ e),
+    let k = c .before .before in
+    let l = k .before .before .before in
+    let p = last-place _ _ (l .before .before .before .pre .1) (l .loop .inv .1) (k .before .if1 .left) in (
+      last-scan _ _ _ p _ _ _ _ _ _ (k .closing .ensures .scanned (l .loop .assigned) (l .loop .t) refl) (l .loop .inv .2),
+      λ g e. never _ _ g (sym (c .enum-told2 .given .1) ∙ e),
     )
 
 exclusions-at-requires : tie.Need-exclusions-at-requires Inv-loop μ-loop
 exclusions-at-requires c κs =
-    let u = c .before .before .before .before in
-    let l = u .before .before .before .before .before .before in
-    let a = l .before .before in
+    let k = c .before .before .before .before .before in
+    let l = k .before .before .before in
+    let a = l .before .before .before in
     (a .pre .0, a .pre .2, l .loop .inv .3, l .loop .inv .4, l .loop .inv .5, a .pre .3)
 
-returns-4 : tie.Need-returns-4 Inv-loop μ-loop
+returns-3 : tie.Need-returns-3 Inv-loop μ-loop
 unfolding assigning granting ordering limiting
-returns-4 c =
+returns-3 c =
     let x = c .exclusions-at in
-    let u = c .before .before .before .before .before in
-    let f = u .before .before in
-    let w = f .before .before in
-    let l = w .before .before in
-    let a = l .before .before .args in
+    let m = c .before .before .before .before in
+    let k = m .before .before in
+    let l = k .before .before .before in
+    let a = l .before .before .before .args in
     let s = a .image .now in
-    let z = u .before .if2 .left in
-    let p = last-place _ _ (l .before .before .pre .1) (l .loop .inv .1) (w .before .loop-test .left) in
-    let ew = w .word-at2 .ensures ∙ ap (wordAt s) (end-place _ _ p) in
-    let ed = f .before .decode2 .ensures .0 in
-    let ee = f .end-fault .ensures .1 z in
-    let ef = f .end-fault .ensures .0 (a .h) (l .loop .assigned) (l .loop .t) refl in (
-      last-right _ _ _ _ _ p ew ed ee _ _ _ _ ef z _ _ _ (u .wrapping-add-u322 .ensures) (l .loop .inv .2) (c .before .before .before .before .if3 .left),
+    let p = last-place _ _ (l .before .before .before .pre .1) (l .loop .inv .1) (k .before .if1 .left) in
+    let ee = last-entry _ _ _ p _ (k .closing .ensures .ended _ (m .enum-told .given .1)) in (
+      last-scan _ _ _ p _ _ _ _ _ _ (k .closing .ensures .scanned (l .loop .assigned) (l .loop .t) refl) (l .loop .inv .2),
       λ g e. record {
-        assigned-is = fold-last _ _ _ _ _ p ew ed ee assigning _ _ refl (l .loop .inv .6);
-        granted-is = fold-last _ _ _ _ _ p ew ed ee granting _ _ refl (l .loop .inv .7);
-        juniors-is = fold-last _ _ _ _ _ p ew ed ee ordering _ _ refl (l .loop .inv .8);
-        limits-is = fold-last _ _ _ _ _ p ew ed ee limiting _ _ refl (l .loop .inv .9);
+        assigned-is = fold-last _ _ _ p ee assigning _ _ refl (l .loop .inv .6);
+        granted-is = fold-last _ _ _ p ee granting _ _ refl (l .loop .inv .7);
+        juniors-is = fold-last _ _ _ p ee ordering _ _ refl (l .loop .inv .8);
+        limits-is = fold-last _ _ _ p ee limiting _ _ refl (l .loop .inv .9);
         exclusions-are =
             x .ensures .0
-            ∙ ap (map (exclusionAt s (a .words)))
-            (places-last _ _ _ _ _ p ew ed ee _ _ _ _ ef z (l .loop .places) (l .loop .inv .4) ∙ l .loop .inv .10)
-            ∙ sym (exclusions-placed s (a .words) (a .words - 1) 1 (omega (arith, l .before .before .pre .1)));
+            ∙ ap (map (exclusionAt s (a .words))) (places-last _ _ _ p ee (l .loop .t) (l .loop .places) (l .loop .inv .4) ∙ l .loop .inv .10)
+            ∙ sym (exclusions-placed s (a .words) (a .words - 1) 1 (omega (arith, l .before .before .before .pre .1)));
         few = l .loop .inv .3;
         full = x .ensures .1;
       },
@@ -175,7 +151,6 @@ returns-4 c =
 pub read-words-spec : {M : Type 1} → statement M
 read-words-spec =
     tie.close
-    (tie.spec Inv-loop μ-loop (λ c. search needs) loop-holds (λ c κs. search needs) (λ c κs. search needs) (λ c κs. search needs)
-    (λ c. search needs) (λ c κs. search needs) returns next-requires (λ c κs. search needs) (λ c. search needs) (λ c. search needs) loop-again
-    (λ c κs. search needs) (λ c κs. search needs) (λ c κs. search needs) (λ c. search needs) (λ c κs. search needs) returns-2 (λ c κs. search needs)
-    (λ c. search needs) (λ c κs. search needs) returns-3 (λ c. search needs) exclusions-at-requires returns-4)
+    (tie.spec Inv-loop μ-loop (λ c κs. search needs) loop-holds (λ c. search needs) (λ c κs. search needs) (λ c κs. search needs) (λ c κs. search needs)
+    (λ c. search needs) (λ c κs. search needs) returns next-requires (λ c. search needs) (λ c κs. search needs) (λ c κs. search needs) loop-less loop-again
+    (λ c κs. search needs) (λ c. search needs) (λ c. search needs) returns-2 (λ c. search needs) exclusions-at-requires returns-3)

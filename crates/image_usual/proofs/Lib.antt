@@ -1,0 +1,3 @@
+-- The laws that the proofs of the usual words' code use.
+pub mod Words
+pub mod Runs

@@ -1,0 +1,2 @@
+-- What the contracts of the usual words' code say, beside the model's definitions.
+pub mod Usual
