@@ -3,15 +3,17 @@
 use mathlib.Core.Path.{_≡_, refl, sym, ap, ap₂, _∙_}
 use mathlib.Core.Bool.{Bool, true, false}
 use mathlib.Core.List.{List, [], _∷_, map}
-use Prim.Native.Nat.{ℕ, zero, suc, _+_, _≤_, _<_}
+use Prim.Native.Nat.{ℕ, zero, suc, _+_, _≤_, _<_, suc-le-suc}
 use native.Mathlib.Omega.{arith}
 use native.Mathlib.Numerals.{add-one}
 use native.Mathlib.Nat.{le-of-suc-le-suc, not-suc-le-zero}
 use lib.Bits.{or-zero-r}
-use lib.ListN.{length, getD, set, length-map}
+use lib.ListN.{length, getD, set, length-map, List·getD-eq-default}
 use Rattle.model.specs.Tests.{pick}
 use Rattle.model.specs.Sets.{has, union}
 use Rattle.model.specs.Policy.{taking, through, closed}
+use Rattle.model_laws.proofs.UnionLaws.{has-none}
+use Rattle.hierarchy.specs.Upper.{EmptyFrom}
 
 -- ---- a table mapped in place, row by row
 
@@ -37,26 +39,53 @@ mapTo-set f zero (x ∷ l) h = refl
 mapTo-set f (suc i) [] h = absurd (not-suc-le-zero h)
 mapTo-set f (suc i) (x ∷ l) h = ap (λ (t : List ℕ). f x ∷ t) (mapTo-set f i l (le-of-suc-le-suc h))
 
-mapTo-all : (f : ℕ → ℕ) (l : List ℕ) → mapTo f (length l) l ≡ map f l
+-- the rows from i on are empty, and stay so
+mapTo-rest : (f : ℕ → ℕ) → f 0 ≡ 0 → (i : ℕ) (l : List ℕ) → EmptyFrom i l → mapTo f i l ≡ map f l
 unfolding mapTo
-mapTo-all f [] = refl
-mapTo-all f (x ∷ l) = ap (λ (t : List ℕ). f x ∷ t) (mapTo-all f l)
+mapTo-rest f e zero [] z = refl
+mapTo-rest f e zero (x ∷ l) z =
+    let q : x ≡ 0 = z 0 (omega arith) in
+    ap₂ (λ (y : ℕ) (t : List ℕ). y ∷ t) (q ∙ sym e ∙ ap f (sym q)) (mapTo-rest f e zero l (λ r h. z (suc r) (omega arith)))
+mapTo-rest f e (suc i) [] z = refl
+mapTo-rest f e (suc i) (x ∷ l) z = ap (λ (t : List ℕ). f x ∷ t) (mapTo-rest f e i l (λ r h. z (suc r) (suc-le-suc h)))
+
+mapped-at : (f : ℕ → ℕ) → f 0 ≡ 0 → (l : List ℕ) (r : ℕ) → getD (map f l) r 0 ≡ f (getD l r 0)
+mapped-at f e [] zero = sym e
+mapped-at f e [] (suc r) = sym e
+mapped-at f e (x ∷ l) zero = refl
+mapped-at f e (x ∷ l) (suc r) = mapped-at f e l r
+
+-- an empty row takes nothing in
+taking-none : (k other : ℕ) → taking k other 0 ≡ 0
+unfolding taking pick
+taking-none k other = rw (has-none k)
 
 module _ (k other : ℕ) (rows₀ rows : List ℕ) (i : ℕ) (e : rows ≡ mapTo (taking k other) i rows₀) where
   pub row-taken : (row : ℕ) → i < length rows₀ → row ≡ taking k other (getD rows i 0) → set rows i row ≡ mapTo (taking k other) (i + 1) rows₀
   row-taken row h er =
       rw (er, e, mapTo-at (taking k other) i rows₀, add-one) (mapTo-set (taking k other) i rows₀ h)
 
-  pub all-taken : length rows₀ ≡ 64 → i ≤ 64 → 64 ≤ i → other ≡ getD rows₀ k 0 → rows ≡ through k rows₀
+  pub all-taken : (m : ℕ) → EmptyFrom m rows₀ → i ≤ m → m ≤ i → other ≡ getD rows₀ k 0 → rows ≡ through k rows₀
   unfolding through
-  all-taken n l g eo =
-      let h : i ≡ length rows₀ = omega arith in
-      e ∙ ap (λ (j : ℕ). mapTo (taking k other) j rows₀) h ∙ mapTo-all (taking k other) rows₀ ∙ rw eo
+  all-taken m z l g eo =
+      let h : i ≡ m = omega arith in
+      e ∙ ap (λ (j : ℕ). mapTo (taking k other) j rows₀) h ∙ mapTo-rest (taking k other) (taking-none k other) m rows₀ z ∙ rw eo
 
 pub length-closed : (n : ℕ) (rows : List ℕ) → length (closed n rows) ≡ length rows
 unfolding closed through
 length-closed zero rows = refl
 length-closed (suc n) rows = length-map (closed n rows) (taking n (getD (closed n rows) n 0)) ∙ length-closed n rows
+
+pub empty-closed : (m n : ℕ) (rows : List ℕ) → EmptyFrom m rows → EmptyFrom m (closed n rows)
+unfolding closed through
+empty-closed m zero rows z = z
+empty-closed m (suc n) rows z = λ r l.
+    let other : ℕ = getD (closed n rows) n 0 in
+    mapped-at (taking n other) (taking-none n other) (closed n rows) r ∙ ap (taking n other) (empty-closed m n rows z r l) ∙ taking-none n other
+
+-- a table of n rows has no more
+pub empty-behind : (n : ℕ) (rows : List ℕ) → length rows ≡ n → EmptyFrom n rows
+empty-behind n rows e = λ r l. List·getD-eq-default rows 0 (omega arith)
 
 pub closed-none : (rows : List ℕ) → rows ≡ closed 0 rows
 unfolding closed

@@ -3,6 +3,7 @@ ghost use mathlib.Core.Path.{_≡_};
 ghost use lib.ListN.{length};
 ghost use Prim.Native.Nat.{_≤_, _<_};
 ghost use Rattle.model.specs.Policy.{taking, through as throughOf, closed};
+ghost use Rattle.hierarchy.specs.Upper.{EmptyFrom};
 use model::Role;
 
 // The row, and the other too where the row has k.
@@ -16,18 +17,28 @@ fn take_in(row: u64, other: u64, k: usize) -> u64
     row
 }
 
-// Each row that has k takes in row k. An empty row k changes none.
-fn through(rows: &mut [u64; 64], k: usize)
-    requires { ⌜ (k < 64) × (length (now rows) ≡ 64) ⌝ }
+// Each of the first m rows that has k takes in row k; the others are empty. An empty row k changes none.
+fn through_first(rows: &mut [u64; 64], m: usize, k: usize)
+    requires { ⌜ (k < 64) × (m ≤ 64) × (length (now rows) ≡ 64) × EmptyFrom m (now rows) ⌝ }
     ensures { λ r. ⌜ now (rows .exit) ≡ throughOf k (now (rows .entry)) ⌝ }
 {
     let other = rows[k];
     if other == 0 {
         return;
     }
-    for i in 0..64usize {
+    for i in 0..m {
         let row = take_in(rows[i], other, k);
         rows[i] = row;
+    }
+}
+
+// Warshall's closure, by the roles below n, of a table whose rows from m on are empty.
+pub fn close_first(rows: &mut [u64; 64], m: usize, n: usize)
+    requires { ⌜ (n ≤ 64) × (m ≤ 64) × (length (now rows) ≡ 64) × EmptyFrom m (now rows) ⌝ }
+    ensures { λ r. ⌜ now (rows .exit) ≡ closed n (now (rows .entry)) ⌝ }
+{
+    for k in 0..n {
+        through_first(rows, m, k);
     }
 }
 
@@ -36,7 +47,5 @@ pub fn close(rows: &mut [u64; 64], n: usize)
     requires { ⌜ (n ≤ 64) × (length (now rows) ≡ 64) ⌝ }
     ensures { λ r. ⌜ now (rows .exit) ≡ closed n (now (rows .entry)) ⌝ }
 {
-    for k in 0..n {
-        through(rows, k);
-    }
+    close_first(rows, 64, n);
 }

@@ -6,20 +6,30 @@ use mathlib.Core.List.{List, _++_}
 use Prim.Native.Nat.{ℕ, _+_, _-_, _*_, _≤_, _<_}
 use native.Mathlib.Omega.{arith}
 use lib.Dec.{ltb}
-use lib.ListN.{length, replicate, length-append}
+use lib.ListN.{length, getD, replicate, length-append}
 use borrow.Author.Tests.{eq-eqb, ne-eqb, lt-ltb, le-ltb}
+use Rattle.model.specs.Sets.{has}
 use Rattle.model.specs.Policy.{Policy, closed}
 use Rattle.model.specs.Session.{Reply, refuse}
 use Rattle.model.specs.Judgement.{lowestOnLoop}
 use Rattle.model.specs.Loop.{loopLength, chainDown, shownChain, loopFrom, loopOn}
 use Rattle.model.specs.Run.{returned, filledWith, answered}
 use Rattle.model.specs.Ranges.{InRange}
+use Rattle.model_laws.proofs.AnyWidth.{no-members}
 use Rattle.model_laws.proofs.Judgements.{lowest-loop}
 use Rattle.model_laws.proofs.Levels.{down-length}
 use Rattle.model_laws.proofs.OrderedProof.{loop-fits}
+use Rattle.hierarchy.specs.Upper.{EmptyFrom}
 use Rattle.hierarchy.specs.Replies.{Replies}
 use Rattle.hierarchy.proofs.Filling.{filled-whole}
 use Rattle.hierarchy_judged.proofs.Judging.{onLoop, on-loop}
+use Rattle.hierarchy_loop.specs.Chained.{Ranged}
+
+-- the rows of no role are empty
+pub empty-above : {juniors : List ℕ} {roles : ℕ} → Ranged juniors roles → EmptyFrom roles juniors
+empty-above q = λ r l.
+    no-members _
+    (λ k e. let h = q .range .juniors r k (ap (λ (x : List ℕ). has (getD x r 0) k) (sym (q .juniors-are)) ∙ e) .0 in omega (arith, h, q .roles-are))
 
 -- ---- by the length of the buffer
 module _ (p : Policy) (room : List ℕ) where

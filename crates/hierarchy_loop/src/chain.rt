@@ -9,36 +9,39 @@ ghost use Rattle.model.specs.Sets.{has, inter as interOf};
 ghost use Rattle.model.specs.Policy.{Policy};
 ghost use Rattle.model.specs.Ranges.{InRange};
 ghost use Rattle.model.specs.Loop.{seniorsOf, level, loopLength, chainDown, loopOn};
+ghost use Rattle.hierarchy.specs.Upper.{EmptyFrom};
 ghost use Rattle.hierarchy.specs.Replies.{Replies};
 ghost use Rattle.hierarchy_loop.specs.Chained.{Levels, Ranged};
-use hierarchy::closure::close;
+use hierarchy::closure::close_first;
 use hierarchy::member::joined;
 use hierarchy_judged::loops::lowest_on_loop;
 use model::Role;
 
 // ---- levels
 
-// The roles that stand directly over a role of the set.
-fn seniors_of(juniors: &[u64; 64], set: u64) -> u64
+// The roles that stand directly over a role of the set; the rows from `roles` on are empty.
+fn seniors_among(juniors: &[u64; 64], roles: usize, set: u64) -> u64
+    requires { ⌜ (roles ≤ 64) × EmptyFrom roles (now juniors) ⌝ }
     ensures { λ s. ⌜ s ≡ seniorsOf (now (juniors .entry)) set ⌝ }
 {
     let mut found: u64 = 0;
-    for a in 0..64usize {
+    for a in 0..roles {
         found = joined(found, a, juniors[a] & set != 0);
     }
     found
 }
 
-// Fills level after level over role r until r itself is in one: how many senior words its shortest loop has, 65 where it is on none.
-fn fill_levels(juniors: &[u64; 64], r: Role, levels: &mut [u64; 64]) -> usize
-    requires { ⌜ (r .0 < 64) × (length (now levels) ≡ 64) ⌝ }
+// Fills level after level over role r until r itself is in one: how many senior words its shortest loop has, 65 where it is on none. The
+// rows from `roles` on are empty.
+fn fill_levels_among(juniors: &[u64; 64], roles: usize, r: Role, levels: &mut [u64; 64]) -> usize
+    requires { ⌜ (r .0 < 64) × (length (now levels) ≡ 64) × (roles ≤ 64) × EmptyFrom roles (now juniors) ⌝ }
     ensures { λ n. ⌜ (n ≡ loopLength (now (juniors .entry)) (r .0)) × (n ≤ 64 → Levels (now (juniors .entry)) (r .0) n (now (levels .exit)))
         × (length (now (levels .exit)) ≡ 64) × (n ≤ 65) ⌝ }
 {
     let mut here = sets::with(0, r);
     for k in 0..64usize {
         levels[k] = here;
-        let next = seniors_of(juniors, here);
+        let next = seniors_among(juniors, roles, here);
         if sets::has(next, r) {
             return k + 1;
         }
@@ -105,14 +108,14 @@ pub fn show_loop(juniors: &[u64; 64], roles: u8, chain: &mut [u8]) -> u64
         return 19;
     }
     let mut below = *juniors;
-    close(&mut below, roles as usize);
+    close_first(&mut below, roles as usize, roles as usize);
     let r = lowest_on_loop(&below, roles as usize);
     if roles as usize <= r {
         return 20;
     }
     let who = Role(r as u8);
     let mut levels = [0u64; 64];
-    let n = fill_levels(juniors, who, &mut levels);
+    let n = fill_levels_among(juniors, roles as usize, who, &mut levels);
     clear(chain);
     put_chain(juniors, &levels, who, n, chain);
     256 * (n as u64)

@@ -1,4 +1,4 @@
--- `hierarchy_loop::chain::fill_levels` meets its contract. The invariant: the levels so far are stored, and the role is in none of them but
+-- `hierarchy_loop::chain::fill_levels_among` meets its contract. The invariant: the levels so far are stored, and the role is in none of them but
 -- the first.
 -- Assumes nothing.
 use mathlib.Core.Path.{_≡_, refl, sym, ap, _∙_}
@@ -13,16 +13,16 @@ use Rattle.model.specs.Loop.{level, loopLength}
 use Rattle.hierarchy_loop.specs.Chained.{Levels}
 use Rattle.hierarchy_judged.proofs.Lowest.{lowest-passes, lowest-goes, lowest-ends}
 use Rattle.hierarchy_loop.proofs.Looping.{level-none, level-next, levels-next}
-use Rattle.hierarchy_loop.proofs.chain.fill_levels.Statement.{statement}
-use Rattle.hierarchy_loop.proofs.chain.fill_levels.Tie as tie
+use Rattle.hierarchy_loop.proofs.chain.fill_levels_among.Statement.{statement}
+use Rattle.hierarchy_loop.proofs.chain.fill_levels_among.Tie as tie
 
 abbrev Inv-loop : tie.InvT-loop
-Inv-loop juniors r levels₀ here₀ k₀ levels here k =
+Inv-loop juniors roles r levels₀ here₀ k₀ levels here k =
     (k ≤ 64) × (length levels ≡ 64) × (here ≡ level juniors (r .0) k) × Levels juniors (r .0) k levels
     × (lowest (λ n. has (level juniors (r .0) n) (r .0)) (k + 1) (65 - (k + 1)) ≡ lowest (λ n. has (level juniors (r .0) n) (r .0)) 1 64)
 
 abbrev μ-loop : tie.MeasureT-loop
-μ-loop juniors r levels₀ here₀ k₀ levels here k = 64 - k
+μ-loop juniors roles r levels₀ here₀ k₀ levels here k = 64 - k
 
 loop-holds : tie.Need-loop-holds Inv-loop μ-loop
 loop-holds c = (omega arith, c .before .pre .1, c .with .ensures ∙ level-none _ _, λ k l. absurd (omega arith), refl)
@@ -36,7 +36,7 @@ returns c =
     let j = l .before .before .args .juniors .now in
     let r = l .before .before .args .r .0 in
     let h = s .before .loop-test .taken in
-    let e = level-next j r (l .loop .k) _ _ (i .2) (s .seniors-of .ensures) in (
+    let e = level-next j r (l .loop .k) _ _ (i .2) (s .seniors-among .ensures) in (
       lowest-passes _ 65 (l .loop .k + 1) (omega arith) (ap (λ (x : ℕ). has x r) (sym e) ∙ sym (c .before .has .ensures) ∙ c .if1 .taken) ∙ i .4,
       λ m. levels-next j r (l .loop .levels) (l .loop .k) _ (omega (arith, i .1, h)) (i .2) (i .3),
       search needs,
@@ -51,7 +51,7 @@ loop-again c =
     let j = l .before .before .args .juniors .now in
     let r = l .before .before .args .r .0 in
     let h = s .before .loop-test .taken in
-    let e = level-next j r (l .loop .k) _ _ (i .2) (s .seniors-of .ensures) in (
+    let e = level-next j r (l .loop .k) _ _ (i .2) (s .seniors-among .ensures) in (
       omega arith,
       search needs,
       e,
@@ -70,8 +70,8 @@ returns-2 c =
       omega arith,
     )
 
-pub fill-levels-spec : {M : Type 1} → statement M
-fill-levels-spec =
+pub fill-levels-among-spec : {M : Type 1} → statement M
+fill-levels-among-spec =
     tie.close
     (tie.spec Inv-loop μ-loop (λ c κs. search needs) loop-holds (λ c. search needs) (λ c. search needs) (λ c κs. search needs)
     (λ c κs. search needs) (λ c. search needs) returns (λ c. search needs) (λ c. search needs) loop-again returns-2)
