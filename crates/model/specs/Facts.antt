@@ -2,11 +2,12 @@
 -- cases from the bytes of whole images stand in crates/model_cases.
 -- Assumes nothing.
 use mathlib.Core.Path.{_≡_, refl, ap}
-use mathlib.Core.Bool.{Bool, true, false}
+use mathlib.Core.Bool.{Bool, true, false, _&&_, not}
 use mathlib.Core.Option.{none, some}
 use mathlib.Core.List.{List, [], _∷_, _++_, map}
 use Prim.Native.Nat.{ℕ, _-_, _^_}
 use native.Mathlib.Omega.{arith}
+use lib.Dec.{eqb}
 use lib.ListN.{getD, replicate}
 use Rattle.model.specs.declared.Head.{Head}
 use Rattle.model.specs.declared.Kind.the-variants.{MsDmer, MsHmer}
@@ -16,7 +17,7 @@ use Rattle.model.specs.declared.Scan.{Scan}
 use Rattle.model.specs.declared.Checked.the-variants.{Accepted, Refused}
 use Rattle.model.specs.declared.Session.{Session}
 use Rattle.model.specs.declared.Line.{Line}
-use Rattle.model.specs.Tests.{first, ifBelow}
+use Rattle.model.specs.Tests.{any, all, first, ifBelow, sameList, sameLists}
 use Rattle.model.specs.Bytes.{bytesOf}
 use Rattle.model.specs.Words.{headWord, seniorWord, ended, imageBytes}
 use Rattle.model.specs.Image.{user, role, permission, says, inRange, crowds, fault, balanced, start, lengthRight, judgeWords, checkNumber}
@@ -35,6 +36,32 @@ use Rattle.model.specs.Moves.{moveAnswer, moveOn, resized, writtenIf}
 use Rattle.model.specs.OwnWords.{isOwn}
 use Rattle.model.specs.Independence.{besideText}
 use Rattle.model.specs.Computing.{computing}
+
+-- ---- tests, by which the listed cases compare too
+
+-- the same as itself alone: not as a shorter list, a longer one or one with another member
+pub same-list : map (sameList (1 ∷ 2 ∷ [])) ([] ∷ (1 ∷ []) ∷ (1 ∷ 2 ∷ []) ∷ (1 ∷ 3 ∷ []) ∷ (0 ∷ 2 ∷ []) ∷ (1 ∷ 2 ∷ 0 ∷ []) ∷ [])
+    ≡ (false ∷ false ∷ true ∷ false ∷ false ∷ false ∷ [])
+unfolding computing
+same-list = refl
+
+pub same-lists : map (sameLists ((1 ∷ []) ∷ [])) ([] ∷ ((1 ∷ []) ∷ []) ∷ ((2 ∷ []) ∷ []) ∷ ((1 ∷ []) ∷ [] ∷ []) ∷ [])
+    ≡ (false ∷ true ∷ false ∷ false ∷ [])
+unfolding computing
+same-lists = refl
+
+pub same-as-none : sameList [] [] && sameLists [] [] && not (sameList [] (0 ∷ [])) && not (sameLists [] ([] ∷ [])) ≡ true
+unfolding computing
+same-as-none = refl
+
+-- every member, some member
+pub every-member : map (all (λ n. eqb n 1)) ([] ∷ (1 ∷ 1 ∷ []) ∷ (1 ∷ 2 ∷ []) ∷ (2 ∷ 1 ∷ []) ∷ []) ≡ (true ∷ true ∷ false ∷ false ∷ [])
+unfolding computing
+every-member = refl
+
+pub some-member : map (any (λ n. eqb n 1)) ([] ∷ (2 ∷ 2 ∷ []) ∷ (1 ∷ 2 ∷ []) ∷ (2 ∷ 1 ∷ []) ∷ []) ≡ (false ∷ false ∷ true ∷ true ∷ [])
+unfolding computing
+some-member = refl
 
 -- ---- the words of an image
 

@@ -21,12 +21,13 @@ use Rattle.model.specs.Ranges.{Each}
 use Rattle.tidying.specs.Groups.{wordsBehind, entryOf, memberRole, Group, spread, leads, dueBehind, Whole, Parted, RightMember, RightGroup, Acceptable}
 use Rattle.tidying.specs.Same.{SamePolicy}
 use Rattle.tidying.specs.Order.{Rearranged, none-moved, one-kept, two-swapped, moved-twice, Permuted, SameGroup, Reordered, endOf, OrderFree, Covered}
+use Rattle.tidying.specs.Unmoved.{moved-length, moved-each, sum-kept, whole-moved}
 use Rattle.tidying.specs.Tidy.{tidyOf}
 use Rattle.limits.proofs.LimitTable.{limits-matched}
 use Rattle.model_laws.proofs.Eachs.{each-by}
 use Rattle.tidy_laws.proofs.WordLaws.{bytes-length, head-read, behind-read}
 use Rattle.tidy_laws.proofs.AcceptableProof.{entries-behind, entries-range, acceptable-of, accepted-of}
-use Rattle.tidy_laws.proofs.Permutations.{permuted-same, moved-length, moved-each, permuted-append, exchanged, permuted-mem, permuted-back, permuted-map, permuted-distinct, permuted-sum}
+use Rattle.tidy_laws.proofs.Permutations.{permuted-same, permuted-append, exchanged, permuted-mem, permuted-back, permuted-map, permuted-distinct}
 use Rattle.tidy_laws.proofs.GroupExclusions.{exclusionsIn, exclusions-in}
 use Rattle.tidy_laws.proofs.ExclusionsMoved.{exclusions-moved, permuted-any}
 use Rattle.tidy_laws.proofs.SameTables.{same-policy}
@@ -103,7 +104,7 @@ right-moved h g k e r =
       spare = ap (λ (w : ℕ). decode w .spare) (sym (e .word)) ∙ r .spare;
       range = ap (λ (w : ℕ). inRange h (entryOf w)) (sym (e .word)) ∙ r .range;
       apart = ap (λ (w : ℕ). repeats start (entryOf w)) (sym (e .word)) ∙ r .apart;
-      whole = sym (moved-length ℕ (λ (x y : ℕ). x ≡ y) (e .members)) ∙ r .whole ∙ ap (λ (w : ℕ). dueBehind (entryOf w)) (e .word);
+      whole = whole-moved g k e (r .whole);
       members = moved-each ℕ (λ (x y : ℕ). x ≡ y) (RightMember h) (λ x y q. subst (RightMember h) q) (e .members) (r .members);
       distinct = permuted-distinct (permuted-map ℕ ℕ memberRole (e .members)) (r .distinct);
     }
@@ -187,7 +188,7 @@ module _ (s t : List ℕ) (h : Head) (accepted : judge s ≡ Accepted h) (order 
             limits-same (policyOf s) (policyOf t) same-moved
             (subst (λ (n : ℕ). n ≤ 32) (moved-length Exclusion (λ (x y : Exclusion). x ≡ y) exclusions-permuted) (found .limits .few-exclusions))
             (found .limits);
-        balance = ap₂ (λ (w r : ℕ). (w + r) % 2 ^ 28) (sym (order .head)) (sym (permuted-sum words-moved)) ∙ found .balance;
+        balance = ap₂ (λ (w r : ℕ). (w + r) % 2 ^ 28) (sym (order .head)) (sym (sum-kept words-moved)) ∙ found .balance;
       }
 
   accepted-moved : judge t ≡ Accepted h

@@ -1,32 +1,14 @@
 -- Laws of lists moved about: what order has no say in.
 -- Assumes nothing.
-use mathlib.Core.Path.{_≡_, refl, sym, ap, ap₂, _∙_, subst}
+use mathlib.Core.Path.{_≡_, refl, sym, ap, _∙_, subst}
 use mathlib.Core.Logic.{_⊎_, inl, inr}
 use mathlib.Core.List.{List, [], _∷_, _++_, map, List·Memᴰ, List·Memᴰ·head, List·Memᴰ·tail, List·Memᴰ·cases-cons}
-use Prim.Native.Nat.{ℕ, suc, _+_}
-use native.Mathlib.Omega.{arith}
-use lib.ListN.{length}
+use Prim.Native.Nat.{ℕ}
 use Rattle.model.specs.Ranges.{Each}
-use Rattle.model.specs.Words.{sumOf}
 use Rattle.tidying.specs.Groups.{Distinct}
-use Rattle.tidying.specs.Order.{Rearranged, none-moved, one-kept, two-swapped, moved-twice, Permuted}
+use Rattle.tidying.specs.Order.{none-moved, one-kept, two-swapped, moved-twice, Permuted}
+use Rattle.tidying.specs.Unmoved.{moved-each}
 
--- ---- for any relation
-module _ (A : Type 0) (R : A → A → Type 0) where
-  pub moved-length : {xs ys : List A} → Rearranged A R xs ys → length xs ≡ length ys
-  moved-length none-moved = refl
-  moved-length (one-kept e m) = ap suc (moved-length m)
-  moved-length two-swapped = refl
-  moved-length (moved-twice m n) = moved-length m ∙ moved-length n
-
-  -- what each member has, and the relation carries over
-  pub moved-each : (P : A → Type 0) → ((x y : A) → R x y → P x → P y) → {xs ys : List A} → Rearranged A R xs ys → Each P xs → Each P ys
-  moved-each P f none-moved e = tt
-  moved-each P f (one-kept {x = x} {y = y} r m) e = (f x y r (e .0), moved-each P f m (e .1))
-  moved-each P f two-swapped e = (e .1 .0, (e .0, e .1 .1))
-  moved-each P f (moved-twice m n) e = moved-each P f n (moved-each P f m e)
-
--- ---- for equality
 module _ (A : Type 0) where
   pub permuted-same : (xs : List A) → Permuted A xs xs
   permuted-same [] = none-moved
@@ -95,11 +77,3 @@ permuted-distinct (one-kept {x = x} {y = y} {xs = xs} {ys = ys} e m) d = (
 )
 permuted-distinct two-swapped d = (((λ q. d .0 .0 (sym q)), d .1 .0), (d .0 .1, d .1 .1))
 permuted-distinct (moved-twice m n) d = permuted-distinct n (permuted-distinct m d)
-
--- the sum stays
-pub permuted-sum : {xs ys : List ℕ} → Permuted ℕ xs ys → sumOf xs ≡ sumOf ys
-unfolding sumOf
-permuted-sum none-moved = refl
-permuted-sum (one-kept e m) = ap₂ (λ (a b : ℕ). a + b) e (permuted-sum m)
-permuted-sum two-swapped = omega arith
-permuted-sum (moved-twice m n) = permuted-sum m ∙ permuted-sum n

@@ -5,4 +5,5 @@ pub mod Tidy
 pub mod TidyCases
 pub mod Arranged
 pub mod Order
+pub mod Unmoved
 pub mod OrderCases

@@ -1,14 +1,13 @@
 -- Entries moved about: images that differ in the order of their groups and of the members of a group.
 -- Assumes nothing.
-use mathlib.Core.Path.{_≡_, refl, ap₂, _∙_}
+use mathlib.Core.Path.{_≡_}
 use mathlib.Core.List.{List, [], _∷_, _++_}
-use Prim.Native.Nat.{ℕ, _+_, _^_, _<_}
-use native.Mathlib.Omega.{arith}
+use Prim.Native.Nat.{ℕ, _^_, _<_}
 use lib.ListN.{length}
 use Rattle.model.specs.declared.Head.{Head}
 use Rattle.model.specs.declared.Checked.the-variants.{Accepted}
 use Rattle.model.specs.Image.{wordAt, behindHead}
-use Rattle.model.specs.Words.{memberWord, sumOf, imageBytes}
+use Rattle.model.specs.Words.{imageBytes}
 use Rattle.model.specs.Policy.{policyOf}
 use Rattle.model.specs.Judgement.{judge}
 use Rattle.model.specs.Ranges.{Each}
@@ -34,19 +33,6 @@ pub record SameGroup (g k : Group) : Type 0 where
   pub word : g .word ≡ k .word
   pub members : Permuted ℕ (g .members) (k .members)
 
--- moved about, numbers have the same sum
-sum-kept : {xs ys : List ℕ} → Permuted ℕ xs ys → sumOf xs ≡ sumOf ys
-unfolding sumOf
-sum-kept none-moved = refl
-sum-kept (one-kept e p) = ap₂ (λ (a b : ℕ). a + b) e (sum-kept p)
-sum-kept two-swapped = omega arith
-sum-kept (moved-twice p q) = sum-kept p ∙ sum-kept q
-
--- a member stays in its group: one of role 0 is not one of role 1
-pub members-kept : ¬ SameGroup (record { word = 0; members = memberWord 0 ∷ [] }) (record { word = 0; members = memberWord 1 ∷ [] })
-unfolding sumOf memberWord
-members-kept same = let e = sum-kept (same .members) in omega arith
-
 -- ---- images
 
 -- whole groups of the image s are moved about between head and end, each exclusion together with its members, and the members of an
@@ -59,17 +45,6 @@ pub record Reordered (s t : List ℕ) : Type 0 where
   pub whole : Each Whole (from .groups)
   pub moved : Rearranged Group SameGroup (from .groups) (to .groups)
   pub last : from .last ≡ to .last
-
--- every group is moved whole, and neither the head nor the end word is moved
-module _ (s t : List ℕ) (order : Reordered s t) where
-  pub whole-moved : Each Whole (order .from .groups)
-  whole-moved = order .whole
-
-  pub head-kept : wordAt s 0 ≡ wordAt t 0
-  head-kept = order .head
-
-  pub end-kept : order .from .last ≡ order .to .last
-  end-kept = order .last
 
 -- the last word of an image
 unfoldable pub endOf : List ℕ → ℕ
