@@ -2,6 +2,7 @@
 //! 32 exclusions. Each row is the sum over its parameter's values; 003's upper bound is all permissions.
 
 use crate::plain::{self, Method, Wish};
+use crate::report::Report;
 use crate::timing;
 use nutrameza_tests::gen::{policy, Rng};
 use nutrameza_tests::kit::{self, Empty};
@@ -212,27 +213,38 @@ pub fn texts() -> Vec<(String, Vec<Asked>)> {
 }
 
 /// Times the asks of a family under one pair of aims.
-fn row(family: &Family, aims: (u64, u64)) {
+fn row(family: &Family, aims: (u64, u64), report: &mut Report) {
+    let name = format!("{} {} {}", family.name, aims.0, aims.1);
+    if !report.wants(&name) {
+        return;
+    }
     let asks = asks_of(family, aims);
     let done = asks.iter().filter(|asked| asked.agreed() == 0).count();
+    let name = format!("{name}, {done} of {} done", asks.len());
     let mut kit = || put_all(&asks, Way::Kit);
     let mut plain = || put_all(&asks, Way::Plain(Method::Kit));
     let mut subsets = || put_all(&asks, Way::Plain(Method::AllSubsets));
-    let (kit, plain, ratio) = timing::beside(&mut kit, &mut plain);
+    let times = report.beside(&name, &mut kit, &mut plain);
     let subsets = timing::alone(&mut subsets);
     let each = |time: f64| time / asks.len() as f64;
-    let name = format!("{} {} {}, {done} of {} done", family.name, aims.0, aims.1, asks.len());
-    println!("{name:<44} {:>12.0} {:>12.0} {ratio:>7.2} {:>14.0} {:>7.3}", each(kit), each(plain), each(subsets), kit / subsets);
+    println!(
+        "{name:<44} {:>12.0} {:>12.0} {:>7.2} {:>14.0} {:>7.3}",
+        each(times.first),
+        each(times.second),
+        times.ratio,
+        each(subsets),
+        times.first / subsets
+    );
 }
 
 /// Times all families.
-pub fn asks() {
+pub fn asks(report: &mut Report) {
     println!();
     println!("asks by 003's tables 3 and 4 (aims: permissions, roles; 0 any, 1 min, 2 max); a row's time is the mean ask");
     println!("{:<44} {:>12} {:>12} {:>7} {:>14} {:>7}", "family", "kit ns", "plain ns", "ratio", "all subsets ns", "ratio");
     for family in table_3().iter().chain(&table_4()) {
         for aims in family.aims {
-            row(family, *aims);
+            row(family, *aims, report);
         }
     }
 }

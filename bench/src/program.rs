@@ -1,11 +1,15 @@
 //! The programs' speed: short lines on a small image.
 
+use crate::report::Report;
 use nutrameza_tests::{program, ward};
 use std::path::Path;
 use std::time::Instant;
 
 /// Times each program on a million and a half short lines, start and pipes among it.
-pub fn lines() {
+pub fn lines(report: &Report) {
+    if !report.wants("programs") {
+        return;
+    }
     let folder = std::env::temp_dir().join(format!("nutrameza_bench-{}", std::process::id()));
     std::fs::create_dir_all(&folder).expect("a folder is made");
     std::fs::write(folder.join("policy.img"), ward::image_a()).expect("the image is written");

@@ -2,7 +2,8 @@
 //! has room for any text, as a host's has; once it is as long as its text.
 
 use crate::families::{self, Asked};
-use crate::{plain, timing};
+use crate::plain;
+use crate::report::Report;
 use nutrameza_tests::kit::{self, Empty};
 use nutrameza_tests::solver::line::LINE;
 use nutrameza_tests::{ward, words};
@@ -34,7 +35,10 @@ fn write_all(asks: &[Asked], by_kit: bool, out: &mut [u8]) {
 }
 
 /// Times the texts of some asks into a buffer of this length; both ways write the same bytes.
-fn row(name: &str, asks: &[Asked], room: usize) {
+fn row(name: &str, asks: &[Asked], room: usize, report: &mut Report) {
+    if !report.wants(name) {
+        return;
+    }
     let (mut first, mut second) = (vec![0; room], vec![1; room]);
     let mut bytes = 0;
     for asked in asks {
@@ -46,14 +50,15 @@ fn row(name: &str, asks: &[Asked], room: usize) {
     }
     let mut kit = || write_all(asks, true, &mut first);
     let mut plain = || write_all(asks, false, &mut second);
-    let (kit, plain, ratio) = timing::beside(&mut kit, &mut plain);
+    let times = report.beside(name, &mut kit, &mut plain);
     let each = |sum: f64| sum / asks.len() as f64;
     println!(
-        "{name:<44} {:>12.0} {:>12.0} {ratio:>7.2} {:>12.0} {:>9.0}",
-        each(kit),
-        each(plain),
+        "{name:<44} {:>12.0} {:>12.0} {:>7.2} {:>12.0} {:>9.0}",
+        each(times.first),
+        each(times.second),
+        times.ratio,
         each(bytes as f64),
-        bytes as f64 * 1e3 / kit
+        bytes as f64 * 1e3 / times.first
     );
 }
 
@@ -68,20 +73,17 @@ fn longest() -> Asked {
 }
 
 /// Times all texts.
-pub fn texts() {
+pub fn texts(report: &mut Report) {
     println!();
     println!("clause texts, by 003's tables 3 and 4; a row's time and length are those of the mean text");
     println!("{:<44} {:>12} {:>12} {:>7} {:>12} {:>9}", "asks", "kit ns", "plain ns", "ratio", "bytes", "MB/s");
-    row(
-        "image A 1 1",
-        &[Asked { image: ward::image_a(), lower: ward::bound(2), upper: ward::bound(0xf), aims: (1, 1) }],
-        plain::MOST_BYTES,
-    );
+    let small = Asked { image: ward::image_a(), lower: ward::bound(2), upper: ward::bound(0xf), aims: (1, 1) };
+    row("text, image A 1 1", &[small], plain::MOST_BYTES, report);
     for (name, asks) in families::texts() {
-        row(&name, &asks, plain::MOST_BYTES);
+        row(&format!("text, {name}"), &asks, plain::MOST_BYTES, report);
     }
     let longest = [longest()];
     let length = write(&longest[0], false, &mut vec![0; plain::MOST_BYTES]) / 256;
-    row("the longest text", &longest, plain::MOST_BYTES);
-    row("the longest text, a buffer of its length", &longest, length as usize);
+    row("text, the longest", &longest, plain::MOST_BYTES, report);
+    row("text, the longest, a buffer of its length", &longest, length as usize, report);
 }

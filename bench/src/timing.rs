@@ -51,7 +51,14 @@ fn jobs_in_a_round(way: &mut dyn FnMut()) -> u64 {
 }
 
 /// The median times of two ways, and the median ratio of the first to the second.
-pub fn beside(first: &mut dyn FnMut(), second: &mut dyn FnMut()) -> (f64, f64, f64) {
+pub struct Times {
+    pub first: f64,
+    pub second: f64,
+    pub ratio: f64,
+}
+
+/// Measures two ways.
+pub fn beside(first: &mut dyn FnMut(), second: &mut dyn FnMut()) -> Times {
     let counts = [jobs_in_a_round(first), jobs_in_a_round(second)];
     let once = round(first, counts[0]) * counts[0] as f64 + round(second, counts[1]) * counts[1] as f64;
     let rounds = ((ALL_ROUNDS / once) as usize).clamp(FEWEST_ROUNDS, MOST_ROUNDS);
@@ -61,18 +68,11 @@ pub fn beside(first: &mut dyn FnMut(), second: &mut dyn FnMut()) -> (f64, f64, f
         seconds.push(round(second, counts[1]));
     }
     let ratios = firsts.iter().zip(&seconds).map(|(first, second)| first / second).collect();
-    (median(firsts), median(seconds), median(ratios))
+    Times { first: median(firsts), second: median(seconds), ratio: median(ratios) }
 }
 
 /// The median time of one way over few rounds.
-#[cfg(feature = "asks")]
 pub fn alone(way: &mut dyn FnMut()) -> f64 {
     let count = jobs_in_a_round(way);
     median((0..5).map(|_| round(way, count)).collect())
-}
-
-/// Prints a row of kit and plain.
-pub fn row(name: &str, kit: &mut dyn FnMut(), plain: &mut dyn FnMut()) {
-    let (kit, plain, ratio) = beside(kit, plain);
-    println!("{name:<44} {kit:>12.0} {plain:>12.0} {ratio:>7.2}");
 }
