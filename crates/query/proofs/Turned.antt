@@ -7,9 +7,7 @@ use Prim.Native.Nat.{ℕ}
 use lib.ListN.{getD}
 use Rattle.model.specs.Sets.{has, inter}
 use Rattle.model_laws.proofs.SetLaws.{has-inter}
-use Rattle.sets.specs.Members.{without}
 use Rattle.query.specs.Carry.{Turned, Sub, Keeps}
-use Rattle.query.proofs.Members.{fewer-sub}
 
 -- what two sets share are the members of the first that the second has
 pub inter-keeps : (set x s : ℕ) → s ≡ inter set x → Keeps (has x) set s
@@ -26,6 +24,3 @@ module _ (row : ℕ → ℕ) (table : List ℕ) (wanted : ℕ) where
   -- the table is right for fewer roles too
   pub turned-sub : (set less : ℕ) → Turned row table wanted set → Sub less set → Turned row table wanted less
   turned-sub set less turned sub i m e want = turned i m (sub i e) want
-
-  pub turned-less : (set less r : ℕ) → Turned row table wanted set → has set r ≡ true → less ≡ without set r → Turned row table wanted less
-  turned-less set less r turned m e = rw e (turned-sub set (without set r) turned (fewer-sub set r m))

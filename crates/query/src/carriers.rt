@@ -3,7 +3,7 @@ ghost use mathlib.Core.Path.{_≡_};
 ghost use mathlib.Core.Bool.{_&&_};
 ghost use Prim.Native.Nat.{ℕ, _+_, _*_, _<_};
 ghost use lib.Dec.{eqb, ltb};
-ghost use lib.ListN.{length};
+ghost use lib.ListN.{length, replicate};
 ghost use Rattle.model.specs.Sets.{has};
 ghost use Rattle.model.specs.Policy.{Policy, meaning};
 ghost use Rattle.model.specs.Ranges.{InRange};
@@ -38,19 +38,29 @@ fn mark_row(table: &mut [u64; 256], row: [u64; 4], wanted: [u64; 4], r: Role)
     }
 }
 
-// For each wanted permission the roles of a set whose rows have it: under every policy in which each of them carries its row, those that
-// have a granting role of it.
+// The roles of a set join the sets of the wanted permissions of their rows, in a table of empty sets: it then has for each wanted permission
+// the roles of the set whose rows have it. Under every policy in which each of them carries its row, these are those that have a granting
+// role of it.
+pub fn join_carriers(table: &mut [u64; 256], rows: &[[u64; 4]; 64], set: u64, wanted: [u64; 4])
+    requires { ⌜ now table ≡ replicate 256 0 ⌝ }
+    ensures { λ _. ⌜ (Turned (rowsOf (now (rows .entry))) (now (table .exit)) (value wanted) set)
+        × ((p : Policy) (u : ℕ) → InRange p → Carry (meaning p u) set (rowsOf (now (rows .entry))) → Named p (now (table .exit)) (value wanted) set) ⌝ }
+{
+    let mut left = set;
+    while left != 0 {
+        let r = sets::lowest(left);
+        let i = r.0 as usize;
+        mark_row(table, rows[i], wanted, r);
+        left = sets::without(left, r);
+    }
+}
+
+// The same as a table by value.
 pub fn carriers(rows: &[[u64; 4]; 64], set: u64, wanted: [u64; 4]) -> [u64; 256]
     ensures { λ t. ⌜ (Turned (rowsOf (now (rows .entry))) t (value wanted) set)
         × ((p : Policy) (u : ℕ) → InRange p → Carry (meaning p u) set (rowsOf (now (rows .entry))) → Named p t (value wanted) set) ⌝ }
 {
     let mut table = [0u64; 256];
-    let mut left = set;
-    while left != 0 {
-        let r = sets::lowest(left);
-        let i = r.0 as usize;
-        mark_row(&mut table, rows[i], wanted, r);
-        left = sets::without(left, r);
-    }
+    join_carriers(&mut table, rows, set, wanted);
     table
 }

@@ -1,11 +1,11 @@
 // How role sets rank: by a key made of the two objectives' costs, of which the lower is better, then by the lower set number.
 ghost use mathlib.Core.Path.{_≡_};
 ghost use mathlib.Core.Bool.{true};
-ghost use Prim.Native.Nat.{_≤_};
+ghost use Prim.Native.Nat.{ℕ, _≤_};
 ghost use lib.Dec.{leb};
-ghost use Rattle.model.specs.Sets.{union as unionOf};
+ghost use Rattle.model.specs.Sets.{union as unionOf, count};
 ghost use Rattle.sets.specs.Words.{value};
-ghost use Rattle.query_rank.specs.Ranks.{Costs, keyBy, rank, rankAt, Judged, LeastCost, LeastKey, Settled};
+ghost use Rattle.query_rank.specs.Ranks.{Costs, keyBy, rank, rankAt, Judged, LeastCost, Settled};
 
 // The best set so far, with its key.
 pub struct Best {
@@ -75,56 +75,75 @@ pub fn judged(job: Job, chosen: u64, carried: [u64; 4], best: Best) -> Best
     }
 }
 
-// What an objective makes at least of the permissions of a set that has those carried and none outside top.
-fn least_permissions(objective: u8, carried: [u64; 4], top: [u64; 4]) -> u64
-    ensures { λ r. ⌜ LeastCost 256 objective (value carried) (value top) r ⌝ }
+// What the objective counts of the permissions of any set that has those carried: their number where it is the fewest.
+pub fn fewest_permissions(objective: u8, carried: [u64; 4]) -> u32
+    ensures { λ r. ⌜ (objective ≡ 1 → r ≡ count 256 (value carried)) ⌝ }
+{
+    if objective == 1 {
+        return sets::perm_size(carried);
+    }
+    0
+}
+
+// The same of the roles.
+pub fn fewest_roles(objective: u8, chosen: u64) -> u32
+    ensures { λ r. ⌜ (objective ≡ 1 → r ≡ count 64 chosen) ⌝ }
+{
+    if objective == 1 {
+        return sets::size(chosen);
+    }
+    0
+}
+
+// What an objective makes at least of the permissions of a set that has those carried, of which it counts `fewest`, and none outside top.
+fn least_permissions(objective: u8, fewest: u32, top: [u64; 4]) -> u32
+    ensures { λ r. ⌜ ((carried : ℕ) → (objective ≡ 1 → fewest ≡ count 256 carried) → LeastCost 256 objective carried (value top) r) ⌝ }
 {
     if objective == 0 {
         return 0;
     }
     if objective == 1 {
-        return sets::perm_size(carried) as u64;
+        return fewest;
     }
-    (256 - sets::perm_size(top)) as u64
+    256 - sets::perm_size(top)
 }
 
-// What an objective makes at least of the roles of a set that has the chosen ones and beside them only free ones.
-fn least_roles(objective: u8, chosen: u64, free: u64) -> u64
-    ensures { λ r. ⌜ LeastCost 64 objective chosen (unionOf chosen free) r ⌝ }
+// What an objective makes at least of the roles of a set that has the chosen ones, of which it counts `fewest`, and beside them only free ones.
+fn least_roles(objective: u8, fewest: u32, chosen: u64, free: u64) -> u32
+    ensures { λ r. ⌜ ((objective ≡ 1 → fewest ≡ count 64 chosen) → LeastCost 64 objective chosen (unionOf chosen free) r) ⌝ }
 {
     if objective == 0 {
         return 0;
     }
     if objective == 1 {
-        return sets::size(chosen) as u64;
+        return fewest;
     }
-    (256 - sets::size(sets::union(chosen, free))) as u64
+    256 - sets::size(sets::union(chosen, free))
 }
 
-// A key that no set of the chosen roles and some of the free ones is below, where it carries the permissions carried and none outside top.
-fn least_key(job: Job, free: u64, chosen: u64, carried: [u64; 4], top: [u64; 4]) -> u64
-    ensures { λ r. ⌜ LeastKey job chosen free (value carried) (value top) r ⌝ }
-{
-    let first = job.first;
-    let second = job.second;
-    least_permissions(first, carried, top) * 512 + least_roles(second, chosen, free)
-}
-
-// No such set that has the lower bound is better than the best so far: top lacks some of the bound, or their least key and the lowest set
-// number, that of the chosen roles alone, are no better.
+// No set of the chosen roles and some of the free ones that carries the permissions carried, none outside top and all of the lower bound is
+// better than the best so far: top lacks some of the bound, or their least key and the lowest set number, that of the chosen roles alone, are
+// no better. The objectives count so many of the permissions carried and of the chosen roles where they are the fewest: `settled` is called
+// for one such set after the other, and these are the same for all.
 pub fn settled(
     job: Job,
     free: u64,
     chosen: u64,
-    carried: [u64; 4],
+    permissions: u32,
+    roles: u32,
     top: [u64; 4],
     best: Best,
 ) -> bool
-    ensures { λ r. ⌜ (r ≡ true → Settled job chosen free (value carried) (value top) best) ⌝ }
+    ensures { λ r. ⌜ (r ≡ true → (carried : ℕ) → (job .first ≡ 1 → permissions ≡ count 256 carried) → (job .second ≡ 1 → roles ≡ count 64 chosen)
+        → Settled job chosen free carried (value top) best) ⌝ }
 {
     let lower = job.lower;
     if !sets::perm_within(lower, top) {
         return true;
     }
-    no_worse(best, least_key(job, free, chosen, carried, top), chosen)
+    let first = job.first;
+    let second = job.second;
+    let first_cost = least_permissions(first, permissions, top) as u64;
+    let second_cost = least_roles(second, roles, chosen, free) as u64;
+    no_worse(best, first_cost * 512 + second_cost, chosen)
 }

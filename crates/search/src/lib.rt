@@ -10,7 +10,7 @@ ghost use Rattle.query_rooms.specs.Rooms.{roomy};
 ghost use Rattle.query.specs.Carry.{rowsOf};
 ghost use Rattle.search_steps.specs.Search.{taskOf, Found};
 ghost use Rattle.search.specs.Answer.{answered, answerOf, noBest, Given};
-use query::carriers::carriers;
+use query::carriers::join_carriers;
 use query::carry::reach;
 use query::carry::usable;
 use query_rank::Best;
@@ -50,7 +50,8 @@ fn best_of(rows: &[[u64; 4]; 64], masks: &[u64; 32], rooms: &[u32; 32], job: Job
     if first < 2 {
         if second < 2 {
             let lower = job.lower;
-            let turned = carriers(rows, free, lower);
+            let mut turned = [0u64; 256];
+            join_carriers(&mut turned, rows, free, lower);
             return permission_step(rows, masks, rooms, job, free, 0, [0u64; 4], none, &turned);
         }
     }

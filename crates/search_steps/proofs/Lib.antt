@@ -4,3 +4,4 @@ pub mod Carried
 pub mod Costs
 pub mod Returns
 pub mod Turns
+pub mod Loops

@@ -18,7 +18,7 @@ use Rattle.query_rank.specs.declared.Best.{Best}
 use Rattle.query_rank.specs.declared.Job.{Job}
 use Rattle.query.specs.Carry.{rowsOf, Turned, Sub, Keeps, Missing, Reaches}
 use Rattle.query_rank.specs.Ranks.{keyBy, rank, rankAt, Judged, Settled}
-use Rattle.query.proofs.Members.{sub-count, fewer-sub}
+use Rattle.query.proofs.Members.{sub-count}
 use Rattle.query.proofs.Turned.{inter-keeps, keeps-turned}
 use Rattle.search_steps.specs.Search.{Task, taskOf, carries, serves, rankOf, Ready, Modest, Found, Tried}
 use Rattle.search_steps.proofs.Between.{fewer-within}
@@ -138,10 +138,6 @@ cuts-off rows reach masks rooms job chosen free carried role top a b ready reach
     (λ p k. carried-sub (rowsOf rows) 64 chosen s (between .least) p (ap (λ (x : ℕ). has x p) (sym (ready .carry)) ∙ k))
     (λ p k. ap (λ (x : ℕ). has x p) et ∙ top-bound (rowsOf rows) (rowsOf reach) chosen free carried role reaches low (ready .carry) s between p k)
     (and-l (within (t .lower) (carries t s)) (t .room s) m))
-
-pub reaches-less : (row reach : ℕ → ℕ) (free role less : ℕ) → has free role ≡ true → less ≡ without free role → Reaches row reach free → Reaches row reach less
-reaches-less row reach free role less on el h =
-    record { rows = λ r i g l m. h .rows r i g l (fewer-sub free role on i (ap (λ (x : ℕ). has x i) (sym el) ∙ m)) }
 
 -- ---- what falls: the permissions still wanted and the roles still free
 

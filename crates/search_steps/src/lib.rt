@@ -6,6 +6,8 @@ ghost use Rattle.search_steps.specs.Search.{taskOf, Ready, Modest, Found
 use query::carry::missing;
 use query_rank::Best;
 use query_rank::Job;
+use query_rank::fewest_permissions;
+use query_rank::fewest_roles;
 use query_rank::judged;
 use query_rank::key_of;
 use query_rank::no_worse;
@@ -73,43 +75,26 @@ pub fn role_step(
         × (Modest (taskOf (now rows) (now masks) (now rooms) job)) × (Sub tries free) × (Turned (rowsOf (now rows)) (now turned) (value (job .lower)) free) ⌝ }
     ensures { λ r. ⌜ Tried (taskOf (now (rows .entry)) (now (masks .entry)) (now (rooms .entry)) job) tries chosen free best r ⌝ }
 {
-    if tries == 0 {
-        return best;
-    }
-    let role = sets::lowest(tries);
-    let rest = sets::without(tries, role);
-    let less = sets::without(free, role);
-    let more = sets::with(chosen, role);
     let count = job.count;
-    if !room_for(masks, rooms, count, more) {
-        return role_step(
-            rows,
-            masks,
-            rooms,
-            job,
-            rest,
-            less,
-            chosen,
-            carried,
-            best,
-            turned,
-        );
+    let mut left = tries;
+    let mut still = free;
+    let mut found = best;
+    while left != 0 {
+        let role = sets::lowest(left);
+        let rest = sets::without(left, role);
+        let less = sets::without(still, role);
+        let more = sets::with(chosen, role);
+        left = rest;
+        still = less;
+        if !room_for(masks, rooms, count, more) {
+            continue;
+        }
+        let i = role.0 as usize;
+        let sum = sets::perm_union(carried, rows[i]);
+        let next = permission_step(rows, masks, rooms, job, less, more, sum, found, turned);
+        found = next;
     }
-    let i = role.0 as usize;
-    let sum = sets::perm_union(carried, rows[i]);
-    let next = permission_step(rows, masks, rooms, job, less, more, sum, best, turned);
-    role_step(
-        rows,
-        masks,
-        rooms,
-        job,
-        rest,
-        less,
-        chosen,
-        carried,
-        next,
-        turned,
-    )
+    found
 }
 
 // Every set that has the chosen roles and some of the free ones: with the lowest where the exclusions have room, and then without it. They
@@ -129,22 +114,27 @@ pub fn subset_step(
         × (Reaches (rowsOf (now rows)) (rowsOf (now reach)) free) ⌝ }
     ensures { λ r. ⌜ Found (taskOf (now (rows .entry)) (now (masks .entry)) (now (rooms .entry)) job) chosen free best r ⌝ }
 {
-    if free == 0 {
-        return judged(job, chosen, carried, best);
-    }
-    let role = sets::lowest(free);
-    let i = role.0 as usize;
-    let top = sets::perm_union(carried, reach[i]);
-    if settled(job, free, chosen, carried, top, best) {
-        return best;
-    }
-    let less = sets::without(free, role);
-    let wider = sets::with(chosen, role);
+    let permissions = fewest_permissions(job.first, carried);
+    let roles = fewest_roles(job.second, chosen);
     let count = job.count;
-    if !room_for(masks, rooms, count, wider) {
-        return subset_step(rows, reach, masks, rooms, job, less, chosen, carried, best);
+    let mut left = free;
+    let mut found = best;
+    while left != 0 {
+        let role = sets::lowest(left);
+        let i = role.0 as usize;
+        let top = sets::perm_union(carried, reach[i]);
+        if settled(job, left, chosen, permissions, roles, top, found) {
+            return found;
+        }
+        let less = sets::without(left, role);
+        let wider = sets::with(chosen, role);
+        left = less;
+        if !room_for(masks, rooms, count, wider) {
+            continue;
+        }
+        let sum = sets::perm_union(carried, rows[i]);
+        let next = subset_step(rows, reach, masks, rooms, job, less, wider, sum, found);
+        found = next;
     }
-    let sum = sets::perm_union(carried, rows[i]);
-    let next = subset_step(rows, reach, masks, rooms, job, less, wider, sum, best);
-    subset_step(rows, reach, masks, rooms, job, less, chosen, carried, next)
+    judged(job, chosen, carried, found)
 }

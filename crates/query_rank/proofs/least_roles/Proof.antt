@@ -12,11 +12,9 @@ least-roles-spec =
     tie.close
     (tie.spec
     (λ c. search needs)
-    (λ c κs. search needs)
-    (λ c. search needs)
-    (λ c. search (needs, least-few))
+    (λ c h. least-few 64 _ _ _ _ (c .if2 .taken) (omega arith) (h (c .if2 .taken)))
     (λ c κs. search needs)
     (λ c κs. search needs)
-    (λ c. omega (arith, c .size2 .ensures, count-le 64 (c .before .union .result)))
-    (λ c. search needs)
-    (λ c. search (needs, least-many)))
+    (λ c. omega (arith, c .size .ensures, count-le 64 (c .before .union .result)))
+    (λ c h. let u = c .before in
+    least-many 64 _ _ _ _ (u .before .before .if1 .left) (u .before .if2 .left) _ (u .union .ensures) (c .size .ensures)))

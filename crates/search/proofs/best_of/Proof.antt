@@ -12,12 +12,12 @@ use Rattle.search.proofs.best_of.Tie as tie
 permission-step-requires : tie.Need-permission-step-requires
 unfolding value joined
 permission-step-requires c κs =
-    let i = c .before .before .before in
+    let i = c .before .before .before .before in
     let s = i .before .before in
     let g = s .args in (
       ready-none (taskOf (now (g .rows)) (now (g .masks)) (now (g .rooms)) (g .job)) (g .job .count) 0 (s .pre .0) refl (s .pre .1),
       record { permissions = i .before .if1 .taken; roles = i .if2 .taken },
-      c .before .carriers .ensures .0,
+      c .before .join-carriers .ensures .0,
     )
 
 subset-step-requires : tie.Need-subset-step-requires

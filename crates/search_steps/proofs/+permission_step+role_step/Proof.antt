@@ -14,8 +14,9 @@ use Rattle.sets.specs.Words.{value}
 use Rattle.query.specs.Carry.{rowsOf}
 use Rattle.search_steps.specs.Search.{taskOf}
 use Rattle.query_rooms.proofs.RoomLaws.{roomy-less}
-use Rattle.query.proofs.Turned.{turned-less}
-use Rattle.search_steps.proofs.Turns.{gives-up, reaches, goes-on, tries-sub, runs-out, barred-sub, ready-more, tries-on, tries-off, wanted, wanted-less, roles-less}
+use Rattle.query.proofs.Turned.{turned-sub}
+use Rattle.search_steps.proofs.Turns.{gives-up, reaches, goes-on, tries-sub, ready-more, wanted, wanted-less}
+use Rattle.search_steps.proofs.Loops.{Trying, trying-start, trying-end, trying-off, trying-on, less-free, fewer-left, fewer-free}
 use Rattle.search_steps.proofs.permission_step.Reads as permission-step
 use Rattle.search_steps.proofs.permission_step.Kinds as permission-step-kinds
 use Rattle.search_steps.proofs.+permission_step+role_step.Lts-permission_step as permission-step-lts
@@ -52,6 +53,13 @@ role-step-at t = and 4 role-step-kinds.ps (is 4 role-step-kinds.ps μ-role-step 
 
 abbrev role-step-below : ℕ → In 4 role-step-kinds.ps
 role-step-below t = and 4 role-step-kinds.ps (falls 4 role-step-kinds.ps _<_ μ-role-step t) role-step.Pre
+
+abbrev Inv-loop : role-step-lts.InvT-loop
+Inv-loop rows masks rooms job tries free chosen carried turned n left₀ still₀ found₀ left still found =
+    Trying (taskOf rows masks rooms job) tries chosen free found₀ left still found
+
+abbrev μ-loop : role-step-lts.MeasureT-loop
+μ-loop rows masks rooms job tries free chosen carried turned n left₀ still₀ found₀ left still found = count 64 left
 
 pub +permission-step+role-step-spec : {M : Type 1} → statement M
 +permission-step+role-step-spec =
@@ -107,8 +115,6 @@ pub +permission-step+role-step-spec : {M : Type 1} → statement M
       with-reads.Learnt,
       room-for-reads.Asked,
       room-for-reads.Learnt,
-      role-step-below t,
-      role-step.Post,
       perm-union-reads.Asked,
       perm-union-reads.Learnt,
       permission-step-below t,
@@ -116,35 +122,29 @@ pub +permission-step+role-step-spec : {M : Type 1} → statement M
     )
     (role-step-at t)
     role-step.Post
-    (λ c. let g = c .before .args in runs-out (taskOf (now (g .rows)) (now (g .masks)) (now (g .rooms)) (g .job)) _ _ _ _ (c .if1 .taken))
+    Inv-loop
+    μ-loop
+    (λ c. trying-start _ _ _ _ _ (c .pre .1 .2))
     (λ c κs. search needs)
     (λ c κs. search needs)
     (λ c κs. search needs)
     (λ c κs. search needs)
-    (λ c κs. c .before .before .before .before .before .pre .1 .0 .few)
-    (λ c κs. let f = c .before .before .before in
-    let l = f .before .before in
-    let s = l .before .before in
-    let g = s .args in
-    let low = l .lowest .ensures in (
-      omega (arith, s .pre .0, roles-less _ _ _ (s .fits .free .fits) (low .small) (s .pre .1 .2 (l .lowest .result .0) (low .member)) (f .without2 .ensures)),
-      (
-        s .pre .1 .0,
-        s .pre .1 .1,
-        barred-sub _ _ _ _ _ (s .pre .1 .2) (low .member) (f .before .without .ensures) (f .without2 .ensures),
-        turned-less (rowsOf (now (g .rows))) (now (g .turned)) (value (g .job .lower)) _ _ _ (s .pre .1 .3)
-            (s .pre .1 .2 (l .lowest .result .0) (low .member)) (f .without2 .ensures),
-      ),
-    ))
-    (λ c. let w = c .before .before .before in
+    (λ c κs. let l = c .before .before .before in
+    l .before .before .before .pre .1 .0 .few)
+    (λ c. let r = c .before .before .before .before in
+    let l = r .before in
+    let k = l .before .before in
+    let inv = k .loop .inv in
+    fewer-left (k .before .args .free) (k .loop .left) (l .lowest .result .0) _ (k .before .fits .free .fits) (λ i m. inv .fewer i (inv .inside i m))
+    (l .lowest .ensures .small) (l .lowest .ensures .member) (r .without .ensures))
+    (λ c. let w = c .before .before in
     let f = w .before in
     let l = f .before .before in
-    let s = l .before .before in
-    let g = s .args in
-    let low = l .lowest .ensures in
-    tries-off (taskOf (now (g .rows)) (now (g .masks)) (now (g .rooms)) (g .job)) (roomy-less (now (g .masks)) (now (g .rooms)) (g .job .count)) _ _
-    _ _ _ _ (s .pre .1 .2 (l .lowest .result .0) (low .member)) (f .without2 .ensures) (w .with .ensures) (c .before .before .room-for .ensures) _ _
-    _ _ (low .member) (f .before .without .ensures) (not-true _ (c .before .if2 .taken)) (c .role-step .ensures))
+    let k = l .before .before in
+    let g = k .before .args in
+    trying-off (taskOf (now (g .rows)) (now (g .masks)) (now (g .rooms)) (g .job)) (roomy-less (now (g .masks)) (now (g .rooms)) (g .job .count)) _ _ _ _
+    (k .loop .left) _ _ (k .loop .inv) _ _ _ _ _ (l .lowest .ensures .member) (f .before .without .ensures) (f .without2 .ensures) (w .with .ensures)
+    (c .before .room-for .ensures) (not-true _ (c .if1 .taken)))
     (λ c. search needs)
     (λ c. search needs)
     (λ c. search needs)
@@ -153,46 +153,40 @@ pub +permission-step+role-step-spec : {M : Type 1} → statement M
     let w = i .before .before in
     let f = w .before in
     let l = f .before .before in
-    let s = l .before .before in
+    let k = l .before .before in
+    let s = k .before in
     let g = s .args in
-    let low = l .lowest .ensures in (
+    let low = l .lowest .ensures in
+    let inv = k .loop .inv in
+    let on = inv .inside (l .lowest .result .0) (low .member) in (
       omega (
         arith,
         s .pre .0,
-        roles-less _ _ _ (s .fits .free .fits) (low .small) (s .pre .1 .2 (l .lowest .result .0) (low .member))
-            (f .without2 .ensures),
+        fewer-free (g .free) (k .loop .still) (l .lowest .result .0) _ (s .fits .free .fits) (inv .fewer) (low .small) on (f .without2 .ensures),
         wanted-less (value (g .job .lower)) (value (g .carried)) _ (value (c .perm-union .result)) (c .perm-union .ensures),
       ),
       (
         ready-more (taskOf (now (g .rows)) (now (g .masks)) (now (g .rooms)) (g .job)) _ _ _ _ (s .pre .1 .0) _ _ _ _ (low .small) (w .with .ensures)
-            (c .perm-union .ensures) refl (i .before .room-for .ensures) (not-false _ (i .if2 .left)),
+            (c .perm-union .ensures) refl (i .before .room-for .ensures) (not-false _ (i .if1 .left)),
         s .pre .1 .1,
-        turned-less (rowsOf (now (g .rows))) (now (g .turned)) (value (g .job .lower)) _ _ _ (s .pre .1 .3)
-            (s .pre .1 .2 (l .lowest .result .0) (low .member)) (f .without2 .ensures),
+        turned-sub (rowsOf (now (g .rows))) (now (g .turned)) (value (g .job .lower)) (g .free) _ (s .pre .1 .3)
+            (less-free (g .free) (k .loop .still) (l .lowest .result .0) _ (inv .fewer) on (f .without2 .ensures)),
       ),
     ))
-    (λ c κs. let u = c .before .before .before in
-    let f = u .before .before .before .before in
-    let l = f .before .before in
-    let s = l .before .before in
-    let g = s .args in
-    let low = l .lowest .ensures in (
-      omega (arith, s .pre .0, roles-less _ _ _ (s .fits .free .fits) (low .small) (s .pre .1 .2 (l .lowest .result .0) (low .member)) (f .without2 .ensures)),
-      (
-        s .pre .1 .0,
-        s .pre .1 .1,
-        barred-sub _ _ _ _ _ (s .pre .1 .2) (low .member) (f .before .without .ensures) (f .without2 .ensures),
-        turned-less (rowsOf (now (g .rows))) (now (g .turned)) (value (g .job .lower)) _ _ _ (s .pre .1 .3)
-            (s .pre .1 .2 (l .lowest .result .0) (low .member)) (f .without2 .ensures),
-      ),
-    ))
-    (λ c. let i = c .before .before .before .before .before in
+    (λ c. let i = c .before .before .before .before in
+    let r = i .before .before .before .before in
+    let l = r .before in
+    let k = l .before .before in
+    let inv = k .loop .inv in
+    fewer-left (k .before .args .free) (k .loop .left) (l .lowest .result .0) _ (k .before .fits .free .fits) (λ i m. inv .fewer i (inv .inside i m))
+    (l .lowest .ensures .small) (l .lowest .ensures .member) (r .without .ensures))
+    (λ c. let i = c .before .before .before .before in
     let w = i .before .before in
     let f = w .before in
     let l = f .before .before in
-    let s = l .before .before in
-    let g = s .args in
-    let low = l .lowest .ensures in
-    tries-on (taskOf (now (g .rows)) (now (g .masks)) (now (g .rooms)) (g .job)) (roomy-less (now (g .masks)) (now (g .rooms)) (g .job .count)) _ _ _
-    _ _ _ (s .pre .1 .2 (l .lowest .result .0) (low .member)) (f .without2 .ensures) (w .with .ensures) (i .before .room-for .ensures) _ _ _ _ _
-    (low .member) (f .before .without .ensures) (c .before .permission-step .ensures) (c .role-step2 .ensures))
+    let k = l .before .before in
+    let g = k .before .args in
+    trying-on (taskOf (now (g .rows)) (now (g .masks)) (now (g .rooms)) (g .job)) (roomy-less (now (g .masks)) (now (g .rooms)) (g .job .count)) _ _ _ _
+    (k .loop .left) _ _ (k .loop .inv) _ _ _ _ _ (l .lowest .ensures .member) (f .before .without .ensures) (f .without2 .ensures) (w .with .ensures)
+    (i .before .room-for .ensures) _ (c .permission-step .ensures))
+    (λ c. let k = c .before in trying-end _ _ _ _ _ _ _ _ (k .loop .inv) (c .loop-test .left))

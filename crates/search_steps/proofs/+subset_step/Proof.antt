@@ -11,10 +11,13 @@ use denote.Ref.{now}
 use Rattle.model.specs.Sets.{count}
 use Rattle.search_steps.specs.Search.{taskOf}
 use Rattle.query_rooms.proofs.RoomLaws.{roomy-less}
-use Rattle.search_steps.proofs.Turns.{judges, ready-more, takes-both, takes-one, cuts-off, reaches-less, roles-less}
+use Rattle.search_steps.proofs.Turns.{judges, ready-more, cuts-off}
+use Rattle.search_steps.proofs.Loops.{Walking, walking-start, walking-off, walking-on, reaches-sub, less-free, fewer-left, fewer-free}
 use Rattle.search_steps.proofs.subset_step.Reads as subset-step
 use Rattle.search_steps.proofs.subset_step.Kinds as subset-step-kinds
 use Rattle.search_steps.proofs.+subset_step.Lts-subset_step as subset-step-lts
+use Rattle.query_rank.proofs.fewest_permissions.Reads as fewest-permissions-reads
+use Rattle.query_rank.proofs.fewest_roles.Reads as fewest-roles-reads
 use Rattle.query_rank.proofs.judged.Reads as judged-reads
 use Rattle.query_rank.proofs.settled.Reads as settled-reads
 use Rattle.query_rooms.proofs.rooms.room_for.Reads as room-for-reads
@@ -34,11 +37,20 @@ subset-step-at t = and 4 subset-step-kinds.ps (is 4 subset-step-kinds.ps μ-subs
 abbrev subset-step-below : ℕ → In 4 subset-step-kinds.ps
 subset-step-below t = and 4 subset-step-kinds.ps (falls 4 subset-step-kinds.ps _<_ μ-subset-step t) subset-step.Pre
 
+abbrev Inv-loop : subset-step-lts.InvT-loop
+Inv-loop rows reach masks rooms job free chosen carried permissions roles n left₀ found₀ left found =
+    Walking (taskOf rows masks rooms job) chosen free found₀ left found
+
+abbrev μ-loop : subset-step-lts.MeasureT-loop
+μ-loop rows reach masks rooms job free chosen carried permissions roles n left₀ found₀ left found = count 64 left
+
 pub +subset-step-spec : {M : Type 1} → statement M
 +subset-step-spec =
     close μ-subset-step λ t. subset-step-lts.spec (
-      judged-reads.Asked,
-      judged-reads.Learnt,
+      fewest-permissions-reads.Asked,
+      fewest-permissions-reads.Learnt,
+      fewest-roles-reads.Asked,
+      fewest-roles-reads.Learnt,
       lowest-reads.Asked,
       lowest-reads.Learnt,
       perm-union-reads.Asked,
@@ -53,13 +65,16 @@ pub +subset-step-spec : {M : Type 1} → statement M
       room-for-reads.Learnt,
       subset-step-below t,
       subset-step.Post,
+      judged-reads.Asked,
+      judged-reads.Learnt,
     )
     (subset-step-at t)
     subset-step.Post
+    Inv-loop
+    μ-loop
     (λ c κs. search needs)
-    (λ c. let s = c .before .before in
-    let g = s .args in
-    judges (now (g .rows)) (now (g .masks)) (now (g .rooms)) (g .job) _ _ _ _ _ (s .pre .1 .0) (c .before .if1 .taken) (c .judged .ensures))
+    (λ c κs. search needs)
+    (λ c. walking-start _ _ _ _)
     (λ c κs. search needs)
     (λ c. search needs)
     (λ c. search needs)
@@ -68,28 +83,31 @@ pub +subset-step-spec : {M : Type 1} → statement M
     (λ c κs. search needs)
     (λ c. let u = c .before .before in
     let l = u .before .before .before in
-    let s = l .before .before in
+    let k = l .before .before in
+    let n = k .before in
+    let s = n .before .before in
     let g = s .args in
-    cuts-off (now (g .rows)) (now (g .reach)) (now (g .masks)) (now (g .rooms)) (g .job) _ _ _ _ _ _ _ (s .pre .1 .0) (s .pre .1 .1)
-    (l .lowest .ensures) (u .perm-union .ensures) (c .before .settled .ensures) (c .if2 .taken))
+    k .loop .inv .rest _ (cuts-off (now (g .rows)) (now (g .reach)) (now (g .masks)) (now (g .rooms)) (g .job) _ _ _ _ _ _ _ (s .pre .1 .0)
+    (reaches-sub _ _ (g .free) (k .loop .left) (k .loop .inv .inside) (s .pre .1 .1)) (l .lowest .ensures) (u .perm-union .ensures)
+    (λ e. c .before .settled .ensures e _ (n .before .fewest-permissions .ensures) (n .fewest-roles .ensures)) (c .if1 .taken)))
     (λ c κs. search needs)
     (λ c κs. search needs)
     (λ c κs. let l = c .before .before .before .before .before .before in
-    l .before .before .before .pre .1 .0 .few)
-    (λ c κs. let f = c .before .before .before in
+    l .before .before .before .before .before .before .pre .1 .0 .few)
+    (λ c. let f = c .before .before .before in
     let l = f .before .before .before .before .before .before in
-    let s = l .before .before in
-    let g = s .args in (
-      omega (arith, s .pre .0, roles-less _ _ _ (s .fits .free .fits) (l .lowest .ensures .small) (l .lowest .ensures .member) (f .without .ensures)),
-      (s .pre .1 .0, reaches-less _ _ (g .free) (l .lowest .result .0) _ (l .lowest .ensures .member) (f .without .ensures) (s .pre .1 .1)),
-    ))
-    (λ c. let w = c .before .before .before in
+    let k = l .before .before in
+    let s = k .before .before .before in
+    fewer-left (s .args .free) (k .loop .left) (l .lowest .result .0) _ (s .fits .free .fits) (k .loop .inv .inside)
+    (l .lowest .ensures .small) (l .lowest .ensures .member) (f .without .ensures))
+    (λ c. let w = c .before .before in
     let f = w .before in
     let l = f .before .before .before .before .before .before in
-    let g = l .before .before .args in
-    takes-one (taskOf (now (g .rows)) (now (g .masks)) (now (g .rooms)) (g .job)) (roomy-less (now (g .masks)) (now (g .rooms)) (g .job .count)) _ _
-    _ _ _ _ (l .lowest .ensures .member) (f .without .ensures) (w .with .ensures) (c .before .before .room-for .ensures) _ _
-    (not-true _ (c .before .if3 .taken)) (c .subset-step .ensures))
+    let k = l .before .before in
+    let g = k .before .before .before .args in
+    walking-off (taskOf (now (g .rows)) (now (g .masks)) (now (g .rooms)) (g .job)) (roomy-less (now (g .masks)) (now (g .rooms)) (g .job .count)) _ _ _
+    (k .loop .left) _ (k .loop .inv) _ _ _ _ (l .lowest .ensures .member) (f .without .ensures) (w .with .ensures) (c .before .room-for .ensures)
+    (not-true _ (c .if2 .taken)))
     (λ c. search needs)
     (λ c. search needs)
     (λ c κs. search needs)
@@ -97,28 +115,41 @@ pub +subset-step-spec : {M : Type 1} → statement M
     let w = i .before .before in
     let f = w .before in
     let l = f .before .before .before .before .before .before in
-    let s = l .before .before in
-    let g = s .args in (
-      omega (arith, s .pre .0, roles-less _ _ _ (s .fits .free .fits) (l .lowest .ensures .small) (l .lowest .ensures .member) (f .without .ensures)),
+    let k = l .before .before in
+    let s = k .before .before .before in
+    let g = s .args in
+    let low = l .lowest .ensures in
+    let inside = k .loop .inv .inside in (
+      omega (
+        arith,
+        s .pre .0,
+        fewer-free (g .free) (k .loop .left) (l .lowest .result .0) _ (s .fits .free .fits) inside (low .small) (low .member)
+            (f .without .ensures),
+      ),
       (
-        ready-more (taskOf (now (g .rows)) (now (g .masks)) (now (g .rooms)) (g .job)) _ _ _ _ (s .pre .1 .0) _ _ _ _ (l .lowest .ensures .small)
-            (w .with .ensures) (c .perm-union2 .ensures) refl (i .before .room-for .ensures) (not-false _ (i .if3 .left)),
-        reaches-less _ _ _ _ _
-            (l .lowest .ensures .member) (f .without .ensures) (s .pre .1 .1),
+        ready-more (taskOf (now (g .rows)) (now (g .masks)) (now (g .rooms)) (g .job)) _ _ _ _ (s .pre .1 .0) _ _ _ _ (low .small)
+            (w .with .ensures) (c .perm-union2 .ensures) refl (i .before .room-for .ensures) (not-false _ (i .if2 .left)),
+        reaches-sub _ _ (g .free) _ (less-free (g .free) (k .loop .left) (l .lowest .result .0) _ inside (low .member) (f .without .ensures)) (s .pre .1 .1),
       ),
     ))
-    (λ c κs. let f = c .before .before .before .before .before .before in
+    (λ c. let f = c .before .before .before .before .before .before in
     let l = f .before .before .before .before .before .before in
-    let s = l .before .before in
-    let g = s .args in (
-      omega (arith, s .pre .0, roles-less _ _ _ (s .fits .free .fits) (l .lowest .ensures .small) (l .lowest .ensures .member) (f .without .ensures)),
-      (s .pre .1 .0, reaches-less _ _ (g .free) (l .lowest .result .0) _ (l .lowest .ensures .member) (f .without .ensures) (s .pre .1 .1)),
-    ))
-    (λ c. let i = c .before .before .before .before in
+    let k = l .before .before in
+    let s = k .before .before .before in
+    fewer-left (s .args .free) (k .loop .left) (l .lowest .result .0) _ (s .fits .free .fits) (k .loop .inv .inside)
+    (l .lowest .ensures .small) (l .lowest .ensures .member) (f .without .ensures))
+    (λ c. let i = c .before .before .before in
     let w = i .before .before in
     let f = w .before in
     let l = f .before .before .before .before .before .before in
-    let g = l .before .before .args in
-    takes-both (taskOf (now (g .rows)) (now (g .masks)) (now (g .rooms)) (g .job)) (roomy-less (now (g .masks)) (now (g .rooms)) (g .job .count)) _ _
-    _ _ _ _ (l .lowest .ensures .member) (f .without .ensures) (w .with .ensures) (i .before .room-for .ensures) _ _ _
-    (c .before .subset-step2 .ensures) (c .subset-step3 .ensures))
+    let k = l .before .before in
+    let g = k .before .before .before .args in
+    walking-on (taskOf (now (g .rows)) (now (g .masks)) (now (g .rooms)) (g .job)) (roomy-less (now (g .masks)) (now (g .rooms)) (g .job .count)) _ _ _
+    (k .loop .left) _ (k .loop .inv) _ _ _ _ (l .lowest .ensures .member) (f .without .ensures) (w .with .ensures) (i .before .room-for .ensures) _
+    (c .subset-step .ensures))
+    (λ c κs. search needs)
+    (λ c. let k = c .before .before in
+    let s = k .before .before .before in
+    let g = s .args in
+    k .loop .inv .rest _ (judges (now (g .rows)) (now (g .masks)) (now (g .rooms)) (g .job) _ _ _ _ _ (s .pre .1 .0) (c .before .loop-test .left)
+    (c .judged .ensures)))

@@ -1,6 +1,6 @@
--- `query::carriers::carriers` meets its contract. The loop's invariant: the roles before those to come have joined.
+-- `query::carriers::join_carriers` meets its contract. The loop's invariant: the roles before those to come have joined.
 -- Assumes nothing.
-use mathlib.Core.Path.{refl}
+use mathlib.Core.Path.{refl, sym, subst}
 use borrow.Author.Needs.{needs}
 use Rattle.model.specs.Sets.{count}
 use Rattle.sets.specs.Words.{value}
@@ -8,17 +8,17 @@ use Rattle.sets.proofs.Machine.{value-lt}
 use Rattle.query.specs.Carry.{rowsOf}
 use Rattle.query.proofs.Walks.{fewer-left}
 use Rattle.query.proofs.Marks.{Joined, joined-start, joined-next, joined-end, named-of}
-use Rattle.query.proofs.carriers.carriers.Statement.{statement}
-use Rattle.query.proofs.carriers.carriers.Tie as tie
+use Rattle.query.proofs.carriers.join_carriers.Statement.{statement}
+use Rattle.query.proofs.carriers.join_carriers.Tie as tie
 
 abbrev Inv-loop : tie.InvT-loop
-Inv-loop rows set wanted table₀ left₀ table left = Joined (rowsOf rows) (value wanted) set left table
+Inv-loop table₀ rows set wanted left₀ table left = Joined (rowsOf rows) (value wanted) set left table
 
 abbrev μ-loop : tie.MeasureT-loop
-μ-loop rows set wanted table₀ left₀ table left = count 64 left
+μ-loop table₀ rows set wanted left₀ table left = count 64 left
 
 loop-holds : tie.Need-loop-holds Inv-loop μ-loop
-loop-holds c = joined-start _ _ _
+loop-holds c = subst (Joined _ _ _ _) (sym (c .pre)) (joined-start _ _ _)
 
 loop-less : tie.Need-loop-less Inv-loop μ-loop
 loop-less c =
@@ -41,8 +41,8 @@ returns c =
     (value-lt (a .wanted) (search needs)) (c .before .loop .inv) in
     (t, λ p u range carry. named-of p u (rowsOf (a .rows .now)) (c .before .loop .table) (value (a .wanted)) (a .set) range carry t)
 
-pub carriers-spec : {M : Type 1} → statement M
-carriers-spec =
+pub join-carriers-spec : {M : Type 1} → statement M
+join-carriers-spec =
     tie.close
     (tie.spec
     Inv-loop
