@@ -1,2 +1,3 @@
 -- The laws of texts in a buffer and of decimals.
 pub mod WritingLaws
+pub mod RoomLaws

@@ -73,7 +73,7 @@ digits-same (suc k) (suc j) n h g = go (ltb n 10) refl (λ l. digits-same k j (n
         digits-more k n l ∙ ap (λ x. x ++ (figure n ∷ [])) (f (omega arith)) ∙ sym (digits-more j n l)
 
 -- a number by its last digit d, and by the digits before it
-decimal-one : (n d : ℕ) → d ≡ figure n → n < 10 → d ∷ [] ≡ decimal n
+pub decimal-one : (n d : ℕ) → d ≡ figure n → n < 10 → d ∷ [] ≡ decimal n
 unfolding decimal
 decimal-one n d e h = rw e (sym (digits-one n n h))
 
@@ -84,16 +84,16 @@ decimal-more (suc m) d e h =
     rw e (sym (digits-more m (suc m) h ∙ ap (λ x. x ++ (figure (suc m) ∷ [])) (digits-same m (suc m / 10) (suc m / 10) (omega arith) (omega arith))))
 
 -- a number by its last two, three digits
-decimal-two : (n d e : ℕ) → d ≡ figure (n / 10) → e ≡ figure n → 10 ≤ n → n < 100 → d ∷ e ∷ [] ≡ decimal n
+pub decimal-two : (n d e : ℕ) → d ≡ figure (n / 10) → e ≡ figure n → 10 ≤ n → n < 100 → d ∷ e ∷ [] ≡ decimal n
 decimal-two n d e ed ee low high =
     ap (λ (x : List ℕ). x ++ (e ∷ [])) (decimal-one (n / 10) d ed (omega arith)) ∙ decimal-more n e ee low
 
-decimal-three : (n d e f : ℕ) → d ≡ figure (n / 10 / 10) → e ≡ figure (n / 10) → f ≡ figure n → 100 ≤ n → n < 1000
+pub decimal-three : (n d e f : ℕ) → d ≡ figure (n / 10 / 10) → e ≡ figure (n / 10) → f ≡ figure n → 100 ≤ n → n < 1000
     → d ∷ e ∷ f ∷ [] ≡ decimal n
 decimal-three n d e f ed ee ef low high =
     ap (λ (x : List ℕ). x ++ (f ∷ [])) (decimal-two (n / 10) d e ed ee (omega arith) (omega arith)) ∙ decimal-more n f ef (omega arith)
 
-decimal-thousand : (n d e f : ℕ) → d ≡ figure (n / 10 / 10) → e ≡ figure (n / 10) → f ≡ figure n → 1000 ≤ n
+pub decimal-thousand : (n d e f : ℕ) → d ≡ figure (n / 10 / 10) → e ≡ figure (n / 10) → f ≡ figure n → 1000 ≤ n
     → decimal (n / 10 / 10 / 10) ++ (d ∷ e ∷ f ∷ []) ≡ decimal n
 decimal-thousand n d e f ed ee ef low =
     sym (append-assoc (decimal (n / 10 / 10 / 10)) (d ∷ []) (e ∷ f ∷ []))

@@ -4,8 +4,8 @@
 -- Assumes nothing.
 use mathlib.Core.Path.{_≡_}
 use mathlib.Core.List.{List, [], _∷_}
-use Prim.Native.Nat.{ℕ, _+_, _%_, _^_}
-use lib.ListN.{set}
+use Prim.Native.Nat.{ℕ, _+_, _%_, _^_, _≤_}
+use lib.ListN.{length, set}
 
 -- the place behind a text that starts at a place
 unfoldable pub behind : ℕ → List ℕ → ℕ
@@ -21,3 +21,9 @@ stored l at (b ∷ bs) = stored (set l at b) ((at + 1) % 2 ^ 64) bs
 pub record Puts (before : List ℕ) (at : ℕ) (text after : List ℕ) (next : ℕ) : Type 0 where
   pub next-is : next ≡ behind at text
   pub after-is : after ≡ stored before at text
+
+-- a text of at most k bytes is put into a buffer that has room for it
+pub record Sets (before : List ℕ) (at k : ℕ) (text after : List ℕ) (next : ℕ) : Type 0 where
+  pub puts : Puts before at text after next
+  pub reached : next ≤ at + k
+  pub size : length after ≡ length before

@@ -1,9 +1,12 @@
 // Bytes and decimals.
 ghost use mathlib.Core.List.{[], _∷_};
-ghost use Prim.Native.Nat.{_+_, _%_, _<_};
+ghost use Prim.Native.Nat.{_+_, _/_, _%_, _≤_, _<_};
 ghost use mathlib.Core.Path.{_≡_};
+ghost use lib.ListN.{length};
 ghost use Rattle.model.specs.Dimacs.{figure as figureOf, decimal};
-ghost use Rattle.clauses_bytes.specs.Putting.{Puts};
+ghost use Rattle.clauses_bytes.specs.Putting.{Puts, Sets};
+
+// ---- bytes
 
 // Puts one byte.
 pub fn put(out: &mut [u8], at: usize, b: u8) -> usize
@@ -40,6 +43,40 @@ pub fn put_three(out: &mut [u8], at: usize, a: u8, b: u8, c: u8) -> usize
     put(out, last, c)
 }
 
+// ---- bytes for which there is room
+
+// Sets one byte.
+pub fn set_one(out: &mut [u8], at: usize, a: u8) -> usize
+    requires { ⌜ at + 1 ≤ length (now out) ⌝ }
+    ensures { λ r. ⌜ Sets (now (out .entry)) at 1 (a ∷ []) (now (out .exit)) r ⌝ }
+{
+    out[at] = a;
+    at + 1
+}
+
+// Sets two bytes.
+pub fn set_two(out: &mut [u8], at: usize, a: u8, b: u8) -> usize
+    requires { ⌜ at + 2 ≤ length (now out) ⌝ }
+    ensures { λ r. ⌜ Sets (now (out .entry)) at 2 (a ∷ b ∷ []) (now (out .exit)) r ⌝ }
+{
+    out[at] = a;
+    out[at + 1] = b;
+    at + 2
+}
+
+// Sets three bytes.
+pub fn set_three(out: &mut [u8], at: usize, a: u8, b: u8, c: u8) -> usize
+    requires { ⌜ at + 3 ≤ length (now out) ⌝ }
+    ensures { λ r. ⌜ Sets (now (out .entry)) at 3 (a ∷ b ∷ c ∷ []) (now (out .exit)) r ⌝ }
+{
+    out[at] = a;
+    out[at + 1] = b;
+    out[at + 2] = c;
+    at + 3
+}
+
+// ---- decimals
+
 // Puts a number below 1,000 in decimal.
 fn put_low(out: &mut [u8], at: usize, n: usize) -> usize
     requires { ⌜ n < 1000 ⌝ }
@@ -54,13 +91,94 @@ fn put_low(out: &mut [u8], at: usize, n: usize) -> usize
     put_three(out, at, figure(n / 10 / 10), figure(n / 10), figure(n))
 }
 
-// Puts a number in decimal, three digits at a time.
-pub fn put_decimal(out: &mut [u8], at: usize, n: usize) -> usize
+// Puts a number in decimal, three digits at a time, byte by byte.
+pub fn put_long(out: &mut [u8], at: usize, n: usize) -> usize
     ensures { λ r. ⌜ Puts (now (out .entry)) at (decimal n) (now (out .exit)) r ⌝ }
 {
     if n < 1000 {
         return put_low(out, at, n);
     }
-    let next = put_decimal(out, at, n / 10 / 10 / 10);
+    let next = put_long(out, at, n / 10 / 10 / 10);
     put_three(out, next, figure(n / 10 / 10), figure(n / 10), figure(n))
+}
+
+// Sets the last three digits of a number.
+fn set_last(out: &mut [u8], at: usize, n: usize) -> usize
+    requires { ⌜ at + 3 ≤ length (now out) ⌝ }
+    ensures { λ r. ⌜ Sets (now (out .entry)) at 3 (figureOf (n / 10 / 10) ∷ figureOf (n / 10) ∷ figureOf n ∷ []) (now (out .exit)) r ⌝ }
+{
+    let low = n % 1000;
+    let rest = low % 100;
+    set_three(out, at, figure(low / 100), figure(rest / 10), figure(rest))
+}
+
+// Sets a number below 1,000 in decimal.
+fn set_low(out: &mut [u8], at: usize, n: usize) -> usize
+    requires { ⌜ (n < 1000) × (at + 3 ≤ length (now out)) ⌝ }
+    ensures { λ r. ⌜ Sets (now (out .entry)) at 3 (decimal n) (now (out .exit)) r ⌝ }
+{
+    if n < 10 {
+        return set_one(out, at, figure(n));
+    }
+    if n < 100 {
+        return set_two(out, at, figure(n / 10), figure(n));
+    }
+    set_last(out, at, n)
+}
+
+// Sets a number in decimal where there is room for six digits; a longer one is put byte by byte.
+pub fn set_decimal(out: &mut [u8], at: usize, n: usize) -> usize
+    requires { ⌜ at + 6 ≤ length (now out) ⌝ }
+    ensures { λ r. ⌜ Puts (now (out .entry)) at (decimal n) (now (out .exit)) r ⌝ }
+{
+    if n < 1000 {
+        return set_low(out, at, n);
+    }
+    if n < 1000000 {
+        let next = set_low(out, at, n / 10 / 10 / 10);
+        return set_last(out, next, n);
+    }
+    put_long(out, at, n)
+}
+
+// How many digits a number below 1,000 has.
+fn low_width(n: usize) -> usize
+    requires { ⌜ n < 1000 ⌝ }
+    ensures { λ r. ⌜ (r ≡ length (decimal n)) × (r ≤ 3) ⌝ }
+{
+    if n < 10 {
+        return 1;
+    }
+    if n < 100 {
+        return 2;
+    }
+    3
+}
+
+// How many digits a number below 1,000,000 has.
+pub fn width(n: usize) -> usize
+    requires { ⌜ n < 1000000 ⌝ }
+    ensures { λ r. ⌜ (r ≡ length (decimal n)) × (r ≤ 6) ⌝ }
+{
+    if n < 1000 {
+        return low_width(n);
+    }
+    3 + low_width(n / 10 / 10 / 10)
+}
+
+// Puts a number in decimal: inside the buffer by one test of the room, behind its end by its width alone.
+pub fn put_decimal(out: &mut [u8], at: usize, n: usize) -> usize
+    ensures { λ r. ⌜ Puts (now (out .entry)) at (decimal n) (now (out .exit)) r ⌝ }
+{
+    if at < 9223372036854775808 {
+        if at + 6 <= out.len() {
+            return set_decimal(out, at, n);
+        }
+        if out.len() <= at {
+            if n < 1000000 {
+                return at + width(n);
+            }
+        }
+    }
+    put_long(out, at, n)
 }

@@ -3,14 +3,39 @@
 use mathlib.Core.Path.{_≡_, refl, sym, ap, _∙_}
 use mathlib.Core.Bool.{Bool, true, false, not}
 use mathlib.Core.List.{List, [], _∷_, _++_, append-assoc, append-nil}
-use Prim.Native.Nat.{ℕ, suc, _+_, _≤_}
+use Prim.Native.Nat.{ℕ, suc, _+_, _^_, _≤_, _<_}
 use native.Mathlib.Numerals.{add-one}
 use native.Mathlib.Omega.{arith}
-use Rattle.model.specs.Clauses.{Literal, Clause, Weighted, listTo, when}
+use lib.ListN.{length}
+use Rattle.model.specs.Clauses.{Literal, holds, fails, Clause, Weighted, listTo, when}
 use Rattle.model.specs.Dimacs.{decimal, literalText, literalsText, clauseText, clausesText, weighing}
 use Rattle.clauses_bytes.specs.Putting.{Puts}
 use Rattle.clauses_lines.specs.Lines.{lineOf, linesOf}
 use Rattle.clauses_bytes.proofs.WritingLaws.{put-nothing, puts-as, put2, put3, put4, put5}
+use Rattle.clauses_bytes.proofs.RoomLaws.{put-far}
+
+-- ---- a literal: its blank and its sign, then its variable
+
+pub holds-put : {l m a : List ℕ} {at n r : ℕ} (x : ℕ) → Puts m n (decimal x) a r → Puts l at (32 ∷ []) m n → Puts l at (literalText (holds x)) a r
+unfolding literalText
+holds-put x q p = put2 q p refl
+
+pub fails-put : {l m a : List ℕ} {at n r : ℕ} (x : ℕ) → Puts m n (decimal x) a r → Puts l at (32 ∷ 45 ∷ []) m n → Puts l at (literalText (fails x)) a r
+unfolding literalText
+fails-put x q p = put2 q p refl
+
+-- behind the end of a buffer, by the variable's width
+module _ (l : List ℕ) (at : ℕ) (g : length l ≤ at) (h : at < 2 ^ 63) where
+  pub holds-far : (x w : ℕ) → w ≡ length (decimal x) → w ≤ 6 → Puts l at (literalText (holds x)) l (at + 1 + w)
+  unfolding literalText
+  holds-far x w e f = put-far l at (32 ∷ decimal x) (at + 1 + w) g (omega arith) (omega arith)
+
+  pub fails-far : (x w : ℕ) → w ≡ length (decimal x) → w ≤ 6 → Puts l at (literalText (fails x)) l (at + 2 + w)
+  unfolding literalText
+  fails-far x w e f = put-far l at (32 ∷ 45 ∷ decimal x) (at + 2 + w) g (omega arith) (omega arith)
+
+  pub end-far : Puts l at (32 ∷ 48 ∷ 10 ∷ []) l (at + 3)
+  end-far = put-far l at (32 ∷ 48 ∷ 10 ∷ []) (at + 3) g (omega arith) refl
 
 -- ---- the literals of a line, put one behind the other between its weight and its end, the last one first
 

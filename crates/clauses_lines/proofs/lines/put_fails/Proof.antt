@@ -1,17 +1,22 @@
--- `clauses_lines::lines::put_fails` meets its contract.
+-- `clauses_lines::lines::put_fails` meets its contract: set, or counted, or put byte by byte.
 -- Assumes nothing.
 use borrow.Author.Needs.{needs}
-use mathlib.Core.Path.{refl}
-use Rattle.model.specs.Dimacs.{literalText}
-use Rattle.clauses_bytes.proofs.WritingLaws.{put2}
+use Rattle.clauses_lines.proofs.LineLaws.{fails-put, fails-far}
 use Rattle.clauses_lines.proofs.lines.put_fails.Statement.{statement}
 use Rattle.clauses_lines.proofs.lines.put_fails.Tie as tie
 
 returns : tie.Need-returns
-unfolding literalText
-returns c =
-    let p = c .before .before in
-    put2 (p .put-decimal .ensures) (p .before .before .before .before .put-two .ensures) refl
+returns c = search (needs, fails-put)
+
+returns-2 : tie.Need-returns-2
+returns-2 c = search (needs, fails-far)
+
+returns-3 : tie.Need-returns-3
+returns-3 c = search (needs, fails-put)
 
 pub put-fails-spec : {M : Type 1} → statement M
-put-fails-spec = tie.close (tie.spec (λ c κs. search needs) (λ c κs. search needs) (λ c. search needs) returns)
+put-fails-spec =
+    tie.close
+    (tie.spec (λ c. search needs) (λ c κs. search needs) (λ c κs. search needs) (λ c. search needs) returns
+    (λ c. search needs) (λ c κs. search needs) (λ c. search needs) returns-2
+    (λ c κs. search needs) (λ c κs. search needs) (λ c. search needs) returns-3)
