@@ -14,7 +14,7 @@ use lib.ListN.{getD}
 use mir.Syntax.{w64}
 use mir.Val.{Fits}
 use borrow.Table.Steps.{cases}
-use borrow.Author.Tests.{ltb-true, leb-true, not-true, eq-eqb, ne-eqb}
+use borrow.Author.Tests.{ltb-true, leb-true, not-true}
 use Rattle.model.specs.Tests.{pick}
 use Rattle.model.specs.Sets.{has, union, inter, one}
 use Rattle.model_laws.proofs.Bools.{and-l, and-r, not-both, pick-case}
@@ -182,25 +182,3 @@ module _ (j m : ℕ) (right : marks j m ≡ true) where
   bit-source a b e q h i =
       ap (λ (x : ℕ). has x (q .bit)) (e (q .row) h)
       ∙ unfold exchanged in (setOf-bit (λ c. bitAt a (source j m (record { row = q .row; bit = c }))) 64 (q .bit) i)
-
--- ---- by the machine's test of a mark
-module _ (j m k : ℕ) (right : marks j m ≡ true) (h : k < 64) where
-  taken : m / 2 ^ k % 2 ≡ 1 → has m k ≡ true
-  unfolding has
-  taken e = eq-eqb (m / 2 ^ k % 2) 1 e
-
-  left : (m / 2 ^ k % 2 ≡ 1 → ⊥) → has m k ≡ false
-  unfolding has
-  left e = ne-eqb (m / 2 ^ k % 2) 1 e
-
-  pub above-at : m / 2 ^ k % 2 ≡ 1 → k + j < 64
-  above-at e = above j m right k h (taken e)
-
-  pub below-at : (m / 2 ^ k % 2 ≡ 1 → ⊥) → j ≤ k
-  below-at e = below j m right k h (left e)
-
-  pub low-at : (a : List ℕ) (r : ℕ) → m / 2 ^ k % 2 ≡ 1 → r ≡ lowRow j m (getD a k 0) (getD a (k + j) 0) → r ≡ exchanged j m a k
-  low-at a r e q = q ∙ row-low j m right a k (taken e)
-
-  pub high-at : (a : List ℕ) (r : ℕ) → (m / 2 ^ k % 2 ≡ 1 → ⊥) → r ≡ highRow j m (getD a k 0) (getD a (k - j) 0) → r ≡ exchanged j m a k
-  high-at a r e q = q ∙ row-high j m right a k (left e)

@@ -2,4 +2,5 @@
 pub mod SetTests
 pub mod Shifts
 pub mod Exchanges
+pub mod Blocks
 pub mod Transposes

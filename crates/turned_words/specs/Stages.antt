@@ -4,9 +4,9 @@
 use mathlib.Core.Path.{_≡_}
 use mathlib.Core.Bool.{Bool, true, _&&_, not}
 use mathlib.Core.List.{List}
-use Prim.Native.Nat.{ℕ, zero, suc, _+_, _-_, _<_}
+use Prim.Native.Nat.{ℕ, zero, suc, _+_, _-_, _≤_, _<_}
 use lib.Dec.{eqb, ltb, leb}
-use lib.ListN.{getD}
+use lib.ListN.{getD, set, length}
 use Rattle.model.specs.Tests.{pick}
 use Rattle.model.specs.Sets.{has, one, setOf}
 
@@ -50,6 +50,21 @@ lowRow j m own other = setOf (λ c. pick (has m c) (has own c) (has other (c - j
 
 unfoldable pub highRow : ℕ → ℕ → ℕ → ℕ → ℕ
 highRow j m own other = setOf (λ c. pick (has m c) (has other (c + j)) (has own c)) 64
+
+-- b with row k and the one j further as they are after the exchange
+abbrev pub paired : ℕ → ℕ → List ℕ → ℕ → List ℕ → List ℕ
+paired j m a k b = set (set b k (exchanged j m a k)) (k + j) (exchanged j m a (k + j))
+
+-- the j places from one on are marked
+abbrev pub MarkedFrom : ℕ → ℕ → ℕ → Type 0
+MarkedFrom j m from = (k : ℕ) → from ≤ k → k < from + j → k < 64 → has m k ≡ true
+
+-- of 64 rows those from one up to another, and those j further, are exchanged; the ones before are kept
+pub record Blocked (j m from to : ℕ) (a before after : List ℕ) : Type 0 where
+  pub size : length after ≡ 64
+  pub kept : (i : ℕ) → i < from → getD after i 0 ≡ getD before i 0
+  pub low : (i : ℕ) → from ≤ i → i < to → getD after i 0 ≡ exchanged j m a i
+  pub high : (i : ℕ) → from + j ≤ i → i < to + j → getD after i 0 ≡ exchanged j m a i
 
 -- all rows are exchanged
 abbrev pub Exchanged : ℕ → ℕ → List ℕ → List ℕ → Type 0

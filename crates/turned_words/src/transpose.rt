@@ -1,9 +1,10 @@
 // 64 words of 64 bits transposed, by exchanges of bits between rows that are 32, 16, 8, 4, 2 and 1 apart.
 ghost use mathlib.Core.Path.{_≡_};
 ghost use mathlib.Core.Bool.{true};
-ghost use Prim.Native.Nat.{_<_};
+ghost use Prim.Native.Nat.{_+_, _≤_, _<_};
 ghost use lib.ListN.{length};
-ghost use Rattle.turned_words.specs.Stages.{marks, exchanged, lowRow, highRow, Exchanged, Transposed};
+ghost use Rattle.model.specs.Sets.{has};
+ghost use Rattle.turned_words.specs.Stages.{marks, lowRow, highRow, paired, MarkedFrom, Blocked, Exchanged, Transposed};
 
 // A marked row after an exchange with the one j further.
 fn low_row(own: u64, other: u64, j: usize, m: u64) -> u64
@@ -21,25 +22,36 @@ fn high_row(own: u64, other: u64, j: usize, m: u64) -> u64
     ((other >> j) & m) | (own & (m << j))
 }
 
-// Row k after an exchange.
-fn row(a: &[u64; 64], k: usize, j: usize, m: u64) -> u64
-    requires { ⌜ (k < 64) × (j < 64) × (marks j m ≡ true) ⌝ }
-    ensures { λ r. ⌜ r ≡ exchanged j m (now (a .entry)) k ⌝ }
+// The marked row k and the one j further, after an exchange.
+fn pair(a: &[u64; 64], k: usize, j: usize, m: u64, out: &mut [u64; 64])
+    requires { ⌜ (k + j < 64) × (marks j m ≡ true) × (has m k ≡ true) × (length (now out) ≡ 64) ⌝ }
+    ensures { λ _. ⌜ now (out .exit) ≡ paired j m (now (a .entry)) k (now (out .entry)) ⌝ }
 {
-    if (m >> k) % 2 == 1 {
-        return low_row(a[k], a[k + j], j, m);
-    }
-    high_row(a[k], a[k - j], j, m)
+    let low = a[k];
+    let high = a[k + j];
+    out[k] = low_row(low, high, j, m);
+    out[k + j] = high_row(high, low, j, m);
 }
 
-// All rows after an exchange.
+// The j marked rows from a place on and the j behind them, after an exchange.
+fn block(a: &[u64; 64], from: usize, j: usize, m: u64, out: &mut [u64; 64])
+    requires { ⌜ (0 < j) × (from + j + j ≤ 64) × (marks j m ≡ true) × (MarkedFrom j m from) × (length (now out) ≡ 64) ⌝ }
+    ensures { λ _. ⌜ Blocked j m from (from + j) (now (a .entry)) (now (out .entry)) (now (out .exit)) ⌝ }
+{
+    for k in from..from + j {
+        pair(a, k, j, m, out);
+    }
+}
+
+// All rows after an exchange, block by block: rows that stand together are exchanged together.
 fn exchange(a: &[u64; 64], j: usize, m: u64, out: &mut [u64; 64])
-    requires { ⌜ (j < 64) × (marks j m ≡ true) × (length (now out) ≡ 64) ⌝ }
+    requires { ⌜ (0 < j) × (j < 64) × (marks j m ≡ true) × (length (now out) ≡ 64) ⌝ }
     ensures { λ _. ⌜ (Exchanged j m (now (a .entry)) (now (out .exit))) × (length (now (out .exit)) ≡ 64) ⌝ }
 {
-    for k in 0..64usize {
-        let next = row(a, k, j, m);
-        out[k] = next;
+    let mut from: usize = 0;
+    while from < 64 {
+        block(a, from, j, m, out);
+        from = from + j + j;
     }
 }
 
