@@ -1,26 +1,28 @@
 -- Laws of a line's soundness: the roles active in any session and the soundness of every session, one session a turn; the exclusions one
 -- by one.
 -- Assumes nothing.
-use mathlib.Core.Path.{_≡_, sym, ap, _∙_}
-use mathlib.Core.Bool.{Bool, true, false, _&&_, not}
+use mathlib.Core.Path.{_≡_, refl, sym, ap, _∙_}
+use mathlib.Core.Bool.{Bool, true, false, _&&_, _||_, not}
 use mathlib.Core.List.{List}
 use Prim.Native.Nat.{ℕ, suc, _+_, _-_, _≤_, _<_}
 use native.Mathlib.Omega.{arith}
 use native.Mathlib.Numerals.{add-one}
 use lib.Bits.{bitOr, bitAnd, and-zero-r}
-use lib.Dec.{ltb}
+use lib.Dec.{eqb, ltb}
 use lib.ListN.{length, getD, take, drop, drop-of-length-le}
 use lib.Seq.{drop-cons}
-use borrow.Author.Tests.{not-true, not-false}
+use borrow.Author.Tests.{eqb-true, not-true, not-false}
 use Rattle.model.specs.declared.Kind.{Kind}
 use Rattle.model.specs.declared.Exclusion.{Exclusion}
 use Rattle.model.specs.declared.Exclusions.{Exclusions}
 use Rattle.model.specs.declared.Session.{Session}
 use Rattle.model.specs.declared.Line.{Line}
 use Rattle.model.specs.Tests.{all}
-use Rattle.model.specs.Sets.{count}
+use Rattle.model.specs.Sets.{count, within}
 use Rattle.model.specs.Policy.{Meaning, met}
-use Rattle.model.specs.Line.{activeIn, counted, exclusionsMet, sessionSound, sessionsSound}
+use Rattle.model.specs.Line.{isOpen, activeIn, counted, exclusionsMet, sessionSound, sessionsSound}
+use Rattle.model_laws.proofs.Bools.{and-l, and-r, or-r, all-four}
+use Rattle.model_laws.proofs.Inclusion.{none-within}
 use Rattle.model_laws.proofs.TableLaws.{count-empty}
 use Rattle.ledger.specs.Held.{metAt, Listed}
 use Rattle.ledger.proofs.All.{all-cong, all-same, all-swap}
@@ -37,6 +39,26 @@ active-next ss d k h i =
 pub active-none : (ss : List Session) (k : ℕ) → length ss ≤ k → 0 ≡ activeIn (drop k ss)
 unfolding activeIn
 active-none ss k h = rw (drop-of-length-le ss h)
+
+-- ---- a session that is empty, and one that is not
+module _ (m : Meaning) (l : Line) (k : ℕ) (s : Session) where
+  pub empty-sound : (eqb (s .active) 0 && eqb (s .history) 0) ≡ true → true ≡ sessionSound m l k s
+  unfolding sessionSound
+  empty-sound z =
+      let a : s .active ≡ 0 = eqb-true _ _ (and-l (eqb (s .active) 0) _ z) in
+      let h : s .history ≡ 0 = eqb-true _ _ (and-r (eqb (s .active) 0) _ z) in
+      let inside : (x t : ℕ) → x ≡ 0 → within x t ≡ true = λ x t e. rw e (none-within t) in
+      sym (all-four (isOpen l k || (eqb (s .active) 0 && eqb (s .history) 0)) (within (s .active) (s .history)) (within (s .history) (l .history)) _
+      (or-r (isOpen l k) _ z) (inside _ _ a) (inside _ _ h) (inside _ _ a))
+
+  pub filled-sound : (eqb (s .active) 0 && eqb (s .history) 0) ≡ false
+      → (isOpen l k && within (s .active) (s .history) && within (s .history) (l .history) && within (s .active) (m .authorized)) ≡ sessionSound m l k s
+  unfolding sessionSound
+  filled-sound z = rw (z, unless (isOpen l k)) refl
+    where
+      unless : (o : Bool) → (o || false) ≡ o
+      unless true = refl
+      unless false = refl
 
 -- ---- the sessions from k on are sound, by a test b of session k
 module _ (m : Meaning) (l : Line) (d : Session) (ss : List Session) (k : ℕ) where

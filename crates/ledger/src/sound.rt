@@ -99,13 +99,16 @@ pub fn exclusions_met(l: Line, xs: &[[u64; 2]; 32], count: usize) -> bool
 // ---- sessions
 
 // Session k is zero where it is closed, its active roles are in its history, that in the user's, and it has no role active that the user
-// may not activate.
+// may not activate. An empty session is, open or closed.
 fn session_sound(l: Line, k: usize, s: Session, authorized: u64) -> bool
     requires { ⌜ k < 64 ⌝ }
     ensures { λ r. ⌜ ((m : Meaning) → m .authorized ≡ authorized → r ≡ sessionSound m l k s) ⌝ }
 {
     let zero = (s.active == 0) & (s.history == 0);
-    let formed = ledger_change::is_open(l, k) | zero;
+    if zero {
+        return true;
+    }
+    let formed = ledger_change::is_open(l, k);
     let inner = sets::within(s.active, s.history);
     let outer = sets::within(s.history, l.history);
     formed & inner & outer & sets::within(s.active, authorized)

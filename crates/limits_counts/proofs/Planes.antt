@@ -82,6 +82,10 @@ added c w r h =
       h,
     )
 
+-- the empty word adds nothing
+pub unchanged : (c : Counts) (w r : ℕ) → w ≡ 0 → countAt c r ≡ countAt c r + one (has w r)
+unchanged c w r e = let z : one (has w r) ≡ 0 = rw (e, has-none r) in omega arith
+
 -- a bit is the one of its test
 pub bit-one : (x : ℕ) → x < 2 → x ≡ one (eqb x 1)
 bit-one zero h = refl

@@ -37,10 +37,13 @@ pub fn none() -> Counts
     }
 }
 
-// Each role of the word counts one more.
+// Each role of the word counts one more. Most sessions have no role active.
 pub fn add(c: Counts, w: u64) -> Counts
     ensures { λ d. ⌜ ((r : ℕ) → countAt c r < 1023 → countAt d r ≡ countAt c r + one (has w r)) ⌝ }
 {
+    if w == 0 {
+        return c;
+    }
     let k1 = c.p0 & w;
     let k2 = c.p1 & k1;
     let k3 = c.p2 & k2;

@@ -8,20 +8,22 @@ use native.Mathlib.Numerals.{add-one}
 use native.Mathlib.Nat.{mod-lt}
 use native.Mathlib.Decide.{decLt}
 use native.Mathlib.Omega.{arith}
+use lib.Bits.{bitAnd, bitOr, and-zero-r, or-zero-r}
 use lib.Dec.{eqb, ltb, leb}
 use lib.Pow.{pow-pos}
 use lib.ListN.{length, getD, drop, drop-of-length-le}
 use lib.Seq.{drop-cons}
-use borrow.Author.Tests.{eq-eqb, ne-eqb, lt-ltb, le-ltb, lt-leb, le-leb}
+use borrow.Author.Tests.{eqb-true, eqb-false, eq-eqb, ne-eqb, lt-ltb, le-ltb, lt-leb, le-leb}
 use borrow.Table.Steps.{cases}
 use Rattle.model.specs.Tests.{pick, any}
-use Rattle.model.specs.Sets.{has, setOf, sumTo}
+use Rattle.model.specs.Sets.{has, within, setOf, sumTo}
 use Rattle.model.specs.Policy.{Policy, Meaning, limited, hasLimits, authorized, meaning}
 use Rattle.model.specs.Line.{SESSIONS, holding, others}
 use Rattle.model.specs.Limits.{elsewhere, barred, unbarred}
 use Rattle.model.specs.Session.{isAsk}
 use Rattle.model.specs.Run.{Call, lineOf, holdingOf, heldByOthers, othersOf, told}
-use Rattle.model_laws.proofs.Bools.{or-l}
+use Rattle.model_laws.proofs.Bools.{or-r}
+use Rattle.model_laws.proofs.Inclusion.{within-union-r}
 use Rattle.model_laws.proofs.Barred.{unlimited-choice, none-limited}
 use Rattle.limits.proofs.CardProof.{sum-same, sum-split}
 use Rattle.limits_held.specs.Held.{heldBut, heldByAll}
@@ -31,19 +33,36 @@ use Rattle.limits_left.specs.Left.{stays, Left}
 abbrev pub given : ℕ → Bool
 given t = not (eqb t 0)
 
-pub any-here : (ls : List ℕ) (i : ℕ) → i < length ls → (getD ls i 0 ≡ 0 → ⊥) → any given (drop i ls) ≡ true
-unfolding any
-any-here ls i h z = ap (any given) (drop-cons ls i 0 h) ∙ or-l (given (getD ls i 0)) _ (ap not (ne-eqb (getD ls i 0) 0 z))
+-- a union is empty where both sets are
+second-none : (a b : ℕ) → bitOr a b ≡ 0 → b ≡ 0
+unfolding within
+second-none a b o = sym (eqb-true (bitAnd b (bitOr a b)) b (within-union-r a b)) ∙ ap (bitAnd b) o ∙ and-zero-r b
 
-pub any-next : (ls : List ℕ) (i : ℕ) → i < length ls → getD ls i 0 ≡ 0 → any given (drop i ls) ≡ any given (drop (i + 1) ls)
-unfolding any
-any-next ls i h z =
-    ap (any given) (drop-cons ls i 0 h) ∙ ap (λ (b : Bool). not b || any given (drop (suc i) ls)) (eq-eqb (getD ls i 0) 0 z)
-    ∙ ap (λ (j : ℕ). any given (drop j ls)) (sym (add-one i))
+or-none : (x : Bool) → x ≡ (x || false)
+or-none true = refl
+or-none false = refl
 
-pub any-end : (ls : List ℕ) (i : ℕ) → length ls ≤ i → any given (drop i ls) ≡ false
+given-or : (a b : ℕ) → given (bitOr a b) ≡ (given a || given b)
+given-or a b = go (eqb b 0) refl
+  where
+    go : (x : Bool) → eqb b 0 ≡ x → given (bitOr a b) ≡ (given a || given b)
+    go true e = rw (eqb-true b 0 e, or-zero-r a) (or-none (given a))
+    go false e = ap not (ne-eqb (bitOr a b) 0 (λ o. eqb-false b 0 e (second-none a b o))) ∙ sym (or-r (given a) (given b) (ap not e))
+
+-- what is found before role i and what comes from it on, with one role more
+pub any-next : (ls : List ℕ) (found i : ℕ) → i < length ls
+    → (given (bitOr found (getD ls i 0)) || any given (drop (i + 1) ls)) ≡ (given found || any given (drop i ls))
 unfolding any
-any-end ls i h = rw (drop-of-length-le ls h)
+any-next ls found i h =
+    rw (add-one i, drop-cons ls i 0 h, given-or found (getD ls i 0)) (again (given found) (given (getD ls i 0)) _)
+  where
+    again : (x y z : Bool) → ((x || y) || z) ≡ (x || (y || z))
+    again true y z = refl
+    again false y z = refl
+
+pub any-end : (ls : List ℕ) (found i : ℕ) → length ls ≤ i → given found ≡ (given found || any given (drop i ls))
+unfolding any
+any-end ls found i h = rw (drop-of-length-le ls h) (or-none (given found))
 
 -- ---- a role stays, or does not
 ltb-not : (a b : ℕ) → ltb a b ≡ not (leb b a)

@@ -20,17 +20,16 @@ use limits_counts::Counts;
 use limits_counts::count_at;
 use limits_held::held;
 
-// Some role has a limit.
+// Some role has a limit: all are joined, and none is tested by itself.
 pub fn has_limits(limits: &[u64; 64]) -> bool
     requires { ⌜ length (now limits) ≡ 64 ⌝ }
     ensures { λ b. ⌜ b ≡ any (λ t. not (eqb t 0)) (now (limits .entry)) ⌝ }
 {
+    let mut found: u64 = 0;
     for r in 0..64 {
-        if limits[r] != 0 {
-            return true;
-        }
+        found = found | limits[r];
     }
-    false
+    found != 0
 }
 
 // Role r is one of the user's own, and no limit t bars it.
