@@ -1,4 +1,5 @@
 -- The laws that the proofs of the functions cite.
 pub mod All
+pub mod Named
 pub mod Soundness
 pub mod Places

@@ -6,7 +6,7 @@ ghost use lib.ListN.{length};
 ghost use Rattle.model.specs.Policy.{Meaning, met};
 ghost use Rattle.model.specs.Line.{SESSIONS, activeIn, counted as countedBy, exclusionsMet, sessionSound, sessionsSound, sound as soundBy};
 ghost use Rattle.rows.specs.Rows.{exclusionsIn};
-ghost use Rattle.ledger.specs.Held.{metAt, Listed, Held};
+ghost use Rattle.ledger.specs.Held.{metAt, namedIn, namedBy, Listed, Held};
 use model::Exclusion;
 use model::Kind;
 use model::Line;
@@ -82,14 +82,41 @@ fn exclusion_met(l: Line, x: Exclusion) -> bool
     }
 }
 
+// The roles that the sessions name: active or in their history.
+fn named_in(sessions: [Session; SESSIONS]) -> u64
+    ensures { λ r. ⌜ r ≡ namedIn sessions ⌝ }
+{
+    let mut roles = 0u64;
+    let mut k = SESSIONS;
+    while 0 < k {
+        k -= 1;
+        let s = sessions[k];
+        roles = (s.active | s.history) | roles;
+    }
+    roles
+}
+
+// The exclusion is met at every session, by all roles that the line names: where fewer than n of those are members, no session has more.
+fn met_by_all(l: Line, all: u64, x: Exclusion) -> bool
+    requires { ⌜ all ≡ namedBy l ⌝ }
+    ensures { λ r. ⌜ r ≡ metAt l x ⌝ }
+{
+    if sets::fewer(x.members, all, x.limit as u32) {
+        return true;
+    }
+    exclusion_met(l, x)
+}
+
 // Every exclusion is met at every session.
 pub fn exclusions_met(l: Line, xs: &[[u64; 2]; 32], count: usize) -> bool
     requires { ⌜ (count ≤ 32) × (length (now xs) ≡ 32) ⌝ }
     ensures { λ r. ⌜ ((m : Meaning) → Listed (exclusionsIn (now (xs .entry)) count) m → r ≡ exclusionsMet m l) ⌝ }
 {
+    let sessions = l.sessions;
+    let all = l.history | named_in(sessions);
     for i in 0..count {
         let x = exclusion_of(xs[i]);
-        if !exclusion_met(l, x) {
+        if !met_by_all(l, all, x) {
             return false;
         }
     }
