@@ -17,6 +17,7 @@ use image_faults::fault::senior_fault;
 use image_faults::fault::spared;
 use image_faults::fault::wrong_kind;
 use image_usual::usual::Run;
+use image_usual::usual::members;
 use image_usual::usual::pass;
 use image_words::word::decode;
 use image_words::word::head_of;
@@ -158,12 +159,18 @@ fn check_words(
             return Checked::Refused(number, at.place as u16);
         }
         let e = word.entry;
-        t = next(t, e);
+        let after = next(t, e);
         let behind = Run {
             place: at.place + 1,
             sum: std::num::wrapping_add_u32(at.sum, w),
         };
-        at = pass(image, words, behind, h, t.due, assigned, juniors);
+        let joined = members(image, words, behind, h.roles, after);
+        t = joined.scan;
+        let from = Run {
+            place: joined.place,
+            sum: joined.sum,
+        };
+        at = pass(image, words, from, h, t.due, assigned, juniors);
     }
     if at.sum % 268435456 == 0 {
         Checked::Accepted(h)

@@ -140,12 +140,13 @@ unplaced (Limit r n) k p ps = absurd (omega arith)
 unplaced End k p ps = absurd (omega arith)
 unplaced Unknown k p ps = absurd (omega arith)
 
-places-on : (s : List ℕ) (n p w : ℕ) → p < n → w ≡ wordAt s p → Usual (decode w .entry)
+-- a word that opens no exclusion
+pub places-by : (s : List ℕ) (n p w : ℕ) → p < n → w ≡ wordAt s p → ((ps : List ℕ) → ps ≡ placed (decode w .entry) p ps)
     → placesFrom s (n - (p + 1)) (p + 1) ≡ placesFrom s (n - p) p
 unfolding placesFrom entryAt
-places-on s n p w l ew k =
+places-by s n p w l ew k =
     let one : n - p ≡ suc (n - (p + 1)) = omega arith in
-    unplaced (decode w .entry) k p (placesFrom s (n - (p + 1)) (p + 1))
+    k (placesFrom s (n - (p + 1)) (p + 1))
     ∙ ap (λ (x : ℕ). placed (decode x .entry) p (placesFrom s (n - (p + 1)) (p + 1))) ew
     ∙ ap (λ (x : ℕ). placesFrom s x p) (sym one)
 
@@ -162,7 +163,7 @@ module _ {s : List ℕ} {h : Head} {n p sum : ℕ} {a g j : List ℕ} where
         inside = omega arith;
         granted-is = fold-next granting s n p g w (decode w) g′ _ m ew refl eg refl;
         limits-is = λ x. fold-next limiting s n p x w (decode w) x _ m ew refl (unlimited (decode w .entry) (q .usual) x) refl;
-        places-are = places-on s n p w m ew (q .usual);
+        places-are = places-by s n p w m ew (unplaced (decode w .entry) (q .usual) p);
       }
 
   pub filled-then : {due from sum₀ : ℕ} {a₀ g₀ j₀ : List ℕ} {p′ sum′ : ℕ} {a′ g′ j′ : List ℕ} → Filled s h n due from sum₀ a₀ g₀ j₀ p sum a g j

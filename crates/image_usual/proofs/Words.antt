@@ -4,12 +4,15 @@ use mathlib.Core.Path.{_≡_, sym, ap, _∙_}
 use Prim.Native.Nat.{ℕ, _+_, _*_, _/_, _%_, _^_, _<_}
 use native.Mathlib.Nat.{div-div-eq-div-mul}
 use native.Mathlib.Omega.{arith}
-use Rattle.model.specs.declared.Entry.the-variants.{Assignment, Grant, Senior}
+use Rattle.model.specs.declared.Entry.the-variants.{Assignment, Grant, Senior, Member}
 use Rattle.model.specs.Tests.{pick}
 use Rattle.model.specs.Image.{decode, says, user, role, permission}
 
 third : (r : ℕ) → r < 64 → (r + 192) / 2 ^ 6 ≡ 3
 third r m = omega arith
+
+sixth : (r : ℕ) → r < 64 → (r + 384) / 2 ^ 6 ≡ 6
+sixth r m = omega arith
 
 itself : (k : ℕ) → k < 16 → k % 2 ^ 4 ≡ k
 itself k m = omega arith
@@ -79,3 +82,22 @@ pub senior-said : (w : ℕ) → w < 2 ^ 32 → (w / 2 ^ 16 + w % 2 ^ 16 * 2 ^ 16
     → decode w ≡ says (Senior (role ((w / 2 ^ 16 + w % 2 ^ 16 * 2 ^ 16) / 2 ^ 6 % 2 ^ 6)) (role ((w / 2 ^ 16 + w % 2 ^ 16 * 2 ^ 16) % 2 ^ 6))) 0
 unfolding decode pick
 senior-said w l e = let s : 4 < 16 = omega arith in rw (pair-kind w 4 l s e, pair-first w 4 l s e, pair-second w 4 l s e, pair-spare w 4 l s e)
+
+-- turned by 22 bits: a member
+module _ (w r : ℕ) (l : w < 2 ^ 32) (m : r < 64) (e : (r + 384) % 2 ^ 32 ≡ w / 2 ^ 22 + w % 2 ^ 22 * 2 ^ 10) where
+  member-spare : w % 2 ^ 22 ≡ 0
+  member-spare = omega arith
+
+  member-top : w / 2 ^ 22 ≡ r + 384
+  member-top = let z = member-spare in omega arith
+
+  member-kind : w / 2 ^ 28 % 2 ^ 4 ≡ 6
+  member-kind =
+      ap (λ (x : ℕ). x % 2 ^ 4) (sym (div-div-eq-div-mul w (2 ^ 22) (2 ^ 6)) ∙ ap (λ (x : ℕ). x / 2 ^ 6) member-top ∙ sixth r m)
+
+  pub member-role : r ≡ w / 2 ^ 22 % 2 ^ 6
+  member-role = let z = member-top in omega arith
+
+  pub member-said : decode w ≡ says (Member (role (w / 2 ^ 22 % 2 ^ 6))) 0
+  unfolding decode pick
+  member-said = rw (member-kind, member-spare)

@@ -3,15 +3,16 @@
 use mathlib.Core.Path.{_≡_}
 use mathlib.Core.Bool.{true, false}
 use mathlib.Core.List.{List, [], _∷_}
-use Prim.Native.Nat.{ℕ, zero, suc, _+_, _-_, _≤_, _<_}
+use Prim.Native.Nat.{ℕ, zero, suc, _+_, _-_, _/_, _%_, _^_, _≤_, _<_}
 use lib.ListN.{length, getD, set}
 use Rattle.model.specs.declared.Head.{Head}
+use Rattle.model.specs.declared.Role.{Role}
 use Rattle.model.specs.declared.Scan.{Scan}
 use Rattle.model.specs.declared.Entry.{Entry}
 use Rattle.model.specs.declared.Entry.the-variants.{Assignment, Grant, Senior, Exclude, Member, Limit, End, Unknown}
 use Rattle.image_usual.specs.declared.usual.Granting.{Granting}
 use Rattle.image_usual.specs.declared.usual.Granting.the-variants.{To, Nobody}
-use Rattle.model.specs.Image.{role, permission, says, inRange, decode, fault, assigning, scan}
+use Rattle.model.specs.Image.{role, permission, says, inRange, decode, fault, assigning, next, scan}
 use Rattle.model.specs.Sets.{count}
 use Rattle.model.specs.Policy.{entryAt, entriesFrom, fold, granting, ordering, limiting}
 
@@ -87,3 +88,22 @@ abbrev pub Gathers : List ℕ → ℕ → ℕ → ℕ → ℕ → ℕ → ℕ �
 Gathers s words from roles u sum₀ own place sum row =
     (h : Head) (assigned juniors : List ℕ) → h .roles ≡ roles → u < h .users → length assigned ≡ 64 → getD assigned u 0 ≡ own → count 64 row ≤ 16
     → Led s h words from sum₀ assigned juniors place sum (set assigned u row) juniors
+
+-- ---- members
+
+-- a member that is due, before the last word, without fault: what it leaves to judge the next word by
+pub record Joins (roles : ℕ) (t : Scan) (w : ℕ) (t′ : Scan) : Type 0 where
+  pub said : decode w ≡ says (Member (role (w / 2 ^ 22 % 2 ^ 6))) 0
+  pub faultless : (h : Head) (rows : List ℕ) → h .roles ≡ roles → 0 ≡ fault h rows t false (decode w)
+  pub scan-is : t′ ≡ next t (decode w .entry)
+
+-- from one place of an image to another, over members: the scan from there on is that from here on, and so is what every other table takes in
+pub record Joined (s : List ℕ) (roles words from sum₀ : ℕ) (t₀ : Scan) (place sum : ℕ) (t : Scan) : Type 0 where
+  pub onward : from ≤ place
+  pub inside : (n : ℕ) → words - 1 ≤ n → from ≤ n → place ≤ n
+  pub scanned : (h : Head) (rows : List ℕ) → h .roles ≡ roles
+      → scan s h (words - place) place rows t sum ≡ scan s h (words - from) from rows t₀ sum₀
+  pub folded : (step : List ℕ → Entry → List ℕ) → ((x : List ℕ) (r : Role) → step x (Member r) ≡ x) → (x : List ℕ)
+      → fold step x (entriesFrom s (words - place) place) ≡ fold step x (entriesFrom s (words - from) from)
+  pub places-are : placesFrom s (words - place) place ≡ placesFrom s (words - from) from
+  pub exclusions-same : t .exclusions ≡ t₀ .exclusions

@@ -6,10 +6,11 @@ ghost use Prim.Native.Nat.{ℕ, _+_, _-_, _*_, _≤_, _<_};
 ghost use lib.ListN.{length};
 ghost use Rattle.model.specs.Image.{wordAt, decode as decodeOf};
 ghost use Rattle.model.specs.Policy.{granting};
-ghost use Rattle.image_usual.specs.Usual.{Grants, Quick, Passed, Led, Gathers};
+ghost use Rattle.image_usual.specs.Usual.{Grants, Quick, Passed, Led, Gathers, Joins, Joined};
 use image_faults::fault::senior_fault;
 use model::Head;
 use model::Role;
+use model::Scan;
 use sets::WidePermission;
 use sets::WideRole;
 
@@ -238,4 +239,62 @@ pub fn pass(
         total = run.sum;
     }
     Run { place, sum: total }
+}
+
+// What a member that is due, in range, with no spare bit and not named before leaves to judge the next word by; any other word leaves as many
+// due. Turned by 22 bits, a word has its spare bits above its kind, so that one comparison says that it is a member, has no spare bit and
+// names a role in range.
+fn member(roles: u8, t: Scan, w: u32) -> Scan
+    requires { ⌜ roles ≤ 64 ⌝ }
+    ensures { λ r. ⌜ ((r .due ≡ t .due → ⊥) → Joins roles t w r) ⌝ }
+{
+    if t.due == 0 {
+        return t;
+    }
+    let x = w / 4194304 + w % 4194304 * 1024;
+    let r = std::num::wrapping_sub_u32(x, 384);
+    if roles as u32 <= r {
+        return t;
+    }
+    let who = Role(r as u8);
+    if sets::has(t.members, who) {
+        return t;
+    }
+    Scan {
+        exclusions: t.exclusions,
+        due: t.due - 1,
+        members: sets::with(t.members, who),
+    }
+}
+
+// Where the members of an exclusion end, the sum of the words up to there, and what the next word is judged by.
+pub struct Behind {
+    pub place: usize,
+    pub sum: u32,
+    pub scan: Scan,
+}
+
+// The members that are due from where `at` is. The last word of the image is not among them.
+pub fn members(image: &[u8], words: usize, at: Run, roles: u8, t: Scan) -> Behind
+    requires { ⌜ (4 * words ≤ length (now image)) × (1 ≤ words) × (words ≤ 4096) ⌝ }
+    ensures { λ r. ⌜ Joined (now (image .entry)) roles words (at .place) (at .sum) t (r .place) (r .sum) (r .scan) ⌝ }
+{
+    let mut scan = t;
+    let mut place = at.place;
+    let mut sum = at.sum;
+    if 64 < roles {
+        return Behind { place, sum, scan };
+    }
+    let end = words - 1;
+    while place < end {
+        let w = octets::word_at(image, place);
+        let next = member(roles, scan, w);
+        if next.due == scan.due {
+            return Behind { place, sum, scan };
+        }
+        scan = next;
+        sum = std::num::wrapping_add_u32(sum, w);
+        place += 1;
+    }
+    Behind { place, sum, scan }
 }

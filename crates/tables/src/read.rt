@@ -12,6 +12,7 @@ use hierarchy_judged::loops::judged;
 use image::check::fresh;
 use image::check::next;
 use image_usual::usual::Run;
+use image_usual::usual::members;
 use image_words::word::decode;
 use image_words::word::head_of;
 use image_words::word::head_right;
@@ -96,12 +97,18 @@ fn read_words(
             return refused(number, at.place as u16);
         }
         let e = word.entry;
-        t = next(t, e);
+        let after = next(t, e);
         let behind = Run {
             place: at.place + 1,
             sum: std::num::wrapping_add_u32(at.sum, w),
         };
-        at = pass(image, words, behind, h, t.due, assigned, granted, juniors);
+        let joined = members(image, words, behind, h.roles, after);
+        t = joined.scan;
+        let from = Run {
+            place: joined.place,
+            sum: joined.sum,
+        };
+        at = pass(image, words, from, h, t.due, assigned, granted, juniors);
     }
     let checked = closing(image, words, h, t.due, at.sum);
     let Checked::Accepted(_) = checked else {

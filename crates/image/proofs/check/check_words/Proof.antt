@@ -41,13 +41,26 @@ returns c =
 next-requires : tie.Need-next-requires Inv-loop μ-loop
 next-requires c κs = search (needs, due-of)
 
+pass-requires : tie.Need-pass-requires Inv-loop μ-loop
+pass-requires c κs =
+    let m = c .before .before .before in
+    let t = m .before .before .before .before .before in
+    let w = t .before .before .before .before .before in
+    let a = w .before .before .before .before .before .before in
+    (a .pre .0, a .pre .1, a .pre .2, m .members .ensures .inside _ (omega arith) (omega arith))
+
 loop-less : tie.Need-loop-less Inv-loop μ-loop
-loop-less c = omega (arith, c .pass .ensures .onward, c .pass .ensures .inside)
+loop-less c =
+    let j = c .before .before .before .before .members .ensures in
+    omega (arith, c .pass .ensures .onward, c .pass .ensures .inside, j .onward)
 
 loop-again : tie.Need-loop-again Inv-loop μ-loop
+unfolding assigning ordering
 loop-again c =
     let r = c .pass .ensures in
-    let s = c .before .before .before in
+    let m = c .before .before .before .before in
+    let j = m .members .ensures in
+    let s = m .before in
     let n = s .before .before in
     let t = n .before .before in
     let d = t .before .before .before .before in
@@ -56,13 +69,15 @@ loop-again c =
     let in-loop = w .before .if1 .taken in
     let e = t .taken .ensures in
     let z = n .before .if2 .left in (
-      omega (arith, r .onward),
+      omega (arith, r .onward, j .onward),
       r .inside,
-      r .scanned (n .next .result) refl
+      r .scanned (m .members .result .scan) refl ∙ j .scanned _ _ refl
           ∙ goes _ _ _ _ _ _ _ _ _ _ in-loop (w .word-at .ensures) (d .decode .ensures .0) (e .faulty) _ z _ _ _ (e .assigned-is z)
           (n .next .ensures) (s .wrapping-add-u32 .ensures) (l .loop .inv .2),
-      r .assigned-is ∙ fold-next _ _ _ _ _ _ _ _ _ in-loop (w .word-at .ensures) (d .decode .ensures .0) (e .assigned-is z) (l .loop .inv .3),
-      r .juniors-is ∙ fold-next _ _ _ _ _ _ _ _ _ in-loop (w .word-at .ensures) (d .decode .ensures .0) (e .juniors-is z) (l .loop .inv .4),
+      r .assigned-is ∙ j .folded assigning (λ x y. refl) _
+          ∙ fold-next _ _ _ _ _ _ _ _ _ in-loop (w .word-at .ensures) (d .decode .ensures .0) (e .assigned-is z) (l .loop .inv .3),
+      r .juniors-is ∙ j .folded ordering (λ x y. refl) _
+          ∙ fold-next _ _ _ _ _ _ _ _ _ in-loop (w .word-at .ensures) (d .decode .ensures .0) (e .juniors-is z) (l .loop .inv .4),
     )
 
 returns-2 : tie.Need-returns-2 Inv-loop μ-loop
@@ -75,5 +90,5 @@ pub check-words-spec : {M : Type 1} → statement M
 check-words-spec =
     tie.close
     (tie.spec Inv-loop μ-loop (λ c κs. search needs) loop-holds (λ c κs. search needs) (λ c κs. search needs) (λ c. search needs) (λ c κs. search needs)
-    (λ c. search needs) returns next-requires (λ c. search needs) (λ c κs. search needs) (λ c κs. search needs) loop-less loop-again
+    (λ c. search needs) returns next-requires (λ c. search needs) (λ c κs. search needs) (λ c κs. search needs) pass-requires loop-less loop-again
     (λ c. search needs) (λ c. search needs) returns-2 returns-3)

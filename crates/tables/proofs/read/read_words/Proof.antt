@@ -66,13 +66,26 @@ next-requires c κs =
     let d = f .before .before .before .before .before .before in
     (d .decode .ensures .1, due-of _ _ _ _ _ _ (f .step .ensures .faulty) (c .if2 .left))
 
+pass-requires : tie.Need-pass-requires Inv-loop μ-loop
+pass-requires c κs =
+    let m = c .before .before .before .before in
+    let f = m .before .before .before .before .before in
+    let w = f .before .before .before .before .before .before .before in
+    let a = w .before .before .before .before .before .before in
+    (a .pre .0, omega (arith, a .pre .1), a .pre .2, m .members .ensures .inside _ (omega arith) (omega (arith, w .before .if1 .taken)))
+
 loop-less : tie.Need-loop-less Inv-loop μ-loop
-loop-less c = omega (arith, c .pass .ensures .passed .onward, c .pass .ensures .inside)
+loop-less c =
+    let j = c .before .before .before .before .before .members .ensures in
+    omega (arith, c .pass .ensures .passed .onward, c .pass .ensures .inside, j .onward)
 
 loop-again : tie.Need-loop-again Inv-loop μ-loop
+unfolding assigning granting ordering limiting
 loop-again c =
     let r = c .pass .ensures in
-    let s = c .before .before .before .before in
+    let m = c .before .before .before .before .before in
+    let j = m .members .ensures in
+    let s = m .before in
     let n = s .before .before in
     let f = n .before .before in
     let d = f .before .before .before .before .before .before in
@@ -87,19 +100,20 @@ loop-again c =
     let e = f .step .ensures in
     let due = due-of _ _ _ _ _ _ (e .faulty) z in
     let noted = e .places-is z in (
-      omega (arith, r .passed .onward),
+      omega (arith, r .passed .onward, j .onward),
       r .inside,
-      r .passed .scanned (n .next .result) refl
+      r .passed .scanned (m .members .result .scan) refl ∙ j .scanned _ _ refl
           ∙ goes _ _ _ _ _ _ _ _ _ _ lt ew ed (before-last _ _ _ _ _ _ _ more (e .faulty)) _ z _ _ _ (e .assigned-is z) (n .next .ensures)
           (s .wrapping-add-u32 .ensures) (l .loop .inv .2),
-      subst (λ (x : Scan). x .exclusions ≤ 32) (sym (n .next .ensures)) (next-few (l .loop .t) _ due (l .loop .inv .3)),
+      rw (j .exclusions-same) (subst (λ (x : Scan). x .exclusions ≤ 32) (sym (n .next .ensures)) (next-few (l .loop .t) _ due (l .loop .inv .3))),
       ap length noted ∙ length-noted _ _ _ _ ∙ l .loop .inv .4,
       λ j. subst (λ (v : List ℕ). getD v j 0 < a .words) (sym noted) (noted-below _ _ _ _ _ lt (l .loop .inv .5) j),
-      r .passed .assigned-is ∙ fold-next _ _ _ _ _ _ _ _ _ lt ew ed (e .assigned-is z) (l .loop .inv .6),
-      r .granted-is ∙ fold-next _ _ _ _ _ _ _ _ _ lt ew ed (e .granted-is z) (l .loop .inv .7),
-      r .passed .juniors-is ∙ fold-next _ _ _ _ _ _ _ _ _ lt ew ed (e .juniors-is z) (l .loop .inv .8),
-      r .limits-is _ ∙ fold-next _ _ _ _ _ _ _ _ _ lt ew ed (e .limits-is z) (l .loop .inv .9),
-      rw (r .places-are) (places-next _ _ _ _ _ _ _ _ _ lt (l .loop .inv .4) ew ed due (n .next .ensures) noted ∙ l .loop .inv .10),
+      r .passed .assigned-is ∙ j .folded assigning (λ x y. refl) _ ∙ fold-next _ _ _ _ _ _ _ _ _ lt ew ed (e .assigned-is z) (l .loop .inv .6),
+      r .granted-is ∙ j .folded granting (λ x y. refl) _ ∙ fold-next _ _ _ _ _ _ _ _ _ lt ew ed (e .granted-is z) (l .loop .inv .7),
+      r .passed .juniors-is ∙ j .folded ordering (λ x y. refl) _ ∙ fold-next _ _ _ _ _ _ _ _ _ lt ew ed (e .juniors-is z) (l .loop .inv .8),
+      r .limits-is _ ∙ j .folded limiting (λ x y. refl) _ ∙ fold-next _ _ _ _ _ _ _ _ _ lt ew ed (e .limits-is z) (l .loop .inv .9),
+      rw (j .exclusions-same, r .places-are, j .places-are)
+          (places-next _ _ _ _ _ _ _ _ _ lt (l .loop .inv .4) ew ed due (n .next .ensures) noted ∙ l .loop .inv .10),
     )
 
 -- where the loop ends is the place of the last word
@@ -152,5 +166,6 @@ pub read-words-spec : {M : Type 1} → statement M
 read-words-spec =
     tie.close
     (tie.spec Inv-loop μ-loop (λ c κs. search needs) loop-holds (λ c. search needs) (λ c κs. search needs) (λ c κs. search needs) (λ c κs. search needs)
-    (λ c. search needs) (λ c κs. search needs) returns next-requires (λ c. search needs) (λ c κs. search needs) (λ c κs. search needs) loop-less loop-again
+    (λ c. search needs) (λ c κs. search needs) returns next-requires (λ c. search needs) (λ c κs. search needs) (λ c κs. search needs) pass-requires
+    loop-less loop-again
     (λ c κs. search needs) (λ c. search needs) (λ c. search needs) returns-2 (λ c. search needs) exclusions-at-requires returns-3)
