@@ -3,3 +3,4 @@ pub mod Closing
 pub mod Naming
 pub mod Joining
 pub mod Filling
+pub mod Lowest

@@ -5,6 +5,7 @@ ghost use Prim.Native.Nat.{_<_};
 ghost use Rattle.model.specs.Sets.{has, unionAt};
 ghost use Rattle.model.specs.Policy.{withSelves, granterBy};
 ghost use Rattle.hierarchy.specs.Names.{nameOf};
+use crate::member::rest;
 use model::Role;
 
 // The roles that role r reaches: itself and those of its row.
@@ -26,7 +27,7 @@ pub fn reached_by(below: &[u64; 64], set: u64) -> u64
         let r = sets::lowest(left);
         let next = sets::union(all, reach(below, r));
         all = next;
-        left = sets::without(left, r);
+        left = rest(left);
     }
     all
 }

@@ -19,14 +19,17 @@ loop-holds : tie.Need-loop-holds Inv-loop μ-loop
 loop-holds c = joins-start _ _ _ refl (c .fits .set .fits)
 
 loop-less : tie.Need-loop-less Inv-loop μ-loop
-loop-less c = search (needs, joins-less)
+loop-less c =
+    let w = c .before .before .before in
+    let less = c .rest .ensures _ (w .lowest .ensures) in
+    search (needs, joins-less)
 
 loop-again : tie.Need-loop-again Inv-loop μ-loop
 loop-again c =
     let u = c .before in
     let w = u .before .before in
     let l = w .before .before in
-    joins-next _ _ _ _ _ _ (l .loop .inv) (w .lowest .ensures) (c .without .ensures) _
+    joins-next _ _ _ _ _ _ (l .loop .inv) (w .lowest .ensures) (c .rest .ensures _ (w .lowest .ensures)) _
     (u .union .ensures ∙ ap (union (l .loop .all)) (u .before .reach .ensures))
 
 returns : tie.Need-returns Inv-loop μ-loop
