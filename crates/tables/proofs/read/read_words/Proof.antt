@@ -70,7 +70,8 @@ pass-requires : tie.Need-pass-requires Inv-loop μ-loop
 pass-requires c κs =
     let m = c .before .before .before .before in
     let f = m .before .before .before .before .before in
-    let w = f .before .before .before .before .before .before .before in
+    let d = f .before .before .before .before .before .before in
+    let w = d .before in
     let a = w .before .before .before .before .before .before in
     (a .pre .0, omega (arith, a .pre .1), a .pre .2, m .members .ensures .inside _ (omega arith) (omega (arith, w .before .if1 .taken)))
 
