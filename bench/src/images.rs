@@ -32,8 +32,8 @@ pub fn largest_in_all_orders() -> [Image; 5] {
     ]
 }
 
-/// An accepted image of 4,096 words: 64 users, 64 roles, 256 permissions, 32 exclusions; entries by kind or in any order. The roles are
-/// four groups of 16 with senior words in each, and a user may activate those of a group.
+/// An accepted image of 4,096 words: 64 users, 64 roles, 256 permissions, 32 exclusions; entries by kind or in any
+/// order. The roles are four groups of 16 with senior words in each, and a user may activate those of a group.
 pub fn largest(in_order: bool) -> Vec<u8> {
     let mut rng = Rng::new(4096);
     let mut draft = policy::Draft::blank(64, 64, 256);
@@ -61,7 +61,8 @@ pub fn largest(in_order: bool) -> Vec<u8> {
     words::bytes(&draft.words())
 }
 
-/// 64 users, 64 roles and 256 permissions, and so that every call has something to do: the last user has role 0, and role 0 a permission.
+/// 64 users, 64 roles and 256 permissions, and so that every call has something to do: the last user has role 0, and
+/// role 0 a permission.
 fn with_one_user() -> policy::Draft {
     let mut draft = policy::Draft::blank(64, 64, 256);
     draft.entries.push(vec![words::assignment(63, 0)]);
@@ -100,9 +101,9 @@ fn seniors() -> Vec<u8> {
     words::bytes(&draft.words())
 }
 
-/// An image of 4,096 words over a deep hierarchy: the 64 roles stand one below the other, and some 2,000 more senior words lead
-/// further down. The users have the lowest 16. The last role alone carries half of the permissions. Where `back` is set, the lowest role
-/// closes a loop of them all.
+/// An image of 4,096 words over a deep hierarchy: the 64 roles stand one below the other, and some 2,000 more senior
+/// words lead further down. The users have the lowest 16. The last role alone carries half of the permissions. Where
+/// `back` is set, the lowest role closes a loop of them all.
 pub fn deep(back: bool) -> Vec<u8> {
     let mut rng = Rng::new(64);
     let mut draft = policy::Draft::blank(64, 64, 256);

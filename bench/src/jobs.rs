@@ -1,5 +1,5 @@
-//! Every call but the clause text on images of 13 and of 4,096 words in several orders, and on those that one call finds hard: a deep hierarchy,
-//! one role over fifteen, limits, loops, repeats.
+//! Every call but the clause text on images of 13 and of 4,096 words in several orders, and on those that one call
+//! finds hard: a deep hierarchy, one role over fifteen, limits, loops, repeats.
 
 use crate::images::{self, Image};
 use crate::plain;
@@ -232,7 +232,8 @@ fn line(roles: u64) -> [u8; LINE] {
     line
 }
 
-/// The lowest roles that a user of an image may activate, no more than three: few enough for every exclusion of the largest image.
+/// The lowest roles that a user of an image may activate, no more than three: few enough for every exclusion of the
+/// largest image.
 fn some_own_roles(image: &[u8], user: usize) -> u64 {
     let policy = nutrameza_tests::solver::image::judge(image).expect("the image is accepted");
     policy.authorized(user).iter().take(3).map(|role| 1 << role).sum()
@@ -268,7 +269,8 @@ fn calls_on(image: &Image, roles: u64, calls: Vec<Call>, report: &mut Report) {
     }
 }
 
-/// A ledger of lines of so many bytes for every user of an image, each with sessions 0 and 3 open and roles active; one user has role 0.
+/// A ledger of lines of so many bytes for every user of an image, each with sessions 0 and 3 open and roles active;
+/// one user has role 0.
 fn ledger(image: &[u8], users: usize, size: usize) -> Vec<u8> {
     let mut ledger = vec![0; size * users];
     for (user, line) in ledger.chunks_exact_mut(size).enumerate() {

@@ -1,5 +1,5 @@
-//! What reading an image costs at least: its bytes read once, and its words taken apart with nothing stored; the kit's check beside both.
-//! These rows are no match of two ways to do one job, and none counts for the worst ratio.
+//! What reading an image costs at least: its bytes read once, and its words taken apart with nothing stored; the
+//! kit's check beside both. These rows are no match of two ways to do one job, and none counts for the worst ratio.
 
 use crate::images;
 use crate::report::Report;

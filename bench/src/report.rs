@@ -6,8 +6,8 @@ use crate::timing::{self, Times};
 const BAR: f64 = 1.25;
 const BAR_NAME: &str = "NUTRAMEZA_BAR";
 
-/// A row over the bar is measured so many times at most, and its least ratio counts: what else the machine does slows one of the
-/// two ways now and then, and seldom the same one every time.
+/// A row over the bar is measured so many times at most, and its least ratio counts: what else the machine does slows
+/// one of the two ways now and then, and seldom the same one every time.
 pub const MOST_MEASURES: usize = 5;
 
 /// What a run has found so far.
@@ -33,7 +33,8 @@ impl Report {
         self.only.is_empty() || self.only.iter().any(|part| name.contains(part))
     }
 
-    /// Measures two ways until their ratio is not over the bar, a few times at most; the measure with the least ratio counts.
+    /// Measures two ways until their ratio is not over the bar, a few times at most; the measure with the least ratio
+    /// counts.
     pub fn beside(&mut self, name: &str, kit: &mut dyn FnMut(), plain: &mut dyn FnMut()) -> Times {
         let least = least(self.bar, || timing::beside(kit, plain));
         self.count(name, least.ratio);

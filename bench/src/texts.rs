@@ -1,5 +1,5 @@
-//! The clause texts of the asks in the families of 003's tables, of image A and the longest one: time, ratio and bytes a second. The buffer
-//! has room for any text, as a host's has; once it is as long as its text.
+//! The clause texts of the asks in the families of 003's tables, of image A and the longest one: time, ratio and
+//! bytes a second. The buffer has room for any text, as a host's has; once it is as long as its text.
 
 use crate::families::{self, Asked};
 use crate::plain;

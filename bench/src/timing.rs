@@ -4,7 +4,8 @@
 pub const MOST_ROUNDS: usize = 201;
 pub const FEWEST_ROUNDS: usize = 11;
 
-/// Nanoseconds of a round at least and of all rounds at most, about: short rounds, so that what slows the machine slows both.
+/// Nanoseconds of a round at least and of all rounds at most, about: short rounds, so that what slows the machine
+/// slows both.
 const ROUND: f64 = 2e5;
 const ALL_ROUNDS: f64 = 2e8;
 

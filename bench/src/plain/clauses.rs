@@ -1,4 +1,5 @@
-//! The clause text of an ask: written at once where there is room for any text, else measured by one walk and written by a second.
+//! The clause text of an ask: written at once where there is room for any text, else measured by one walk and written
+//! by a second.
 
 use super::{asked, enter_asking, limit, size, Entered, Permissions, Tables, Wish, TABLES};
 
