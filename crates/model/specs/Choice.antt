@@ -1,11 +1,11 @@
 -- The choice of a role set (the User Authorization Query): which sets are admissible, and the best of them by the two objectives.
 -- Assumes nothing.
-use mathlib.Core.Bool.{Bool, true, false, _&&_, _||_}
+use mathlib.Core.Bool.{Bool, true, false, _&&_}
 use mathlib.Core.Option.{Option, none, some}
 use mathlib.Core.List.{List, [], _∷_}
 use Prim.Native.Nat.{ℕ, zero, suc, _-_}
-use lib.Dec.{eqb, ltb}
 use Rattle.model.specs.declared.Line.{Line}
+use Rattle.model.specs.Tests.{earlier}
 use Rattle.model.specs.Sets.{within, count, unionAt, subsets}
 use Rattle.model.specs.Policy.{Meaning}
 use Rattle.model.specs.Line.{exclusionsMet, putIn}
@@ -25,10 +25,6 @@ unfoldable pub cost : ℕ → ℕ → ℕ
 cost zero n = 0
 cost (suc zero) n = n
 cost (suc (suc a)) n = 256 - n
-
--- by a first number, then by a second, then by the set number; the lower, the better
-unfoldable pub earlier : ℕ → ℕ → ℕ → ℕ → ℕ → ℕ → Bool
-earlier p q x y s t = ltb p q || (eqb p q && (ltb x y || (eqb x y && ltb s t)))
 
 unfoldable pub permissionCost : Meaning → ℕ → ℕ → ℕ
 permissionCost m a s = cost a (count 256 (carriedBy m s))

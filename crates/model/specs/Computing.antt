@@ -1,14 +1,14 @@
 -- To unfold `computing` is to unfold every definition that judging an image and running calls compute with.
 -- Assumes nothing.
-use Rattle.model.specs.Tests.{pick, any, all, first, lowest, ifBelow, isSome, sameList, sameLists}
+use Rattle.model.specs.Tests.{pick, earlier, any, all, first, lowest, ifBelow, isSome, sameList, sameLists}
 use Rattle.model.specs.Sets.{has, within, meets, setOf, countTo, count, unionTo, unionAt, lowestIn, subsets, sumTo}
 use Rattle.model.specs.Image.{wordAt, behindHead, kindOf, decode, wrongKind, inRange, repeats, crowds, entryFault, fault, assigning, next, balanced, scan, headOf, headRight, lengthRight, emptyRows, start, judgeWords, checkNumber}
-use Rattle.model.specs.Policy.{entryAt, entriesFrom, entriesOf, granting, ordering, fold, joining, withMembers, exclusionsOf, policyOf, taking, through, closed, tableOf, belowTable, withSelves, reached, carriedTable, granterBy, granter, authorized, met, meaning, lesser, limiting, limited, hasLimits}
+use Rattle.model.specs.Policy.{entryAt, entriesFrom, entriesOf, granting, ordering, fold, joining, withMembers, exclusionsOf, policyOf, taking, through, closed, tableOf, belowTable, withSelves, reached, carriedTable, granterBy, granter, authorized, met, meaning, kindNumber, before, insert, sorted, lesser, limiting, limited, hasLimits}
 use Rattle.model.specs.Bytes.{number, bytesOf}
 use Rattle.model.specs.Words.{headWord, assignWord, grantWord, seniorWord, exclusionWord, memberWord, sumOf, endWord, ended, imageBytes}
 use Rattle.model.specs.Line.{lineSize, readSessions, readLine, writeSessions, writeLine, emptySession, sessionAt, isOpen, activeIn, counted, exclusionsMet, sessionSound, sessionsSound, sound, lowestClosed, opening, closing, putIn, holding, others}
 use Rattle.model.specs.Limits.{nobody, elsewhere, barred, unbarred}
-use Rattle.model.specs.Choice.{carriedBy, admissible, cost, earlier, permissionCost, roleCost, better, bestOf, best, choose}
+use Rattle.model.specs.Choice.{carriedBy, admissible, cost, permissionCost, roleCost, better, bestOf, best, choose}
 use Rattle.model.specs.Reduced.{stay, maskOf, roomOf}
 use Rattle.model.specs.Clauses.{listTo, when, barring, carries, carrying, carriers, carried, bounding, variablesIn, uncounted, room, keeping, adding, row, rows, counter, excluding, helpers, excludingAll, hard, wanting, soft, weightOf, top}
 use Rattle.model.specs.Dimacs.{ascii, figure, digitsTo, decimal, literalText, literalsText, clauseText, clausesText, headText, helpersOf, variablesOf, weighing, clausesOf, textOf}
@@ -34,5 +34,5 @@ unfolding pick any all first lowest ifBelow isSome sameList sameLists has within
     carrying carriers carried bounding variablesIn uncounted room keeping adding row rows counter excluding helpers excludingAll hard
     wanting soft weightOf top ascii figure digitsTo decimal literalText literalsText clauseText clausesText headText helpersOf variablesOf
     weighing clausesOf textOf isText wrote textFor clausesBy written sumTo lesser limiting limited hasLimits holding isAsk numberAfter
-    otherFirst refusalExtra lineOf holdingOf heldByOthers unsoundOther othersOf told nobody elsewhere barred unbarred isOwn
+    otherFirst refusalExtra lineOf holdingOf heldByOthers unsoundOther othersOf told nobody elsewhere barred unbarred isOwn kindNumber before insert sorted
 computing = tt

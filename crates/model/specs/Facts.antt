@@ -10,7 +10,7 @@ use native.Mathlib.Omega.{arith}
 use lib.Dec.{eqb}
 use lib.ListN.{getD, replicate}
 use Rattle.model.specs.declared.Head.{Head}
-use Rattle.model.specs.declared.Kind.the-variants.{MsDmer, MsHmer}
+use Rattle.model.specs.declared.Kind.the-variants.{SsDmer, MsDmer, MsHmer}
 use Rattle.model.specs.declared.Exclusion.{Exclusion}
 use Rattle.model.specs.declared.Entry.the-variants.{Assignment, Grant, Senior, Exclude, Member, Limit, End}
 use Rattle.model.specs.declared.Scan.{Scan}
@@ -21,7 +21,7 @@ use Rattle.model.specs.Tests.{any, all, first, ifBelow, sameList, sameLi
 use Rattle.model.specs.Bytes.{bytesOf}
 use Rattle.model.specs.Words.{headWord, seniorWord, ended, imageBytes}
 use Rattle.model.specs.Image.{user, role, permission, says, inRange, crowds, fault, balanced, start, lengthRight, judgeWords, checkNumber}
-use Rattle.model.specs.Policy.{Policy, Meaning, Agree, belowTable, granter, authorized, lesser, meaning, met}
+use Rattle.model.specs.Policy.{Policy, Meaning, Agree, before, sorted, belowTable, granter, authorized, lesser, meaning, met}
 use Rattle.model.specs.Judgement.{lowestOnLoop, lowestOverReach, judgeMeaning}
 use Rattle.model.specs.Line.{SESSIONS, activeIn, counted, holding, putIn, sound}
 use Rattle.model.specs.Limits.{nobody, barred}
@@ -178,6 +178,16 @@ pub met-below-the-limit : met (λ k. 3) (record { kind = MsDmer; limit = 2; memb
 unfolding computing
 met-below-the-limit = refl
 
+-- a lower kind comes first, though its limit is higher
+pub kind-first : before (record { kind = SsDmer; limit = 3; members = 0 }) (exclusion 2) ≡ true
+unfolding computing
+kind-first = refl
+
+-- an exclusion that stands twice is kept once
+pub kept-once : sorted (exclusion 2 ∷ exclusion 2 ∷ []) ≡ exclusion 2 ∷ []
+unfolding computing
+kept-once = refl
+
 -- role 0 stands over the loop of the roles 1 and 2
 pub loop-role : lowestOnLoop (policy [] (2 ∷ 4 ∷ 2 ∷ [])) ≡ 1
 unfolding computing
@@ -250,6 +260,7 @@ two own =
       granter = λ m r. ifBelow 1 m;
       allMet = λ f. true;
       exclusions = [];
+      ordered = [];
       limits = 2 ∷ 0 ∷ [];
     }
 
@@ -298,6 +309,7 @@ carrying =
       granter = λ m r. none;
       allMet = λ f. true;
       exclusions = [];
+      ordered = [];
       limits = [];
     }
 

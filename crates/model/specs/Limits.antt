@@ -39,5 +39,6 @@ unbarred m x l k =
       granter = m .granter;
       allMet = m .allMet;
       exclusions = m .exclusions;
+      ordered = m .ordered;
       limits = m .limits;
     }

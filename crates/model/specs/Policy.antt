@@ -1,7 +1,7 @@
 -- What the words of an accepted image mean: the policy, five tables read off its entries, and what it means for one user.
 -- Assumes nothing.
 use mathlib.Core.Path.{_≡_}
-use mathlib.Core.Bool.{Bool, _&&_, _||_, not}
+use mathlib.Core.Bool.{Bool, true, false, _&&_, _||_, not}
 use mathlib.Core.Option.{Option}
 use mathlib.Core.List.{List, [], _∷_, _++_, map}
 use Prim.Native.Nat.{ℕ, zero, suc, _+_}
@@ -13,7 +13,7 @@ use Rattle.model.specs.declared.Kind.the-variants.{SsDmer, MsDmer, SsHme
 use Rattle.model.specs.declared.Exclusion.{Exclusion}
 use Rattle.model.specs.declared.Entry.{Entry}
 use Rattle.model.specs.declared.Entry.the-variants.{Assignment, Grant, Senior, Exclude, Member, Limit, End, Unknown}
-use Rattle.model.specs.Tests.{pick, any, all}
+use Rattle.model.specs.Tests.{pick, earlier, any, all}
 use Rattle.model.specs.Sets.{has, union, inter, with, count, unionAt, lowestIn}
 use Rattle.model.specs.Image.{wordAt, behindHead, decode, assigning, headOf, emptyRows}
 
@@ -102,6 +102,28 @@ exclusionsOf (Limit r t ∷ es) = exclusionsOf es
 exclusionsOf (End ∷ es) = exclusionsOf es
 exclusionsOf (Unknown ∷ es) = exclusionsOf es
 
+-- ---- the order of exclusions in the tidy image, in which no order of the entries shows
+
+unfoldable pub kindNumber : Kind → ℕ
+kindNumber SsDmer = 0
+kindNumber MsDmer = 1
+kindNumber SsHmer = 2
+kindNumber MsHmer = 3
+
+-- by kind, then limit, then the number of the member set
+unfoldable pub before : Exclusion → Exclusion → Bool
+before x y = earlier (kindNumber (x .kind)) (kindNumber (y .kind)) (x .limit) (y .limit) (x .members) (y .members)
+
+-- x put into an ascending list, unless it is there
+unfoldable pub insert : Exclusion → List Exclusion → List Exclusion
+insert x [] = x ∷ []
+insert x (y ∷ ys) = elim (before x y) [ true ↦ x ∷ y ∷ ys | false ↦ elim (before y x) [ true ↦ y ∷ insert x ys | false ↦ y ∷ ys ] ]
+
+-- the exclusions ascending, without repeats
+unfoldable pub sorted : List Exclusion → List Exclusion
+sorted [] = []
+sorted (x ∷ xs) = insert x (sorted xs)
+
 -- ---- the policy
 
 pub record Policy : Type 0 where
@@ -189,7 +211,7 @@ hasLimits p = any (λ t. not (eqb t 0)) (p .limits)
 
 -- what the session rules see of a policy: the user's number, the numbers of roles and permissions, the roles that the user may activate,
 -- what each role carries and through which granting role, whether every exclusion is met where kind k counts the roles `counted k`, the
--- exclusions in image order, by which the clause text alone goes, and the limits
+-- exclusions in image order, by which the clause text alone goes, the same in the order of the tidy image, and the limits
 pub record Meaning : Type 0 where
   pub user : ℕ
   pub roles : ℕ
@@ -199,6 +221,7 @@ pub record Meaning : Type 0 where
   pub granter : ℕ → ℕ → Option ℕ
   pub allMet : (Kind → ℕ) → Bool
   pub exclusions : List Exclusion
+  pub ordered : List Exclusion
   pub limits : List ℕ
 
 unfoldable pub meaning : Policy → ℕ → Meaning
@@ -212,6 +235,7 @@ meaning p u =
       granter = granter p;
       allMet = λ counted. all (met counted) (p .exclusions);
       exclusions = p .exclusions;
+      ordered = sorted (p .exclusions);
       limits = p .limits;
     }
 
@@ -228,12 +252,6 @@ onlyFor u p =
       exclusions = p .exclusions;
       limits = p .limits;
     }
-
-unfoldable pub kindNumber : Kind → ℕ
-kindNumber SsDmer = 0
-kindNumber MsDmer = 1
-kindNumber SsHmer = 2
-kindNumber MsHmer = 3
 
 unfoldable pub sameExclusion : Exclusion → Exclusion → Bool
 sameExclusion x y = eqb (kindNumber (x .kind)) (kindNumber (y .kind)) && eqb (x .limit) (y .limit) && eqb (x .members) (y .members)

@@ -15,6 +15,11 @@ abbrev pub Each : {A : Type 0} → (A → Type 0) → List A → Type 0
 Each P [] = Unit {0}
 Each P (x ∷ xs) = P x × Each P xs
 
+-- each member of the list comes before all that stand behind it, by R
+abbrev pub Ascending : {A : Type 0} → (A → A → Type 0) → List A → Type 0
+Ascending R [] = Unit {0}
+Ascending R (x ∷ xs) = Each (R x) xs × Ascending R xs
+
 -- n is one of the numbers from 1 to b
 abbrev pub OneTo : ℕ → ℕ → Type 0
 OneTo b n = (1 ≤ n) × (n ≤ b)

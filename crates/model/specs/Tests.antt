@@ -15,6 +15,10 @@ pick false x y = y
 abbrev pub between : ℕ → ℕ → ℕ → Bool
 between a n b = leb a n && leb n b
 
+-- by a first number, then by a second, then by the set number; the lower comes first
+unfoldable pub earlier : ℕ → ℕ → ℕ → ℕ → ℕ → ℕ → Bool
+earlier p q x y s t = ltb p q || (eqb p q && (ltb x y || (eqb x y && ltb s t)))
+
 -- some member passes the test
 unfoldable pub any {ℓ} : {A : Type ℓ} → (A → Bool) → List A → Bool
 any f [] = false

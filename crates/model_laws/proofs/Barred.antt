@@ -142,6 +142,7 @@ module _ (m : Meaning) (x : Others) (l : Line) (k : ℕ) where
           granter = m .granter;
           allMet = m .allMet;
           exclusions = m .exclusions;
+          ordered = m .ordered;
           limits = m .limits;
         }
       where

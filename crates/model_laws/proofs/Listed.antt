@@ -34,6 +34,7 @@ listed m xs =
       granter = m .granter;
       allMet = m .allMet;
       exclusions = xs;
+      ordered = m .ordered;
       limits = m .limits;
     }
 

@@ -2,23 +2,22 @@
 -- Assumes nothing.
 use mathlib.Core.Path.{_≡_, refl, sym, ap, _∙_}
 use mathlib.Core.Logic.{inl, inr}
-use mathlib.Core.Bool.{Bool, true, false, _&&_, true≢false}
+use mathlib.Core.Bool.{Bool, true, false, true≢false}
 use mathlib.Core.List.{List, [], _∷_, map}
 use Prim.Native.Nat.{ℕ, _<_}
 use lib.Dec.{eqb}
 use lib.ListN.{getD}
-use borrow.Author.Tests.{eqb-true, eq-eqb}
+use borrow.Author.Tests.{eq-eqb}
 use Rattle.model.specs.declared.Kind.{Kind}
-use Rattle.model.specs.declared.Kind.the-variants.{SsDmer, MsDmer, SsHmer, MsHmer}
 use Rattle.model.specs.declared.Exclusion.{Exclusion}
 use Rattle.model.specs.Tests.{pick, any, all}
 use Rattle.model.specs.Sets.{has, unionAt}
-use Rattle.model.specs.Image.{kindOf}
-use Rattle.model.specs.Policy.{Policy, Meaning, meaning, authorized, closed, belowTable, withSelves, reached, carriedTable, granterBy, granter, met, onlyFor, kindNumber, sameExclusion, excludes, Agree}
+use Rattle.model.specs.Policy.{Policy, Meaning, meaning, authorized, closed, belowTable, withSelves, reached, carriedTable, granterBy, granter, met, sorted, onlyFor, sameExclusion, excludes, Agree}
 use Rattle.model.specs.Limits.{Others}
 use Rattle.model.specs.Session.{Operation, isText, rule}
 use Rattle.model_laws.proofs.Bools.{and-l, and-r, or-r, or-cases, bool-ext}
 use Rattle.model_laws.proofs.Closure.{getD-tableOf}
+use Rattle.model_laws.proofs.SortedLaws.{sameExclusion-eq, sameExclusion-refl, sorted-same}
 use Rattle.model_laws.proofs.Listed.{listed, rule-listed}
 
 -- ---- a test of all members goes by membership alone
@@ -46,32 +45,6 @@ module _ {A : Type 0} (same : A → A → Bool) (same-refl : (x : A) → same x 
   all-same f l m h =
       bool-ext (all f l) (all f m) (λ e. all-of f m (λ x k. all-at f l e x (h x ∙ k))) (λ e. all-of f l (λ x k. all-at f m e x (sym (h x) ∙ k)))
 
--- ---- exclusions
--- kinds of the same number are the same
-pub kind-of : (k : Kind) → kindOf (kindNumber k) ≡ k
-unfolding kindNumber kindOf pick
-kind-of SsDmer = refl
-kind-of MsDmer = refl
-kind-of SsHmer = refl
-kind-of MsHmer = refl
-
-kind-eq : (a b : Kind) → eqb (kindNumber a) (kindNumber b) ≡ true → a ≡ b
-kind-eq a b e = sym (kind-of a) ∙ ap kindOf (eqb-true _ _ e) ∙ kind-of b
-
--- the test of exclusions is that of equality
-pub sameExclusion-eq : (x y : Exclusion) → sameExclusion x y ≡ true → x ≡ y
-unfolding sameExclusion
-sameExclusion-eq x y h =
-    let k = kind-eq (x .kind) (y .kind) (and-l _ _ (and-l _ _ h)) in
-    let n = eqb-true (x .limit) (y .limit) (and-r (eqb (kindNumber (x .kind)) (kindNumber (y .kind))) _ (and-l _ _ h)) in
-    let s = eqb-true (x .members) (y .members) (and-r (eqb (kindNumber (x .kind)) (kindNumber (y .kind)) && eqb (x .limit) (y .limit)) _ h) in
-    λ i. record { kind = k i; limit = n i; members = s i }
-
-pub sameExclusion-refl : (x : Exclusion) → sameExclusion x x ≡ true
-unfolding sameExclusion
-sameExclusion-refl x =
-    rw (eq-eqb (kindNumber (x .kind)) (kindNumber (x .kind)) refl, eq-eqb (x .limit) (x .limit) refl, eq-eqb (x .members) (x .members) refl)
-
 -- ---- policies that agree
 module _ (u : ℕ) (p q : Policy) (h : Agree u p q) where
   -- the same exclusions are met
@@ -79,6 +52,11 @@ module _ (u : ℕ) (p q : Policy) (h : Agree u p q) where
   unfolding excludes
   agree-met counted =
       all-same sameExclusion sameExclusion-refl sameExclusion-eq (met counted) (p .exclusions) (q .exclusions) (h .exclusions)
+
+  -- in the same order, that of the tidy image
+  agree-ordered : sorted (p .exclusions) ≡ sorted (q .exclusions)
+  unfolding excludes
+  agree-ordered = sorted-same (p .exclusions) (q .exclusions) (h .exclusions)
 
   -- the session rules see the same, by the exclusions as they are listed
   agree-by : (xs ys : List Exclusion) → xs ≡ ys → listed (meaning p u) xs ≡ listed (meaning q u) ys
@@ -93,6 +71,7 @@ module _ (u : ℕ) (p q : Policy) (h : Agree u p q) where
         granter = λ m r. granterBy (withSelves (closed (h .heads i .roles) (h .seniors i))) (λ g. has (getD (h .grants i) g 0) m) r;
         allMet = λ counted. agree-met counted i;
         exclusions = e i;
+        ordered = agree-ordered i;
         limits = h .limits i;
       }
 

@@ -9,7 +9,8 @@ use lib.Dec.{eqb, ltb}
 use borrow.Author.Tests.{eqb-true, eq-eqb, lt-ltb, ltb-true}
 use Rattle.model.specs.Sets.{has, countTo, count}
 use Rattle.model.specs.Policy.{Meaning}
-use Rattle.model.specs.Choice.{carriedBy, cost, better, earlier, permissionCost, roleCost}
+use Rattle.model.specs.Tests.{earlier}
+use Rattle.model.specs.Choice.{carriedBy, cost, better, permissionCost, roleCost}
 use Rattle.model.specs.Chosen.{before, RankIs}
 use Rattle.model_laws.proofs.Bools.{and-l, and-r, or-cases, not-both, fails, bool-ext}
 use Rattle.model_laws.proofs.SetLaws.{one-most}

@@ -6,9 +6,8 @@ use mathlib.Core.List.{List, [], _∷_, _++_, map, List·Memᴰ, List·Memᴰ·h
 use Prim.Native.Nat.{ℕ, suc, _+_, _≤_, _<_}
 use native.Mathlib.Omega.{arith}
 use lib.ListN.{length, length-append}
-use Rattle.model.specs.Ranges.{Each}
+use Rattle.model.specs.Ranges.{Each, Ascending}
 use Rattle.tidying.specs.Groups.{Group, spread}
-use Rattle.tidying.specs.Tidy.{Ascending}
 use Rattle.tidying.specs.Arranged.{Standing, standingIn, By, Precedes, Comes}
 use Rattle.model_laws.proofs.Eachs.{each-by, each-append, each-mem}
 

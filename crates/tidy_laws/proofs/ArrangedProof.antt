@@ -21,9 +21,9 @@ use Rattle.model.specs.Sets.{has, count}
 use Rattle.model.specs.Image.{wordAt, behindHead, user, role, permission, lengthRight}
 use Rattle.model.specs.Words.{headWord, assignWord, grantWord, seniorWord, exclusionWord, memberWord, limitWord, sumOf, endWord, ended, imageBytes}
 use Rattle.model.specs.OwnWords.{wordsFrom}
-use Rattle.model.specs.Policy.{Policy, policyOf, entriesOf, exclusionsOf, withMembers, kindNumber, limited}
+use Rattle.model.specs.Policy.{Policy, policyOf, entriesOf, exclusionsOf, withMembers, kindNumber, limited, sorted}
 use Rattle.model.specs.Judgement.{judge}
-use Rattle.model.specs.Ranges.{Each, InRange}
+use Rattle.model.specs.Ranges.{Each, InRange, Ascending}
 use Rattle.model.specs.Read.{LimitsRead}
 use Rattle.model_laws.proofs.Bools.{and-l, and-r, not-both}
 use Rattle.model_laws.proofs.UnionLaws.{has-none}
@@ -31,14 +31,14 @@ use Rattle.model_laws.proofs.Tables.{read-off}
 use Rattle.model_laws.proofs.Judgements.{accepted-in-range, words-pass, accepted-head}
 use Rattle.limits.proofs.LimitTable.{limits-read}
 use Rattle.tidying.specs.Groups.{wordsBehind, entryOf, memberRole, Group, spread, leads, dueBehind, RightMember, RightGroup, Acceptable}
-use Rattle.tidying.specs.Tidy.{membersTo, single, tableGroups, exclusionGroup, sorted, limitedRows, limitGroups, tidyGroups, tidyWords, tidy, tidyOf, Ascending}
+use Rattle.tidying.specs.Tidy.{membersTo, single, tableGroups, exclusionGroup, limitedRows, limitGroups, tidyGroups, tidyWords, tidy, tidyOf}
 use Rattle.tidying.specs.Arranged.{Standing, memberSet, standingOf, standingIn, Precedes, Comes, Arranged, TidyIs}
 use Rattle.model_laws.proofs.Eachs.{each-map, each-mem, mem-each, nil-of}
 use Rattle.tidy_laws.proofs.AcceptableProof.{entries-behind}
 use Rattle.tidy_laws.proofs.GroupsFound.{member-role}
 use Rattle.tidy_laws.proofs.GroupsTaken.{end-spare}
 use Rattle.tidy_laws.proofs.GroupExclusions.{exclusionIn, exclusionsIn, exclusions-in, bare-word}
-use Rattle.tidy_laws.proofs.SortedLaws.{sorted-mem}
+use Rattle.model_laws.proofs.SortedLaws.{sorted-mem}
 use Rattle.tidy_laws.proofs.TidyLists.{members-each, members-mem, members-length, spread-mem}
 use Rattle.tidy_laws.proofs.TidyLimits.{limited-row}
 use Rattle.tidy_laws.proofs.TidyOrderProof.{members-ascending}

@@ -9,7 +9,6 @@ pub mod SameTables
 pub mod AlikeProof
 pub mod SameLimits
 pub mod WordLaws
-pub mod SortedLaws
 pub mod SameSetsProof
 pub mod TidyLists
 pub mod TidyLimits

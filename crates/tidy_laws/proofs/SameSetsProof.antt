@@ -23,7 +23,7 @@ use Rattle.model_laws.proofs.Accepted.{words-entries}
 use Rattle.model_laws.proofs.Judgements.{words-pass}
 use Rattle.limits.proofs.LimitTable.{Matched, limits-matched, limits-read}
 use Rattle.tidy_laws.proofs.SameTables.{same-policy}
-use Rattle.tidy_laws.proofs.SortedLaws.{any-mem}
+use Rattle.model_laws.proofs.SortedLaws.{any-mem}
 
 module _ (s t : List ℕ) where
   -- what is among the entries is what a word says

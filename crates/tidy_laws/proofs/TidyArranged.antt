@@ -18,16 +18,16 @@ use Rattle.model.specs.declared.Checked.the-variants.{Accepted}
 use Rattle.model.specs.Sets.{has}
 use Rattle.model.specs.Image.{user, role, permission}
 use Rattle.model.specs.Words.{assignWord, grantWord, seniorWord, limitWord}
-use Rattle.model.specs.Policy.{Policy, policyOf, fold, kindNumber}
+use Rattle.model.specs.Policy.{Policy, policyOf, fold, kindNumber, before, sorted}
 use Rattle.model.specs.Judgement.{judge}
-use Rattle.model.specs.Ranges.{Each, InRange, ExclusionInRange}
+use Rattle.model.specs.Ranges.{Each, InRange, ExclusionInRange, Ascending}
 use Rattle.model_laws.proofs.Ranks.{Earlier, earlier-true}
 use Rattle.model_laws.proofs.Judgements.{accepted-in-range}
 use Rattle.tidying.specs.Groups.{memberRole, Group}
-use Rattle.tidying.specs.Tidy.{membersTo, single, tableGroups, exclusionGroup, before, sorted, limitedRows, limitGroups, tidyGroups, Ascending}
+use Rattle.tidying.specs.Tidy.{membersTo, single, tableGroups, exclusionGroup, limitedRows, limitGroups, tidyGroups}
 use Rattle.tidying.specs.Arranged.{Standing, standing, memberSet, standingOf, standingIn, Precedes, Comes, TidyArranged}
 use Rattle.model_laws.proofs.Eachs.{each-by, each-append, each-map}
-use Rattle.tidy_laws.proofs.SortedLaws.{ascending-sorted, each-sorted}
+use Rattle.model_laws.proofs.SortedLaws.{ascending-sorted, each-sorted}
 use Rattle.tidy_laws.proofs.TidyLists.{members-each, table-each}
 use Rattle.tidy_laws.proofs.TidyOrderProof.{members-ascending}
 use Rattle.tidy_laws.proofs.TidyExclusions.{members-read, roles-back, below-64, group-entry}

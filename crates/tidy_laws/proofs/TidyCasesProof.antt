@@ -1,9 +1,9 @@
 -- The listed images are accepted and have the tidy image that is listed, by computation from their bytes.
 -- Assumes nothing.
 use mathlib.Core.Path.{refl}
-use Rattle.model.specs.Policy.{kindNumber}
+use Rattle.model.specs.Policy.{kindNumber, before, insert, sorted}
 use Rattle.tidying.specs.Groups.{spread}
-use Rattle.tidying.specs.Tidy.{membersTo, tableGroups, exclusionGroup, before, insert, sorted, tidyGroups, tidyWords, tidy, tidyOf, tidyBy, tidyCall, limitGroups, limitedRows}
+use Rattle.tidying.specs.Tidy.{membersTo, tableGroups, exclusionGroup, tidyGroups, tidyWords, tidy, tidyOf, tidyBy, tidyCall, limitGroups, limitedRows}
 use Rattle.model_cases.specs.Refusals.{overOthers}
 use Rattle.tidying.specs.TidyCases.{jumbled, shuffled, neat, looped, overReaching, sevens, refusing, TidyCases}
 use Rattle.model.specs.Computing.{computing}

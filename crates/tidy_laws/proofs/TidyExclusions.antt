@@ -34,7 +34,7 @@ use Rattle.model_laws.proofs.Eachs.{each-map, each-mem}
 use Rattle.tidy_laws.proofs.GroupsFound.{member-role}
 use Rattle.tidy_laws.proofs.GroupExclusions.{exclusionIn, exclusionsIn, joined-below}
 use Rattle.tidy_laws.proofs.WordLaws.{decode-exclusion, decode-member, kind-below}
-use Rattle.tidy_laws.proofs.SortedLaws.{weights}
+use Rattle.model_laws.proofs.SortedLaws.{weights}
 use Rattle.tidy_laws.proofs.TidyLists.{members-each, members-mem, members-length, members-distinct}
 
 -- ---- member words

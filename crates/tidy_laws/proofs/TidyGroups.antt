@@ -16,15 +16,15 @@ use Rattle.model.specs.declared.Entry.the-variants.{Assignment, Grant, Senior, 
 use Rattle.model.specs.Sets.{has}
 use Rattle.model.specs.Image.{user, role, permission, says, decode, inRange, repeats, start}
 use Rattle.model.specs.Words.{headWord, assignWord, grantWord, seniorWord, endWord, limitWord}
-use Rattle.model.specs.Policy.{Policy, limited}
+use Rattle.model.specs.Policy.{Policy, limited, sorted}
 use Rattle.model.specs.Ranges.{Each, ExclusionInRange, InRange}
 use Rattle.tidying.specs.Groups.{entryOf, Group, spread, leads, dueBehind, RightMember, RightGroup}
-use Rattle.tidying.specs.Tidy.{single, tableGroups, exclusionGroup, sorted, tidyGroups, limitGroups, limitedRows}
+use Rattle.tidying.specs.Tidy.{single, tableGroups, exclusionGroup, tidyGroups, limitGroups, limitedRows}
 use Rattle.model_laws.proofs.Bools.{both}
 use Rattle.model_laws.proofs.Eachs.{each-by, each-two, each-append, each-map}
 use Rattle.tidy_laws.proofs.GroupExclusions.{exclusionIn, exclusionsIn}
 use Rattle.tidy_laws.proofs.WordLaws.{decode-assignment, decode-grant, decode-senior, decode-end, decode-limit}
-use Rattle.tidy_laws.proofs.SortedLaws.{each-sorted}
+use Rattle.model_laws.proofs.SortedLaws.{each-sorted}
 use Rattle.tidy_laws.proofs.TidyLists.{table-each, table-mem, spread-each}
 use Rattle.tidy_laws.proofs.TidyExclusions.{group-entry, group-right, group-low, groups-read}
 use Rattle.tidy_laws.proofs.TidyLimits.{row-limited}

@@ -19,13 +19,13 @@ use Rattle.model.specs.Tests.{any, between}
 use Rattle.model.specs.Sets.{has}
 use Rattle.model.specs.Image.{wordAt, behindHead, user, role, permission, says, repeats, headOf, headRight, lengthRight, emptyRows, start, assigning}
 use Rattle.model.specs.Words.{headWord, assignWord, grantWord, seniorWord, sumOf, endWord, ended, imageBytes, limitWord}
-use Rattle.model.specs.Policy.{Policy, granting, ordering, fold, entriesOf, exclusionsOf, policyOf, sameExclusion, excludes, limited, limiting}
+use Rattle.model.specs.Policy.{Policy, granting, ordering, fold, entriesOf, exclusionsOf, policyOf, sameExclusion, excludes, limited, limiting, sorted}
 use Rattle.model.specs.Judgement.{judge}
 use Rattle.model.specs.Ranges.{Each, InRange}
 use Rattle.model.specs.OwnWords.{wordsFrom}
 use Rattle.tidying.specs.Groups.{wordsBehind, entryOf, Group, spread, RightMember, RightGroup, Acceptable}
 use Rattle.tidying.specs.Same.{SamePolicy}
-use Rattle.tidying.specs.Tidy.{single, tableGroups, sorted, tidyGroups, tidyWords, tidy, tidyOf, TidyWords, exclusionGroup, limitGroups, limitedRows}
+use Rattle.tidying.specs.Tidy.{single, tableGroups, tidyGroups, tidyWords, tidy, tidyOf, TidyWords, exclusionGroup, limitGroups, limitedRows}
 use Rattle.model_laws.proofs.Bools.{both, and-r, bool-ext}
 use Rattle.model_laws.proofs.UnionLaws.{has-none}
 use Rattle.model_laws.proofs.Tables.{read-off}
@@ -36,7 +36,7 @@ use Rattle.tidy_laws.proofs.GroupExclusions.{exclusions-in}
 use Rattle.tidy_laws.proofs.SameTables.{same-policy}
 use Rattle.tidy_laws.proofs.SameLimits.{limits-same}
 use Rattle.tidy_laws.proofs.WordLaws.{head-back, head-right, bytes-length, head-read, behind-read}
-use Rattle.tidy_laws.proofs.SortedLaws.{sorted-mem, any-mem, length-sorted}
+use Rattle.model_laws.proofs.SortedLaws.{sorted-mem, any-mem, length-sorted}
 use Rattle.tidy_laws.proofs.TidyLists.{spread-each, spread-mem}
 use Rattle.tidy_laws.proofs.TidySize.{tidy-size}
 use Rattle.tidy_laws.proofs.TidyGroups.{Backed, Fit, TidyWord, word-says, table-written, assigned-word, granted-word, junior-word, groups-right, groups-exclusions, first-low, end-says, words-fit, limit-word}

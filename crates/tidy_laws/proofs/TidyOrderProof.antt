@@ -10,12 +10,12 @@ use Rattle.model.specs.Tests.{pick}
 use Rattle.model.specs.Sets.{has}
 use Rattle.model.specs.Words.{assignWord, grantWord, seniorWord, memberWord, limitWord}
 use Rattle.model.specs.Policy.{Policy}
-use Rattle.model.specs.Ranges.{Each}
+use Rattle.model.specs.Ranges.{Each, Ascending}
 use Rattle.tidying.specs.Groups.{spread}
-use Rattle.tidying.specs.Tidy.{membersTo, tableGroups, exclusionGroup, limitedRows, limitGroups, Ascending, TidyOrder}
+use Rattle.tidying.specs.Tidy.{membersTo, tableGroups, exclusionGroup, limitedRows, limitGroups, TidyOrder}
 use Rattle.model_laws.proofs.Bools.{pick-case}
 use Rattle.model_laws.proofs.Eachs.{each-append, each-map}
-use Rattle.tidy_laws.proofs.SortedLaws.{ascending-sorted}
+use Rattle.model_laws.proofs.SortedLaws.{ascending-sorted}
 use Rattle.tidy_laws.proofs.TidyLists.{row-words, members-each, table-each, spread-each}
 use Rattle.tidy_laws.proofs.TidyLimits.{row-limited}
 

@@ -14,7 +14,7 @@ use Rattle.tidying.specs.Same.{SamePolicy, Alike}
 use Rattle.tidying.specs.Tidy.{tableGroups, exclusionGroup, tidyGroups, tidyWords, tidy, tidyOf, Shared, limitGroups}
 use Rattle.tidy_laws.proofs.AlikeProof.{same-alike}
 use Rattle.tidy_laws.proofs.SameSetsProof.{sets-policy, policy-sets, same-back, same-then}
-use Rattle.tidy_laws.proofs.SortedLaws.{sorted-same}
+use Rattle.model_laws.proofs.SortedLaws.{sorted-same}
 use Rattle.tidy_laws.proofs.TidyImage.{tidy-accepted, tidy-same}
 
 -- ---- the tidy image goes by the policy alone

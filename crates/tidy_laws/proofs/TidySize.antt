@@ -13,13 +13,13 @@ use Rattle.model.specs.declared.Entry.the-variants.{Assignment, Grant, Senior, 
 use Rattle.model.specs.Sets.{with, count, one}
 use Rattle.model.specs.Image.{assigning, emptyRows}
 use Rattle.model.specs.Words.{assignWord, grantWord, seniorWord, limitWord}
-use Rattle.model.specs.Policy.{Policy, granting, ordering, fold, joining, withMembers, lesser, limiting}
+use Rattle.model.specs.Policy.{Policy, granting, ordering, fold, joining, withMembers, lesser, limiting, sorted}
 use Rattle.model.specs.Ranges.{Each}
 use Rattle.tidying.specs.Groups.{entryOf, Group, spread, leads, RightMember, RightGroup}
-use Rattle.tidying.specs.Tidy.{tableGroups, exclusionGroup, sorted, tidyGroups, limitGroups, limitedRows}
+use Rattle.tidying.specs.Tidy.{tableGroups, exclusionGroup, tidyGroups, limitGroups, limitedRows}
 use Rattle.model_laws.proofs.TableLaws.{count-empty}
 use Rattle.tidy_laws.proofs.GroupExclusions.{exclusionIn, exclusionsIn, bare-word}
-use Rattle.tidy_laws.proofs.SortedLaws.{weights, weights-sorted}
+use Rattle.model_laws.proofs.SortedLaws.{weights, weights-sorted}
 use Rattle.tidy_laws.proofs.TidyLists.{tally, tally-put, count-up, table-length, spread-append}
 use Rattle.tidy_laws.proofs.TidyExclusions.{wordsFor, groups-length}
 use Rattle.tidy_laws.proofs.TidyLimits.{tally-limit}

@@ -24,7 +24,7 @@ use Rattle.model.specs.Ranges.{Each, OneTo}
 use Rattle.model.specs.OwnWords.{wordsFrom}
 use Rattle.tidying.specs.Groups.{wordsBehind}
 use Rattle.model_laws.proofs.Bools.{both}
-use Rattle.model_laws.proofs.Meanings.{kind-of}
+use Rattle.model_laws.proofs.SortedLaws.{kind-of}
 
 -- ---- decoding, by the number of the kind
 decodeBy : ℕ → ℕ → Word

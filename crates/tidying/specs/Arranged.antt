@@ -13,9 +13,9 @@ use Rattle.model.specs.declared.Entry.{Entry}
 use Rattle.model.specs.declared.Entry.the-variants.{Assignment, Grant, Senior, Exclude, Member, End, Unknown, Limit}
 use Rattle.model.specs.Image.{role}
 use Rattle.model.specs.Policy.{fold, joining, kindNumber}
-use Rattle.model.specs.Ranges.{Each}
+use Rattle.model.specs.Ranges.{Each, Ascending}
 use Rattle.tidying.specs.Groups.{entryOf, memberRole, Group, Acceptable}
-use Rattle.tidying.specs.Tidy.{tidyOf, Ascending}
+use Rattle.tidying.specs.Tidy.{tidyOf}
 
 -- where a whole entry stands: its sort, and up to three numbers
 pub record Standing : Type 0 where

@@ -3,7 +3,7 @@
 -- Assumes nothing.
 use mathlib.Core.Path.{_≡_, refl}
 use mathlib.Core.Logic.{_↔_}
-use mathlib.Core.Bool.{Bool, true, false, not}
+use mathlib.Core.Bool.{true, not}
 use mathlib.Core.List.{List, [], _∷_, _++_, map}
 use Prim.Native.Nat.{ℕ, zero, suc, _+_, _*_, _/_, _≤_, _<_}
 use lib.Dec.{ltb, eqb}
@@ -14,15 +14,14 @@ use Rattle.model.specs.declared.Kind.the-variants.{SsDmer, MsDmer}
 use Rattle.model.specs.declared.Exclusion.{Exclusion}
 use Rattle.model.specs.declared.Checked.{Checked}
 use Rattle.model.specs.declared.Checked.the-variants.{Accepted, Refused}
-use Rattle.model.specs.Tests.{pick}
+use Rattle.model.specs.Tests.{pick, earlier}
 use Rattle.model.specs.Bytes.{bytesOf}
 use Rattle.model.specs.Sets.{has, count, countTo, one}
 use Rattle.model.specs.Words.{headWord, assignWord, grantWord, seniorWord, exclusionWord, memberWord, limitWord, sumOf, endWord, ended, imageBytes}
-use Rattle.model.specs.Policy.{Policy, policyOf, kindNumber}
+use Rattle.model.specs.Policy.{Policy, policyOf, kindNumber, before, insert, sorted}
 use Rattle.model.specs.Judgement.{judge}
-use Rattle.model.specs.Choice.{earlier}
 use Rattle.register.specs.AsCheck.{Passes, RefusesAsCheck}
-use Rattle.model.specs.Ranges.{Each, LimitsInRange}
+use Rattle.model.specs.Ranges.{Ascending, LimitsInRange}
 use Rattle.model.specs.Computing.{computing}
 use Rattle.tidying.specs.Groups.{Group, spread}
 use Rattle.tidying.specs.Same.{SameSets}
@@ -54,33 +53,9 @@ exclusionGroup x =
       members = map memberWord (membersTo 64 (x .members));
     }
 
--- by kind, then limit, then the number of the member set
-unfoldable pub before : Exclusion → Exclusion → Bool
-before x y = earlier (kindNumber (x .kind)) (kindNumber (y .kind)) (x .limit) (y .limit) (x .members) (y .members)
-
 -- the roles 0 and 1 exclude each other, by a kind and a limit
 abbrev pub bothOf : Kind → ℕ → Exclusion
 bothOf kind limit = record { kind = kind; limit = limit; members = 3 }
-
--- a lower kind comes first, though its limit is higher
-pub kind-first : before (bothOf SsDmer 3) (bothOf MsDmer 2) ≡ true
-unfolding before earlier kindNumber
-kind-first = refl
-
--- x put into an ascending list, unless it is there
-unfoldable pub insert : Exclusion → List Exclusion → List Exclusion
-insert x [] = x ∷ []
-insert x (y ∷ ys) = elim (before x y) [ true ↦ x ∷ y ∷ ys | false ↦ elim (before y x) [ true ↦ y ∷ insert x ys | false ↦ y ∷ ys ] ]
-
--- the exclusions ascending, without repeats
-unfoldable pub sorted : List Exclusion → List Exclusion
-sorted [] = []
-sorted (x ∷ xs) = insert x (sorted xs)
-
--- one that stands twice is kept once
-pub kept-once : sorted (bothOf MsDmer 2 ∷ bothOf MsDmer 2 ∷ []) ≡ bothOf MsDmer 2 ∷ []
-unfolding sorted insert before earlier kindNumber
-kept-once = refl
 
 -- the roles that have a limit, as a table of one column
 unfoldable pub limitedRows : List ℕ → List ℕ
@@ -171,11 +146,6 @@ loop-refused = refl
 -- the bytes of a tidy image are four for each word: the head, those of the groups, and the end
 abbrev pub TidyWords : Policy → Type 0
 TidyWords p = length (tidy p) ≡ 4 * (2 + length (spread (tidyGroups p)))
-
--- each member of the list comes before all that stand behind it, by R
-abbrev pub Ascending : {A : Type 0} → (A → A → Type 0) → List A → Type 0
-Ascending R [] = Unit {0}
-Ascending R (x ∷ xs) = Each (R x) xs × Ascending R xs
 
 -- ascending, and so nothing repeated: words of one kind as numbers, which is by their fields; exclusions by kind, limit and member set;
 -- the member words of each exclusion; limit words in range
