@@ -17,7 +17,7 @@ use Rattle.model.specs.Tests.{pick, all, first}
 use Rattle.model.specs.Policy.{Policy, Meaning, authorized, met, meaning}
 use Rattle.model.specs.Line.{lineSize, readLine, isOpen, sound}
 use Rattle.model.specs.Limits.{Others, nobody}
-use Rattle.model.specs.Session.{Operation, open-session, close-session, ask, short-ask, show, explain, clauses, isAsk, sessionOf, queryOf, refuse, Result, Refusal, bad-line, bad-session, is-closed, refusalNumber, canGive, otherFirst, applies, perform, refusalExtra, unless, rule}
+use Rattle.model.specs.Session.{Operation, open-session, close-session, ask, short-ask, show, explain, obstacle, clauses, isAsk, sessionOf, queryOf, refuse, Result, Refusal, bad-line, bad-session, is-closed, refusalNumber, canGive, otherFirst, applies, perform, refusalExtra, unless, rule}
 use Rattle.model.specs.Run.{Call, Event, lineAt, withLine, lineOf, told, ruled, stepOn, returned, filledWith, answered}
 use Rattle.model_laws.proofs.Bools.{and-l}
 use Rattle.model_laws.proofs.LedgerLaws.{apart, own-line, step-below}
@@ -120,6 +120,7 @@ rule11 W m o bs op quiet e = rule-refuses W m o bs op bad-line (go op)
     go (short-ask k lower upper room) = fails _ _ _ (calm _) ∙ holds _ _ _ (ap not e)
     go (show k room) = holds _ _ _ (ap not e)
     go (explain k n) = holds _ _ _ (ap not e)
+    go (obstacle k lower upper room) = fails _ _ _ (calm _) ∙ holds _ _ _ (ap not e)
     go (clauses k q) = fails _ _ _ (calm _) ∙ holds _ _ _ (ap not e)
 
 module _ (W : ℕ) (p : Policy) (ledger : List ℕ) (c : Call) where

@@ -21,7 +21,7 @@ use Rattle.model.specs.Judgement.{judge}
 use Rattle.model.specs.Policy.{Policy, policyOf, limited, hasLimits, Meaning, meaning, authorized}
 use Rattle.model.specs.Line.{lineSize, readLine, sessionAt, holding, sound}
 use Rattle.model.specs.Limits.{Others}
-use Rattle.model.specs.Session.{Operation, open-session, close-session, ask, short-ask, show, explain, clauses, sessionOf, queryOf, isText, isAsk, refuse, Result, Refusal, bad-other, bad-line, bad-session, is-closed, is-full, bad-set, bad-permission, bad-bounds, bad-aim, bad-room, no-set, not-below, not-carried, too-long, refusalNumber, canGive, applies, perform, unless, rule}
+use Rattle.model.specs.Session.{Operation, open-session, close-session, ask, short-ask, show, explain, obstacle, clauses, sessionOf, queryOf, isAsk, putsIn, refuse, Result, Refusal, bad-other, bad-line, bad-session, is-closed, is-full, bad-set, bad-permission, bad-bounds, bad-aim, bad-room, no-set, not-below, not-carried, bad-pair, no-obstacle, too-long, refusalNumber, canGive, applies, perform, unless, rule}
 use Rattle.model.specs.Run.{Call, Event, lineAt, lineOf, holdingOf, heldByOthers, othersOf, told, ruled, stepOn, step, run}
 use Rattle.model.specs.Ranges.{Each, InRange}
 use Rattle.model.specs.Kept.{Antitone}
@@ -80,7 +80,21 @@ refusal-number bad-room e = omega arith
 refusal-number no-set e = omega arith
 refusal-number (not-below n) e = omega arith
 refusal-number (not-carried n) e = omega arith
+refusal-number bad-pair e = omega arith
+refusal-number no-obstacle e = omega arith
 refusal-number too-long e = omega arith
+
+-- a call that puts roles in looks at the other users
+putting-asks : (op : Operation) → putsIn op ≡ true → isAsk op ≡ true
+unfolding putsIn isAsk
+putting-asks open-session e = e
+putting-asks (close-session k) e = e
+putting-asks (ask k q) e = e
+putting-asks (short-ask k lower upper room) e = e
+putting-asks (show k room) e = e
+putting-asks (explain k n) e = e
+putting-asks (obstacle k lower upper room) e = refl
+putting-asks (clauses k q) e = refl
 
 -- ---- one call on a line, sound or not
 module _ (W : ℕ) (m : Meaning) (wide : W ≤ 64) (small : m .roles ≤ 64) (own : m .authorized < 2 ^ m .roles) (anti : Antitone m)
@@ -99,6 +113,7 @@ module _ (W : ℕ) (m : Meaning) (wide : W ≤ 64) (small : m .roles ≤ 64) (ow
       go (short-ask k lower upper room) e = first-none _ bad-line _ (first-none _ bad-other _ e .1) .0
       go (show k room) e = first-none _ bad-line _ e .0
       go (explain k n) e = first-none _ bad-line _ e .0
+      go (obstacle k lower upper room) e = first-none _ bad-line _ (first-none _ bad-other _ e .1) .0
       go (clauses k q) e = first-none _ bad-line _ (first-none _ bad-other _ e .1) .0
 
   rule-kept : (op : Operation) (r : ℕ) → RoleKept m x op (readLine W bs) r (readLine W (rule W m x bs op .line))
@@ -110,16 +125,16 @@ module _ (W : ℕ) (m : Meaning) (wide : W ≤ 64) (small : m .roles ≤ 64) (ow
       go none e = unfold unless line in performed-kept W m wide small own anti x bs (free-sound op e) op r e
       go (some f) e = unfold unless in inl (le-refl (holding r (readLine W bs .sessions)))
 
-  rule-card : (op : Operation) (r : ℕ) → isAsk op ≡ true → isText op ≡ false → rule W m x bs op .reply .number ≡ 0
+  rule-card : (op : Operation) (r : ℕ) → putsIn op ≡ true → rule W m x bs op .reply .number ≡ 0
       → has (sessionAt (readLine W (rule W m x bs op .line)) (sessionOf op) .active) r ≡ true → Carded m x r (readLine W (rule W m x bs op .line))
   unfolding rule
-  rule-card op r a n = go (first (applies W m x (readLine W bs) (sessionOf op) (queryOf op)) (canGive op)) refl
+  rule-card op r a = go (first (applies W m x (readLine W bs) (sessionOf op) (queryOf op)) (canGive op)) refl
     where
       go : (o : Option Refusal) → first (applies W m x (readLine W bs) (sessionOf op) (queryOf op)) (canGive op) ≡ o
           → unless x o bs (perform W m x (readLine W bs) bs op) .reply .number ≡ 0
           → has (sessionAt (readLine W (unless x o bs (perform W m x (readLine W bs) bs op) .line)) (sessionOf op) .active) r ≡ true
           → Carded m x r (readLine W (unless x o bs (perform W m x (readLine W bs) bs op) .line))
-      go none e = unfold unless line in performed-card W m wide small own anti x bs (free-sound op e) op r a n e
+      go none e = unfold unless line in performed-card W m wide small own anti x bs (free-sound op e) op r a e
       go (some f) e = unfold unless refuse in (λ z h. absurd (refusal-number f z))
 
 -- ---- one call on a ledger, under a policy in range
@@ -182,13 +197,13 @@ module _ (W : ℕ) (wide : W ≤ 64) (p : Policy) (g : InRange p) (l : List ℕ)
           | inr k ↦ carded r (k .0) (k .1)
         ]
 
-    ruled-card : (r : ℕ) → isAsk (c .operation) ≡ true → isText (c .operation) ≡ false → stepOn W p l c .reply .number ≡ 0
+    ruled-card : (r : ℕ) → putsIn (c .operation) ≡ true → stepOn W p l c .reply .number ≡ 0
         → has (activeAt W (stepOn W p l c .ledger) c) r ≡ true → WithinLimit W p (stepOn W p l c .ledger) r
     unfolding activeAt
-    ruled-card r a n z h =
-        carded r a
+    ruled-card r a z h =
+        carded r (putting-asks (c .operation) a)
         (rule-card W (meaning p (c .user)) wide (few-roles p g (c .user)) (own-below p g (c .user)) (meaning-antitone p (c .user)) (told W p l c)
-        (lineAt (lineSize W) (c .user) l) (c .operation) r a n (ap (λ (x : Result). x .reply .number) (sym own-is) ∙ z)
+        (lineAt (lineSize W) (c .user) l) (c .operation) r a (ap (λ (x : Result). x .reply .number) (sym own-is) ∙ z)
         (ap (λ (y : Line). has (sessionAt y (sessionOf (c .operation)) .active) r) (sym own-line) ∙ h))
 
   -- a call is refused by 9 or 10, or goes by the session rules
@@ -207,11 +222,11 @@ module _ (W : ℕ) (wide : W ≤ 64) (p : Policy) (g : InRange p) (l : List ℕ)
   stepOn-kept : WithinLimits W p l → WithinLimits W p (stepOn W p l c .ledger)
   stepOn-kept f = step-cases (λ e. WithinLimits W p (e .ledger)) (λ n h. f) (λ hl hu. ruled-kept hl hu f)
 
-  stepOn-card : (r : ℕ) → isAsk (c .operation) ≡ true → isText (c .operation) ≡ false → stepOn W p l c .reply .number ≡ 0
+  stepOn-card : (r : ℕ) → putsIn (c .operation) ≡ true → stepOn W p l c .reply .number ≡ 0
       → has (activeAt W (stepOn W p l c .ledger) c) r ≡ true → WithinLimit W p (stepOn W p l c .ledger) r
-  stepOn-card r a n =
+  stepOn-card r a =
       step-cases (λ e. e .reply .number ≡ 0 → has (activeAt W (e .ledger) c) r ≡ true → WithinLimit W p (e .ledger) r)
-      (λ i h z k. unfold refuse in absurd (h z)) (λ hl hu. ruled-card hl hu r a n)
+      (λ i h z k. unfold refuse in absurd (h z)) (λ hl hu. ruled-card hl hu r a)
 
 -- ---- runs under an accepted image
 module _ (W : ℕ) (wide : W ≤ 64) (s : List ℕ) (h : Head) (accepted : judge s ≡ Accepted h) where
@@ -221,12 +236,12 @@ module _ (W : ℕ) (wide : W ≤ 64) (s : List ℕ) (h : Head) (accepted : judge
   call-kept : (l : List ℕ) → WithinLimits W (policyOf s) l → (c : Call) → WithinLimits W (policyOf s) (step W s l c .ledger)
   call-kept l f c = rw (step-on W s h accepted l c) (stepOn-kept W wide (policyOf s) ranged l c f)
 
-  call-card : (l : List ℕ) (c : Call) → isAsk (c .operation) ≡ true → isText (c .operation) ≡ false → step W s l c .reply .number ≡ 0
+  call-card : (l : List ℕ) (c : Call) → putsIn (c .operation) ≡ true → step W s l c .reply .number ≡ 0
       → (r : ℕ) → has (activeAt W (step W s l c .ledger) c) r ≡ true → WithinLimit W (policyOf s) (step W s l c .ledger) r
-  call-card l c a n z r =
+  call-card l c a z r =
       subst
       (λ (e : Event). e .reply .number ≡ 0 → has (activeAt W (e .ledger) c) r ≡ true → WithinLimit W (policyOf s) (e .ledger) r)
-      (sym (step-on W s h accepted l c)) (stepOn-card W wide (policyOf s) ranged l c r a n) z
+      (sym (step-on W s h accepted l c)) (stepOn-card W wide (policyOf s) ranged l c r a) z
 
   along : (l : List ℕ) → WithinLimits W (policyOf s) l → (cs : List Call)
       → Each (λ e. WithinLimits W (policyOf s) (e .ledger)) (run W s l cs)

@@ -1,4 +1,4 @@
--- What an ask or a clause text under a policy with limits says of lines that are not sound.
+-- What an ask, an obstacle or a clause text under a policy with limits says of lines that are not sound.
 -- Assumes nothing.
 use mathlib.Core.Path.{_≡_, refl, sym, ap, _∙_, subst}
 use mathlib.Core.Logic.{_⊎_, inl, inr}
@@ -20,7 +20,7 @@ use Rattle.model.specs.Judgement.{judge}
 use Rattle.model.specs.Policy.{Policy, policyOf, tableOf, hasLimits, Meaning, meaning}
 use Rattle.model.specs.Line.{lineSize, readLine, sound}
 use Rattle.model.specs.Limits.{Others}
-use Rattle.model.specs.Session.{Operation, open-session, close-session, ask, short-ask, show, explain, clauses, isAsk, Result, refuse, refusalNumber, refusalExtra, numberAfter, canGive, otherFirst, applies, unless, rule}
+use Rattle.model.specs.Session.{Operation, open-session, close-session, ask, short-ask, show, explain, obstacle, clauses, isAsk, Result, refuse, refusalNumber, refusalExtra, numberAfter, canGive, otherFirst, applies, unless, rule}
 use Rattle.model.specs.Run.{Call, Event, lineAt, lineOf, unsoundOther, othersOf, told, ruled, stepOn, stepBy, step}
 use Rattle.limits.specs.Eleven.{LowestUnsound, AsksEleven}
 use Rattle.model_laws.proofs.Bools.{and-r, both}
@@ -64,6 +64,7 @@ module _ (W : ℕ) (m : Meaning) (x : Others) (bs : List ℕ) where
   rule-other (short-ask k lower upper room) a e = rw (e, first)
   rule-other (show k room) a e = absurd (true≢false (sym a))
   rule-other (explain k n) a e = absurd (true≢false (sym a))
+  rule-other (obstacle k lower upper room) a e = rw (e, first)
   rule-other (clauses k q) a e = rw (e, first)
 
   -- it is the user's own
@@ -76,6 +77,7 @@ module _ (W : ℕ) (m : Meaning) (x : Others) (bs : List ℕ) where
   rule-own (short-ask k lower upper room) a e f = rw (e, f, first)
   rule-own (show k room) a e f = absurd (true≢false (sym a))
   rule-own (explain k n) a e f = absurd (true≢false (sym a))
+  rule-own (obstacle k lower upper room) a e f = rw (e, f, first)
   rule-own (clauses k q) a e f = rw (e, f, first)
 
 -- ---- a ledger, under a policy with limits

@@ -8,7 +8,7 @@ use Prim.Native.Nat.{ℕ}
 use Rattle.model.specs.Tests.{first}
 use Rattle.model.specs.Policy.{Meaning}
 use Rattle.model.specs.Limits.{Others}
-use Rattle.model.specs.Session.{Operation, open-session, close-session, ask, short-ask, show, explain, clauses, isAsk, refuse, Result, Refusal, bad-line, bad-session, is-closed, is-full, bad-room, not-below, not-carried, refusalNumber, canGive, applies, perform, refusalExtra, unless, rule}
+use Rattle.model.specs.Session.{Operation, open-session, close-session, ask, short-ask, show, explain, obstacle, clauses, isAsk, refuse, Result, Refusal, bad-line, bad-session, is-closed, is-full, bad-room, not-below, not-carried, refusalNumber, canGive, applies, perform, refusalExtra, unless, rule}
 use Rattle.model.specs.Ranges.{Each}
 
 -- two tests that agree on the refusals of a list, whose extras agree, refuse alike
@@ -28,7 +28,7 @@ module _ (x y : Others) (f g : Refusal → Bool) (bs : List ℕ) (r : Result) wh
       go false true p ih = absurd (true≢false (sym p))
       go false false p ih = ih
 
--- only an ask or a clause text takes account of what it is told
+-- only an ask, an obstacle or a clause text takes account of what it is told
 pub one-line : (W : ℕ) (m : Meaning) (x y : Others) (bs : List ℕ) (op : Operation) → isAsk op ≡ false → rule W m x bs op ≡ rule W m y bs op
 unfolding rule isAsk perform canGive applies refusalExtra
 one-line W m x y bs open-session e = same-refusal x y _ _ bs _ (bad-line ∷ is-full ∷ []) ((refl, refl), ((refl, refl), tt))
@@ -41,4 +41,5 @@ one-line W m x y bs (show k room) e =
 one-line W m x y bs (explain k n) e =
     same-refusal x y _ _ bs _ (bad-line ∷ bad-session ∷ is-closed ∷ not-below n ∷ not-carried n ∷ [])
     ((refl, refl), ((refl, refl), ((refl, refl), ((refl, refl), ((refl, refl), tt)))))
+one-line W m x y bs (obstacle k lower upper room) e = absurd (true≢false e)
 one-line W m x y bs (clauses k q) e = absurd (true≢false e)

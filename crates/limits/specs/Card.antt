@@ -1,14 +1,14 @@
 -- Limits are kept (001: CARD): the roles that an ask puts in are within their limits, and no call takes any role over its limit.
 -- Assumes nothing.
 use mathlib.Core.Path.{_≡_}
-use mathlib.Core.Bool.{true, false}
+use mathlib.Core.Bool.{true}
 use mathlib.Core.List.{List}
 use Prim.Native.Nat.{ℕ, _*_, _<_}
 use lib.ListN.{getD, replicate}
 use Rattle.model.specs.Sets.{has, sumTo}
 use Rattle.model.specs.Policy.{Policy, policyOf, limited}
 use Rattle.model.specs.Line.{lineSize, sessionAt}
-use Rattle.model.specs.Session.{isText, isAsk, sessionOf}
+use Rattle.model.specs.Session.{putsIn, sessionOf}
 use Rattle.model.specs.Run.{Call, lineOf, holdingOf, step, run}
 use Rattle.model.specs.Ranges.{Each}
 
@@ -30,7 +30,7 @@ activeAt W ledger c = sessionAt (lineOf W ledger (c .user)) (sessionOf (c .opera
 
 pub record LimitsKept (W : ℕ) (image : List ℕ) : Type 0 where
   -- after an ask that is done, each role that it put in is within its limit, whatever the ledger was before
-  pub card : (ledger : List ℕ) (c : Call) → isAsk (c .operation) ≡ true → isText (c .operation) ≡ false → step W image ledger c .reply .number ≡ 0
+  pub card : (ledger : List ℕ) (c : Call) → putsIn (c .operation) ≡ true → step W image ledger c .reply .number ≡ 0
       → (r : ℕ) → has (activeAt W (step W image ledger c .ledger) c) r ≡ true → WithinLimit W (policyOf image) (step W image ledger c .ledger) r
   -- where no role is over its limit before a call, none is after it
   pub call : (ledger : List ℕ) → WithinLimits W (policyOf image) ledger → (c : Call)

@@ -1,5 +1,5 @@
--- What an ask or a clause text under a policy with limits says of lines that are not sound: it is refused by 11 exactly if there is one, and the extra
--- names the lowest user with one, plus 1, unless that is the asker.
+-- What an ask, an obstacle or a clause text under a policy with limits says of lines that are not sound: it is refused by 11 exactly if there
+-- is one, and the extra names the lowest user with one, plus 1, unless that is the asker.
 -- Assumes nothing.
 use mathlib.Core.Path.{_≡_}
 use mathlib.Core.Bool.{true, false}
@@ -25,7 +25,7 @@ pub record Eleven (W : ℕ) (p : Policy) (ledger : List ℕ) (u : ℕ) (r : Repl
   pub extra : (v : ℕ) → LowestUnsound W p ledger v → r .extra ≡ pick (eqb v u) 0 (v + 1)
   pub otherwise : ((v : ℕ) → v < p .head .users → sound W (meaning p v) (lineOf W ledger v) ≡ true) → ¬ (r .number ≡ 11)
 
--- so is every ask and clause text of a user with a line, on a ledger that fits
+-- so is every ask, obstacle and clause text of a user with a line, on a ledger that fits
 abbrev pub AsksEleven : ℕ → List ℕ → Type 0
 AsksEleven W image =
     hasLimits (policyOf image) ≡ true → (ledger : List ℕ) → length ledger ≡ lineSize W * policyOf image .head .users → (c : Call)

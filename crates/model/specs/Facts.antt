@@ -10,6 +10,7 @@ use native.Mathlib.Omega.{arith}
 use lib.Dec.{eqb}
 use lib.ListN.{getD, replicate}
 use Rattle.model.specs.declared.Head.{Head}
+use Rattle.model.specs.declared.Kind.{Kind}
 use Rattle.model.specs.declared.Kind.the-variants.{SsDmer, MsDmer, MsHmer}
 use Rattle.model.specs.declared.Exclusion.{Exclusion}
 use Rattle.model.specs.declared.Entry.the-variants.{Assignment, Grant, Senior, Exclude, Member, Limit, End}
@@ -27,9 +28,10 @@ use Rattle.model.specs.Line.{SESSIONS, activeIn, counted, holding, putIn
 use Rattle.model.specs.Limits.{nobody, barred}
 use Rattle.model.specs.Choice.{admissible, better, cost, permissionCost, roleCost}
 use Rattle.model.specs.Reduced.{stays}
+use Rattle.model.specs.Obstacle.{obstacleOf}
 use Rattle.model.specs.Clauses.{must, mustNot, soft}
 use Rattle.model.specs.Dimacs.{textOf}
-use Rattle.model.specs.Session.{Query, Operation, ask, short-ask, explain, clauses, queryOf, refuse, done, given, asked, canGive, carrier, numberAfter, textFor, twoRoles, applies, unless, is-full, bad-session, bad-permission, bad-aim, not-below}
+use Rattle.model.specs.Session.{Query, Operation, ask, short-ask, explain, obstacle, clauses, isAsk, queryOf, refuse, done, given, tell, asked, canGive, carrier, numberAfter, textFor, twoRoles, applies, unless, is-full, bad-session, bad-permission, bad-aim, bad-pair, not-below}
 use Rattle.model.specs.Loop.{chainDown, loopCall, loopFrom, loopLength, shownChain}
 use Rattle.model.specs.Run.{answered, openBy, returned, stepBy, stepOn, unsoundOther}
 use Rattle.model.specs.Moves.{moveAnswer, moveOn, resized, writtenIf}
@@ -345,6 +347,50 @@ pub lower-number : better carrying 0 0 1 2 ≡ true
 unfolding computing
 lower-number = refl
 
+-- ---- what stands in the way
+
+-- the roles 0 and 1 bar each other, by a kind
+abbrev bothOf : Kind → Exclusion
+bothOf kind = record { kind = kind; limit = 2; members = 3 }
+
+-- role 0 carries the permissions 0 and 2, role 1 permission 1, role 2 permission 3; the user may activate the roles 0 and 1; role 1 has the
+-- limit 2; of two exclusions of the roles 0 and 1 the later by kind stands first in the image
+abbrev obstructing : Meaning
+obstructing =
+    record {
+      user = 0;
+      roles = 3;
+      permissions = 4;
+      authorized = 3;
+      carried = 5 ∷ 2 ∷ 8 ∷ [];
+      granter = λ m r. none;
+      allMet = λ f. true;
+      exclusions = bothOf MsHmer ∷ bothOf SsDmer ∷ [];
+      ordered = sorted (bothOf MsHmer ∷ bothOf SsDmer ∷ []);
+      limits = 0 ∷ 2 ∷ 0 ∷ [];
+    }
+
+-- permission 3 is none of the user's, which comes before permission 0, whose role carries permission 2 too
+pub own-first : obstacleOf obstructing nobody busy 0 9 9 ≡ some (record { kind = 1; about = 3; first = 4; second = 0 })
+unfolding computing
+own-first = refl
+
+-- both permissions have roles that carry something outside the upper bound
+pub lowest-lacked : obstacleOf obstructing nobody busy 0 3 0 ≡ some (record { kind = 2; about = 0; first = 1; second = 0 })
+unfolding computing
+lowest-lacked = refl
+
+-- another user holds role 1
+pub limit-told : obstacleOf obstructing (record { held = λ r. 1; unsound = none }) busy 0 2 15
+    ≡ some (record { kind = 3; about = 1; first = 2; second = 0 })
+unfolding computing
+limit-told = refl
+
+-- an exclusion of kind 0, which counts no role already, is named before one of kind 3
+pub tidy-order-first : obstacleOf obstructing nobody busy 0 3 15 ≡ some (record { kind = 4; about = 8; first = 0; second = 3 })
+unfolding computing
+tidy-order-first = refl
+
 -- ---- calls
 
 abbrev query : ℕ → ℕ → ℕ → Query
@@ -369,6 +415,20 @@ below-before-carried = refl
 pub aim-before-room : first (applies 1 (two 3) nobody busy 0 (query 1 3 39)) (canGive (ask 0 (query 1 3 39))) ≡ some bad-aim
 unfolding computing
 aim-before-room = refl
+
+pub room-before-clear : first (applies 1 (two 3) nobody busy 0 (query 1 0 40)) (canGive (obstacle 0 [] [] 40)) ≡ some bad-pair
+unfolding computing
+room-before-clear = refl
+
+pub obstacle-told : tell (record { kind = 4; about = 8; first = 1; second = 3 })
+    ≡ record { number = 0; extra = 68; filled = bytesOf 8 1 ++ bytesOf 8 3 }
+unfolding computing
+obstacle-told = refl
+
+-- an obstacle is told of the other users as an ask is
+pub obstacle-looks : isAsk (obstacle 0 [] [] 16) ≡ true
+unfolding computing
+obstacle-looks = refl
 
 pub lowest-carrier : carrier (λ r. some 0) 3 ≡ some 0
 unfolding computing

@@ -15,8 +15,8 @@ use Rattle.model.specs.Tests.{all}
 use Rattle.model.specs.Policy.{Meaning}
 use Rattle.model.specs.Line.{lineSize, readLine, writeLine}
 use Rattle.model.specs.Limits.{Others}
-use Rattle.model.specs.Session.{Operation, open-session, close-session, sessionOf, queryOf, isText, rule}
-use Rattle.model.specs.Run.{Call, Event, step, answered, written, showBy, explainBy, clausesBy}
+use Rattle.model.specs.Session.{Operation, open-session, close-session, sessionOf, queryOf, isText, answerSize, rule}
+use Rattle.model.specs.Run.{Call, Event, step, answered, written, showBy, explainBy, obstacleBy, clausesBy}
 
 -- ---- a line and its bytes
 
@@ -39,14 +39,14 @@ abbrev pub Outside : ℕ → ℕ → ℕ → Type 0
 Outside z u i = (i < z * u) ⊎ (z * u + z ≤ i)
 
 -- A call, on lines of z bytes, keeps the ledger's length and every byte outside its user's line. A refused one, whose number is not 0,
--- keeps the whole ledger and fills nothing; one that is done fills nothing or the 40 bytes of the answer buffer, and a clause text as many
--- bytes as its extra says.
+-- keeps the whole ledger and fills nothing; one that is done fills nothing or the whole answer buffer, 16 bytes for an obstacle and else 40, and
+-- a clause text as many bytes as its extra says.
 pub record Frame (z : ℕ) (c : Call) (before : List ℕ) (e : Event) : Type 0 where
   pub keeps-length : length (e .ledger) ≡ length before
   pub outside : (i : ℕ) → Outside z (c .user) i → getD (e .ledger) i 0 ≡ getD before i 0
   pub refused-ledger : ¬ (e .reply .number ≡ 0) → e .ledger ≡ before
   pub refused-filled : ¬ (e .reply .number ≡ 0) → e .reply .filled ≡ []
-  pub filled : isText (c .operation) ≡ false → (e .reply .filled ≡ []) ⊎ (length (e .reply .filled) ≡ 40)
+  pub filled : isText (c .operation) ≡ false → (e .reply .filled ≡ []) ⊎ (length (e .reply .filled) ≡ answerSize (c .operation))
   pub text : isText (c .operation) ≡ true → (e .reply .filled ≡ []) ⊎ (length (e .reply .filled) ≡ e .reply .extra)
 
 -- every call is framed so, under any image and on any ledger
@@ -61,6 +61,11 @@ ShowKeeps W = (image ledger : List ℕ) (u k room : ℕ) → step W image ledger
 pub record ExplainKeeps (W : ℕ) (image ledger : List ℕ) (u k n : ℕ) : Type 0 where
   pub ledger-kept : step W image ledger (explainBy u k n) .ledger ≡ ledger
   pub nothing-filled : step W image ledger (explainBy u k n) .reply .filled ≡ []
+
+-- an obstacle keeps the whole ledger
+abbrev pub ObstacleKeeps : ℕ → Type 0
+ObstacleKeeps W = (image ledger : List ℕ) (u k : ℕ) (lower upper : List ℕ) (room : ℕ)
+    → step W image ledger (obstacleBy u k lower upper room) .ledger ≡ ledger
 
 -- a clause text keeps the whole ledger
 abbrev pub ClausesKeep : ℕ → Type 0

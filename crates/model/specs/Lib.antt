@@ -9,6 +9,7 @@ pub mod Line
 pub mod Limits
 pub mod Choice
 pub mod Reduced
+pub mod Obstacle
 pub mod Clauses
 pub mod Dimacs
 pub mod Session
@@ -25,6 +26,7 @@ pub mod Conditions
 pub mod Ranges
 pub mod Kept
 pub mod Explained
+pub mod Obstacles
 pub mod Moves
 pub mod Computing
 pub mod Facts

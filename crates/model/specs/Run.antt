@@ -15,7 +15,7 @@ use Rattle.model.specs.Judgement.{judge}
 use Rattle.model.specs.Policy.{Policy, policyOf, tableOf, limited, hasLimits, meaning}
 use Rattle.model.specs.Line.{lineSize, readLine, holding, sound}
 use Rattle.model.specs.Limits.{Others, nobody}
-use Rattle.model.specs.Session.{Operation, open-session, close-session, ask, short-ask, show, explain, clauses, isAsk, Reply, refuse, rule}
+use Rattle.model.specs.Session.{Operation, open-session, close-session, ask, short-ask, show, explain, obstacle, clauses, isAsk, Reply, refuse, rule}
 
 -- a call is made by the user that it names
 pub record Call : Type 0 where
@@ -57,7 +57,7 @@ othersOf W p u ledger =
       unsound = first (unsoundOther W p u ledger) (tableOf (p .head .users) (λ v. v));
     }
 
--- what a call is told of the other users: nothing, unless it is an ask and the policy has limits
+-- what a call is told of the other users: nothing, unless it looks at them and the policy has limits
 unfoldable pub told : ℕ → Policy → List ℕ → Call → Others
 told W p ledger c = elim (isAsk (c .operation) && hasLimits p) [ true ↦ othersOf W p (c .user) ledger | false ↦ nobody ]
 
@@ -134,6 +134,9 @@ showBy u k room = record { user = u; operation = show k room }
 
 unfoldable pub explainBy : ℕ → ℕ → ℕ → Call
 explainBy u k n = record { user = u; operation = explain k n }
+
+unfoldable pub obstacleBy : ℕ → ℕ → List ℕ → List ℕ → ℕ → Call
+obstacleBy u k lower upper room = record { user = u; operation = obstacle k lower upper room }
 
 unfoldable pub clausesBy : ℕ → ℕ → List ℕ → List ℕ → ℕ → ℕ → ℕ → Call
 clausesBy u k lower upper a b room =

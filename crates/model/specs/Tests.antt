@@ -43,6 +43,11 @@ lowest f k (suc d) = elim (f k) [ true ↦ k | false ↦ lowest f (suc k) d ]
 unfoldable pub ifBelow : ℕ → ℕ → Option ℕ
 ifBelow bound n = elim (ltb n bound) [ true ↦ some n | false ↦ none ]
 
+-- the first where there is one, else the second
+unfoldable pub orElse : {A : Type 0} → Option A → Option A → Option A
+orElse none y = y
+orElse (some x) y = some x
+
 -- there is one
 unfoldable pub isSome : Option ℕ → Bool
 isSome none = false

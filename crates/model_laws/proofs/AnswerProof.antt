@@ -1,5 +1,5 @@
--- The answer buffer of a call keeps its length: an answer fills nothing, or 40 bytes of a buffer that was tested to have 40, or the front
--- of a buffer that was tested to have room for it.
+-- The answer buffer of a call keeps its length: an answer fills nothing, or all the bytes of a buffer that was tested to have
+-- as many, or the front of a buffer that was tested to have room for it.
 -- Assumes nothing.
 use mathlib.Core.Path.{_≡_, refl, sym, ap, _∙_}
 use mathlib.Core.Logic.{_⊎_, inl, inr}
@@ -17,7 +17,7 @@ use Rattle.model.specs.Judgement.{judge}
 use Rattle.model.specs.Policy.{Meaning, policyOf}
 use Rattle.model.specs.Line.{readLine}
 use Rattle.model.specs.Limits.{Others}
-use Rattle.model.specs.Session.{Query, Operation, open-session, close-session, ask, short-ask, show, explain, clauses, sessionOf, queryOf, isText, Reply, refuse, done, Refusal, bad-room, too-long, canGive, textFor, wrote, applies, perform, rule}
+use Rattle.model.specs.Session.{Query, Operation, open-session, close-session, ask, short-ask, show, explain, obstacle, clauses, sessionOf, queryOf, isText, answerSize, Reply, refuse, done, Refusal, bad-room, bad-pair, too-long, canGive, textFor, wrote, applies, perform, rule}
 use Rattle.model.specs.Run.{Call, ruled, step, filledWith, answered, written}
 use Rattle.model.specs.Frames.{AnswerKeepsLength, TextsKeep}
 use Rattle.model_laws.proofs.CallLaws.{first-none}
@@ -31,9 +31,9 @@ none-at f [] e i d l = absurd (omega arith)
 none-at f (x ∷ xs) e zero d l = first-none f x xs e .0
 none-at f (x ∷ xs) e (suc i) d l = none-at f xs (first-none f x xs e .1) i d (omega arith)
 
--- an answer fills nothing, or the buffer of the call has 40 bytes; a clause text fits
+-- an answer fills nothing, or the buffer of the call has the size of its answer; a clause text fits
 abbrev Roomy : Operation → Reply → Type 0
-Roomy op r = (r .filled ≡ []) ⊎ ((isText op ≡ false → queryOf op .room ≡ 40) × (isText op ≡ true → length (r .filled) ≤ queryOf op .room))
+Roomy op r = (r .filled ≡ []) ⊎ ((isText op ≡ false → queryOf op .room ≡ answerSize op) × (isText op ≡ true → length (r .filled) ≤ queryOf op .room))
 
 -- ---- the session rules
 module _ (W : ℕ) (m : Meaning) (x : Others) (bs : List ℕ) where
@@ -46,27 +46,38 @@ module _ (W : ℕ) (m : Meaning) (x : Others) (bs : List ℕ) where
   unfolding applies
   room-right op e = eqb-true (queryOf op .room) 40 (not-false (eqb (queryOf op .room) 40) e)
 
+  -- that of an obstacle is 16
+  pair-right : (op : Operation) → tests op bad-pair ≡ false → queryOf op .room ≡ 16
+  unfolding applies
+  pair-right op e = eqb-true (queryOf op .room) 16 (not-false (eqb (queryOf op .room) 16) e)
+
   -- where a text is not too long, it fits
   text-room : (k : ℕ) (q : Query) → tests (clauses k q) too-long ≡ false → length (textFor m x (readLine W bs) k q) ≤ q .room
   unfolding applies sessionOf queryOf
   text-room k q e = ltb-false (q .room) (length (textFor m x (readLine W bs) k q)) e
 
   -- so has a call that is no clause text
-  plain-room : (op : Operation) → isText op ≡ false → tests op bad-room ≡ false
-      → (isText op ≡ false → queryOf op .room ≡ 40) × (isText op ≡ true → length (perform W m x (readLine W bs) bs op .reply .filled) ≤ queryOf op .room)
-  plain-room op t e = (λ _. room-right op e, λ f. absurd (true≢false (sym f ∙ t)))
+  plain-room : (op : Operation) → isText op ≡ false → queryOf op .room ≡ answerSize op → Roomy op (perform W m x (readLine W bs) bs op .reply)
+  plain-room op t e = inr (λ _. e, λ f. absurd (true≢false (sym f ∙ t)))
 
   -- a call that fills can refuse the room
   perform-roomy : (op : Operation) → first (tests op) (canGive op) ≡ none → Roomy op (perform W m x (readLine W bs) bs op .reply)
-  unfolding perform done canGive isText wrote textFor queryOf
+  unfolding perform done canGive isText answerSize wrote textFor queryOf
   perform-roomy open-session e = inl refl
   perform-roomy (close-session k) e = inl refl
-  perform-roomy (ask k q) e = inr (plain-room (ask k q) refl (none-at (tests (ask k q)) (canGive (ask k q)) e 8 bad-room (omega arith)))
+  perform-roomy (ask k q) e =
+      let op = ask k q in
+      plain-room op refl (room-right op (none-at (tests op) (canGive op) e 8 bad-room (omega arith)))
   perform-roomy (short-ask k lower upper room) e =
       let op = short-ask k lower upper room in
-      inr (plain-room op refl (none-at (tests op) (canGive op) e 7 bad-room (omega arith)))
-  perform-roomy (show k room) e = inr (plain-room (show k room) refl (none-at (tests (show k room)) (canGive (show k room)) e 3 bad-room (omega arith)))
+      plain-room op refl (room-right op (none-at (tests op) (canGive op) e 7 bad-room (omega arith)))
+  perform-roomy (show k room) e =
+      let op = show k room in
+      plain-room op refl (room-right op (none-at (tests op) (canGive op) e 3 bad-room (omega arith)))
   perform-roomy (explain k n) e = inl (explained-fills bs _)
+  perform-roomy (obstacle k lower upper room) e =
+      let op = obstacle k lower upper room in
+      plain-room op refl (pair-right op (none-at (tests op) (canGive op) e 7 bad-pair (omega arith)))
   perform-roomy (clauses k q) e =
       inr (λ f. absurd (true≢false f), λ f. text-room k q (none-at (tests (clauses k q)) (canGive (clauses k q)) e 8 too-long (omega arith)))
 

@@ -23,7 +23,8 @@ use Rattle.model.specs.Policy.{limited, Meaning, authorized}
 use Rattle.model.specs.Line.{readLine, writeLine, emptySession, sessionAt, isOpen, holding, others, exclusionsMet, sound, lowestClosed, opening, closing, putIn}
 use Rattle.model.specs.Limits.{Others}
 use Rattle.model.specs.Choice.{carriedBy, admissible}
-use Rattle.model.specs.Session.{Query, Operation, open-session, close-session, ask, short-ask, show, explain, clauses, sessionOf, queryOf, isText, isAsk, refuse, done, given, wrote, Refusal, bad-other, bad-line, bad-session, is-closed, is-full, bad-set, bad-permission, bad-bounds, bad-aim, bad-room, no-set, not-below, not-carried, too-long, refusalNumber, canGive, chosen, otherFirst, applies, explanation, asked, explained, perform, rule}
+use Rattle.model.specs.Obstacle.{Obstacle}
+use Rattle.model.specs.Session.{Query, Operation, open-session, close-session, ask, short-ask, show, explain, obstacle, clauses, sessionOf, queryOf, isAsk, putsIn, refuse, done, given, tell, wrote, Refusal, bad-other, bad-line, bad-session, is-closed, is-full, bad-set, bad-permission, bad-bounds, bad-aim, bad-room, no-set, not-below, not-carried, bad-pair, no-obstacle, too-long, refusalNumber, canGive, chosen, obstacleFor, otherFirst, applies, explanation, asked, explained, obstructed, perform, rule}
 use Rattle.model.specs.Frames.{fitsSession, fitsLine}
 use Rattle.model.specs.Conditions.{Card}
 use Rattle.model.specs.Kept.{Antitone, SoundBytes}
@@ -32,7 +33,7 @@ use Rattle.model_laws.proofs.Every.{at-all}
 use Rattle.model_laws.proofs.Choices.{within-below}
 use Rattle.model_laws.proofs.UnionLaws.{has-none}
 use Rattle.model_laws.proofs.Barred.{chosen-is, holding-set, holding-put, holding-others, card-is}
-use Rattle.model_laws.proofs.LineLaws.{length-readSessions, unless-case, explained-line}
+use Rattle.model_laws.proofs.LineLaws.{length-readSessions, unless-case, explained-line, obstructed-line}
 use Rattle.model_laws.proofs.RoundTrip.{read-write}
 use Rattle.model_laws.proofs.SoundLaws.{SoundLine, sound-parts, parts-sound, opening-sound, closing-sound, putting-sound}
 use Rattle.model_laws.proofs.CallLaws.{first-none, first-some, lowest-closed}
@@ -156,6 +157,7 @@ module _ (W : ℕ) (m : Meaning) (wide : W ≤ 64) (small : m .roles ≤ 64) (ow
       asked-well k q (there k q _ (first-none _ bad-other _ e .1)) (chosen m x line k q) refl
   performed-well (show k room) e = safe
   performed-well (explain k n) e = subst (SoundBytes W m) (sym (explained-line bs _)) safe
+  performed-well (obstacle k lower upper room) e = subst (SoundBytes W m) (sym (obstructed-line bs _)) safe
   performed-well (clauses k q) e = safe
 
   -- a call on a sound line leaves a sound line
@@ -179,6 +181,8 @@ module _ (W : ℕ) (m : Meaning) (wide : W ≤ 64) (small : m .roles ≤ 64) (ow
   other-refusal quiet no-set k q a e = omega arith
   other-refusal quiet (not-below n) k q a e = omega arith
   other-refusal quiet (not-carried n) k q a e = omega arith
+  other-refusal quiet bad-pair k q a e = omega arith
+  other-refusal quiet no-obstacle k q a e = omega arith
   other-refusal quiet too-long k q a e = omega arith
 
   -- an ask gives 0 or 20
@@ -193,6 +197,12 @@ module _ (W : ℕ) (m : Meaning) (wide : W ≤ 64) (small : m .roles ≤ 64) (ow
   explained-answer none e = omega arith
   explained-answer (some y) e = omega arith
 
+  -- and an obstacle
+  obstructed-answer : (o : Option Obstacle) → ¬ (obstructed bs o .reply .number ≡ 11)
+  unfolding obstructed refuse tell
+  obstructed-answer none e = omega arith
+  obstructed-answer (some y) e = omega arith
+
   -- the work done gives 0 or 20
   performed-answer : (op : Operation) → ¬ (perform W m x line bs op .reply .number ≡ 11)
   unfolding perform done given wrote
@@ -202,6 +212,7 @@ module _ (W : ℕ) (m : Meaning) (wide : W ≤ 64) (small : m .roles ≤ 64) (ow
   performed-answer (short-ask k lower upper room) e = asked-answer k (chosen m x line k (queryOf (short-ask k lower upper room))) e
   performed-answer (show k room) e = omega arith
   performed-answer (explain k n) e = explained-answer (explanation (m .granter n) (sessionAt line k .active)) e
+  performed-answer (obstacle k lower upper room) e = obstructed-answer (obstacleFor m x line k (queryOf (obstacle k lower upper room))) e
   performed-answer (clauses k q) e = omega arith
 
   -- a call on a sound line does not answer 11
@@ -260,6 +271,7 @@ module _ (W : ℕ) (m : Meaning) (wide : W ≤ 64) (small : m .roles ≤ 64) (ow
       asked-kept (short-ask k lower upper room) refl k q r (there k q _ (first-none _ bad-other _ e .1)) (chosen m x line k q) refl
   performed-kept (show k room) r e = inl (le-refl (holding r (line .sessions)))
   performed-kept (explain k n) r e = inl (rw (explained-line bs _) (le-refl (holding r (line .sessions))))
+  performed-kept (obstacle k lower upper room) r e = inl (rw (obstructed-line bs _) (le-refl (holding r (line .sessions))))
   performed-kept (clauses k q) r e = inl (le-refl (holding r (line .sessions)))
 
   -- the roles that an ask puts in are within their limits
@@ -275,16 +287,17 @@ module _ (W : ℕ) (m : Meaning) (wide : W ≤ 64) (small : m .roles ≤ 64) (ow
       put-active : (k s : ℕ) → There k → sessionAt (putIn k s line) k .active ≡ s
       put-active k s t = unfold putIn sessionAt in (ap (λ (a : Session). a .active) (getD-set-same (line .sessions) k _ emptySession (in-line k t)))
 
-  pub performed-card : (op : Operation) (r : ℕ) → isAsk op ≡ true → isText op ≡ false → Free op → perform W m x line bs op .reply .number ≡ 0
+  pub performed-card : (op : Operation) (r : ℕ) → putsIn op ≡ true → Free op → perform W m x line bs op .reply .number ≡ 0
       → has (sessionAt (readLine W (perform W m x line bs op .line)) (sessionOf op) .active) r ≡ true
       → Carded m x r (readLine W (perform W m x line bs op .line))
-  unfolding perform canGive sessionOf queryOf isAsk isText
-  performed-card open-session r a n e z h = absurd (true≢false (sym a))
-  performed-card (close-session k) r a n e z h = absurd (true≢false (sym a))
-  performed-card (ask k q) r a n e z h = asked-card k q r (there k q _ (first-none _ bad-other _ e .1)) (chosen m x line k q) refl z h
-  performed-card (short-ask k lower upper room) r a n e z h =
+  unfolding perform canGive sessionOf queryOf putsIn
+  performed-card open-session r a e z h = absurd (true≢false (sym a))
+  performed-card (close-session k) r a e z h = absurd (true≢false (sym a))
+  performed-card (ask k q) r a e z h = asked-card k q r (there k q _ (first-none _ bad-other _ e .1)) (chosen m x line k q) refl z h
+  performed-card (short-ask k lower upper room) r a e z h =
       let q = queryOf (short-ask k lower upper room) in
       asked-card k q r (there k q _ (first-none _ bad-other _ e .1)) (chosen m x line k q) refl z h
-  performed-card (show k room) r a n e z h = absurd (true≢false (sym a))
-  performed-card (explain k p) r a n e z h = absurd (true≢false (sym a))
-  performed-card (clauses k q) r a n e z h = absurd (true≢false n)
+  performed-card (show k room) r a e z h = absurd (true≢false (sym a))
+  performed-card (explain k p) r a e z h = absurd (true≢false (sym a))
+  performed-card (obstacle k lower upper room) r a e z h = absurd (true≢false (sym a))
+  performed-card (clauses k q) r a e z h = absurd (true≢false (sym a))

@@ -4,7 +4,7 @@ use mathlib.Core.Path.{_≡_, refl, sym, ap, ap₂, _∙_}
 use mathlib.Core.Logic.{_⊎_, inl, inr}
 use mathlib.Core.Bool.{true, false, true≢false}
 use mathlib.Core.Option.{Option, none, some}
-use mathlib.Core.List.{List, []}
+use mathlib.Core.List.{List, [], _++_}
 use Prim.Native.Nat.{ℕ, _+_, _*_, _<_}
 use lib.ListN.{length, length-append}
 use Rattle.model.specs.declared.Line.{Line}
@@ -14,24 +14,29 @@ use Rattle.model.specs.Judgement.{judge}
 use Rattle.model.specs.Policy.{Policy, Meaning, policyOf, meaning}
 use Rattle.model.specs.Line.{lineSize, readLine}
 use Rattle.model.specs.Limits.{Others}
-use Rattle.model.specs.Session.{Query, Operation, open-session, close-session, ask, short-ask, show, explain, clauses, isText, refuse, done, given, wrote, Result, asked, explained, perform, rule}
-use Rattle.model.specs.Run.{Call, lineAt, withLine, told, ruled, stepBy, step, showBy, explainBy, clausesBy}
-use Rattle.model.specs.Frames.{Frame, StepFrame, ShowKeeps, ExplainKeeps, ClausesKeep}
-use Rattle.model_laws.proofs.LineLaws.{unless-case, unless-part, explained-line, length-bytesOf}
+use Rattle.model.specs.Obstacle.{Obstacle}
+use Rattle.model.specs.Session.{Query, Operation, open-session, close-session, ask, short-ask, show, explain, obstacle, clauses, isText, answerSize, refuse, done, given, tell, wrote, Result, asked, explained, obstructed, perform, rule}
+use Rattle.model.specs.Run.{Call, lineAt, withLine, told, ruled, stepBy, step, showBy, explainBy, obstacleBy, clausesBy}
+use Rattle.model.specs.Frames.{Frame, StepFrame, ShowKeeps, ExplainKeeps, ObstacleKeeps, ClausesKeep}
+use Rattle.model_laws.proofs.LineLaws.{unless-case, unless-part, explained-line, obstructed-line, length-bytesOf}
 use Rattle.model_laws.proofs.LedgerLaws.{patch-outside, apart, withLine-length, own-line, step-case, new-length}
 
 -- ---- what the session rules answer
 
--- a refused call keeps the line and fills nothing; a done one fills nothing or 40 bytes, or a text of the length that it tells
+-- a refused call keeps the line and fills nothing; a done one fills nothing or the whole answer buffer, or a text of the length that it tells
 record Quiet (op : Operation) (bs : List ℕ) (r : Result) : Type 0 where
   line : ¬ (r .reply .number ≡ 0) → r .line ≡ bs
   filled : ¬ (r .reply .number ≡ 0) → r .reply .filled ≡ []
-  room : isText op ≡ false → (r .reply .filled ≡ []) ⊎ (length (r .reply .filled) ≡ 40)
+  room : isText op ≡ false → (r .reply .filled ≡ []) ⊎ (length (r .reply .filled) ≡ answerSize op)
   text : isText op ≡ true → (r .reply .filled ≡ []) ⊎ (length (r .reply .filled) ≡ r .reply .extra)
 
--- a call that is no clause text
+-- a call that is no clause text and fills 40 bytes
 abbrev Plain : Operation → Type 0
-Plain op = isText op ≡ false
+Plain op = (isText op ≡ false) × (answerSize op ≡ 40)
+
+-- two numbers as bytes, one behind the other
+two-lengths : (a b n k : ℕ) → length (bytesOf a n ++ bytesOf b k) ≡ a + b
+two-lengths a b n k = length-append (bytesOf a n) (bytesOf b k) ∙ ap₂ _+_ (length-bytesOf a n) (length-bytesOf b k)
 
 -- the three sorts of answer: done, refused, done with roles and permissions
 done-quiet : (op : Operation) (bs after : List ℕ) (x : ℕ) → Quiet op bs (record { reply = done x; line = after })
@@ -50,8 +55,8 @@ given-quiet op t bs after roles permissions =
     record {
       line = λ h. absurd (h refl);
       filled = λ h. absurd (h refl);
-      text = λ e. absurd (true≢false (sym e ∙ t));
-      room = λ _. inr (length-append (bytesOf 8 roles) (bytesOf 32 permissions) ∙ ap₂ _+_ (length-bytesOf 8 roles) (length-bytesOf 32 permissions));
+      text = λ e. absurd (true≢false (sym e ∙ t .0));
+      room = λ _. inr (two-lengths 8 32 roles permissions ∙ sym (t .1));
     }
 
 -- an explain, which fills nothing
@@ -59,6 +64,19 @@ explained-quiet : (op : Operation) (bs : List ℕ) (o : Option ℕ) → Quiet op
 unfolding explained
 explained-quiet op bs none = refuse-quiet op bs 20 0
 explained-quiet op bs (some x) = done-quiet op bs bs x
+
+-- an obstacle, which fills 16 bytes
+obstructed-quiet : (k : ℕ) (lower upper : List ℕ) (room : ℕ) (bs : List ℕ) (o : Option Obstacle)
+    → Quiet (obstacle k lower upper room) bs (obstructed bs o)
+unfolding obstructed tell isText answerSize
+obstructed-quiet k lower upper room bs none = refuse-quiet (obstacle k lower upper room) bs 20 0
+obstructed-quiet k lower upper room bs (some o) =
+    record {
+      line = λ h. refl;
+      filled = λ h. absurd (h refl);
+      text = λ e. absurd (true≢false (sym e));
+      room = λ _. inr (two-lengths 8 8 (o .first) (o .second));
+    }
 
 -- a clause text
 wrote-quiet : (k : ℕ) (q : Query) (bs text : List ℕ) → Quiet (clauses k q) bs (record { reply = wrote text; line = bs })
@@ -79,13 +97,14 @@ module _ (W : ℕ) (m : Meaning) (x : Others) (bs : List ℕ) where
   asked-quiet op t l k (some s) = given-quiet op t bs _ _ _
 
   perform-quiet : (l : Line) (op : Operation) → Quiet op bs (perform W m x l bs op)
-  unfolding perform isText
+  unfolding perform isText answerSize
   perform-quiet l open-session = done-quiet open-session bs _ _
   perform-quiet l (close-session k) = done-quiet (close-session k) bs _ _
-  perform-quiet l (ask k q) = asked-quiet (ask k q) refl l k _
-  perform-quiet l (short-ask k lower upper room) = asked-quiet (short-ask k lower upper room) refl l k _
-  perform-quiet l (show k room) = given-quiet (show k room) refl bs _ _ _
+  perform-quiet l (ask k q) = asked-quiet (ask k q) (refl, refl) l k _
+  perform-quiet l (short-ask k lower upper room) = asked-quiet (short-ask k lower upper room) (refl, refl) l k _
+  perform-quiet l (show k room) = given-quiet (show k room) (refl, refl) bs _ _ _
   perform-quiet l (explain k n) = explained-quiet (explain k n) bs _
+  perform-quiet l (obstacle k lower upper room) = obstructed-quiet k lower upper room bs _
   perform-quiet l (clauses k q) = wrote-quiet k q bs _
 
   rule-quiet : (op : Operation) → Quiet op bs (rule W m x bs op)
@@ -147,6 +166,13 @@ pub show-keeps : (W : ℕ) → ShowKeeps W
 unfolding step rule perform showBy
 show-keeps W image ledger u k room =
     stepBy-keeps W (policyOf image) ledger (showBy u k room) (λ m x bs. unless-part x bs (λ (y : List ℕ). y) _ _ refl) (judge image)
+
+-- Nor does an obstacle.
+pub obstacle-keeps : (W : ℕ) → ObstacleKeeps W
+unfolding step rule perform obstacleBy
+obstacle-keeps W image ledger u k lower upper room =
+    stepBy-keeps W (policyOf image) ledger (obstacleBy u k lower upper room)
+    (λ m x bs. unless-part x bs (λ (y : List ℕ). y) _ _ (obstructed-line bs _)) (judge image)
 
 -- Nor does a clause text.
 pub clauses-keep : (W : ℕ) → ClausesKeep W

@@ -139,6 +139,16 @@ module _ (s : List ℕ) where
       go (reaches h u e n w t) = rw t (omega arith, omega arith)
       go (passes h e n f t) = rw t tt
 
+  -- and none has the number 20
+  pub never-twenty : (n place : ℕ) → judge s ≡ Refused n place → ¬ (n ≡ 20)
+  never-twenty n place q z = go verdict
+    where
+      go : Verdict s → ⊥
+      go (words i at k e t) = let w : i ≡ n = cc in omega arith
+      go (loops h r e w t) = let w : 22 ≡ n = cc in omega arith
+      go (reaches h u e i w t) = let w : 23 ≡ n = cc in omega arith
+      go (passes h e i f t) = let w : _≡_ {A = ℕ} 0 1 = cc in omega arith
+
   -- what each answer tells
   by-loop : (r : ℕ) → judge s ≡ Refused 22 r → Verdict s → WordsPass s × LowestOnLoop (policyOf s) r
   by-loop r q (words n place k e t) = let z : n ≡ 22 = cc in absurd (omega arith)

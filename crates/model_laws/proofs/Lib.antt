@@ -49,4 +49,8 @@ pub mod MoveLines
 pub mod Padding
 pub mod MovesProof
 pub mod AdmittedProof
+pub mod Blocking
+pub mod ObstacleLaws
+pub mod ObstacleProof
+pub mod TwentyProof
 pub mod Theorems

@@ -15,7 +15,8 @@ use Rattle.model.specs.Policy.{Meaning}
 use Rattle.model.specs.Line.{readSessions, readLine, writeSessions, writeLine, lineSize, putIn, opening, closing}
 use Rattle.model.specs.Frames.{sessionBytes}
 use Rattle.model.specs.Limits.{Others}
-use Rattle.model.specs.Session.{Operation, open-session, close-session, ask, short-ask, show, explain, clauses, refuse, refusalNumber, Refusal, refusalExtra, Result, asked, explained, perform, unless, rule}
+use Rattle.model.specs.Obstacle.{Obstacle}
+use Rattle.model.specs.Session.{Operation, open-session, close-session, ask, short-ask, show, explain, obstacle, clauses, refuse, refusalNumber, Refusal, refusalExtra, Result, asked, explained, obstructed, perform, unless, rule}
 
 -- ---- lengths
 
@@ -122,6 +123,12 @@ unfolding explained
 explained-line bs none = refl
 explained-line bs (some x) = refl
 
+-- and so does an obstacle
+pub obstructed-line : (bs : List ℕ) (o : Option Obstacle) → obstructed bs o .line ≡ bs
+unfolding obstructed
+obstructed-line bs none = refl
+obstructed-line bs (some x) = refl
+
 module _ (W : ℕ) (m : Meaning) (x : Others) (bs : List ℕ) (h : length bs ≡ lineSize W) where
   -- an ask, any call that nothing refuses, and any call
   asked-length : (k : ℕ) (o : Option ℕ) → length (asked m (readLine W bs) bs k o .line) ≡ lineSize W
@@ -138,6 +145,7 @@ module _ (W : ℕ) (m : Meaning) (x : Others) (bs : List ℕ) (h : length bs ≡
   perform-length (short-ask k lower upper room) = asked-length k _
   perform-length (show k room) = h
   perform-length (explain k n) = ap length (explained-line bs _) ∙ h
+  perform-length (obstacle k lower upper room) = ap length (obstructed-line bs _) ∙ h
   perform-length (clauses k q) = h
 
   -- every call leaves a line of the same length

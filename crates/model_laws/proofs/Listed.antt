@@ -17,7 +17,8 @@ use Rattle.model.specs.Policy.{Meaning}
 use Rattle.model.specs.Line.{readLine, exclusionsMet, sessionSound, sessionsSound, sound}
 use Rattle.model.specs.Limits.{Others, nobody, barred, unbarred}
 use Rattle.model.specs.Choice.{carriedBy, admissible, permissionCost, better, best, choose}
-use Rattle.model.specs.Session.{Query, Operation, open-session, close-session, ask, short-ask, show, explain, clauses, sessionOf, queryOf, isText, Result, Refusal, bad-other, bad-line, bad-session, is-closed, is-full, bad-set, bad-permission, bad-bounds, bad-aim, bad-room, no-set, not-below, not-carried, too-long, refusalNumber, refuse, wrote, done, canGive, chosen, isNone, otherFirst, applies, asked, perform, unless, rule}
+use Rattle.model.specs.Obstacle.{lacking, carriersOf, fitting, excludingOnly, left, obstacleOf}
+use Rattle.model.specs.Session.{Query, Operation, open-session, close-session, ask, short-ask, show, explain, obstacle, clauses, sessionOf, queryOf, isText, Result, Refusal, bad-other, bad-line, bad-session, is-closed, is-full, bad-set, bad-permission, bad-bounds, bad-aim, bad-room, no-set, not-below, not-carried, bad-pair, no-obstacle, too-long, refusalNumber, refuse, wrote, done, canGive, chosen, obstacleFor, isNone, otherFirst, applies, asked, obstructed, perform, unless, rule}
 use Rattle.model.specs.Independence.{rules, hasText, besideText, besideTexts}
 use Rattle.model.specs.Ranges.{Each}
 use Rattle.model_laws.proofs.Bools.{neither}
@@ -76,6 +77,10 @@ module _ (m : Meaning) (xs : List Exclusion) (x : Others) where
   unfolding chosen unbarred barred
   chosen-listed l k q = choice-listed (unbarred m x l k) xs l k (number (q .lower)) (number (q .upper)) (q .permissionAim) (q .roleAim)
 
+  obstacle-listed : (l : Line) (k : ℕ) (q : Query) → obstacleFor m x l k q ≡ obstacleFor (listed m xs) x l k q
+  unfolding obstacleFor obstacleOf lacking carriersOf fitting left excludingOnly unbarred barred carriedBy
+  obstacle-listed l k q = refl
+
   -- ---- the refusals
   module _ (W : ℕ) (l : Line) (k : ℕ) (q : Query) where
     abbrev Same : Refusal → Type 0
@@ -93,6 +98,10 @@ module _ (m : Meaning) (xs : List Exclusion) (x : Others) where
     unfolding applies
     same-set = ap isNone (chosen-listed l k q)
 
+    same-way : Same no-obstacle
+    unfolding applies
+    same-way = ap isNone (obstacle-listed l k q)
+
     refusals-listed : (op : Operation) → isText op ≡ false → Each Same (canGive op)
     unfolding canGive applies isText
     refusals-listed open-session e = (same-line, (refl, tt))
@@ -101,6 +110,7 @@ module _ (m : Meaning) (xs : List Exclusion) (x : Others) where
     refusals-listed (short-ask k lower upper room) e = (same-other, (same-line, (refl, (refl, (refl, (refl, (refl, (refl, (same-set, tt)))))))))
     refusals-listed (show k room) e = (same-line, (refl, (refl, (refl, tt))))
     refusals-listed (explain k n) e = (same-line, (refl, (refl, (refl, (refl, tt)))))
+    refusals-listed (obstacle k lower upper room) e = (same-other, (same-line, (refl, (refl, (refl, (refl, (refl, (refl, (same-way, tt)))))))))
     refusals-listed (clauses k r) e = absurd (true≢false e)
 
   -- ---- the work done
@@ -120,6 +130,7 @@ module _ (m : Meaning) (xs : List Exclusion) (x : Others) where
   perform-listed W l bs (short-ask k lower upper room) e = answer-listed l bs k (queryOf (short-ask k lower upper room))
   perform-listed W l bs (show k room) e = refl
   perform-listed W l bs (explain k n) e = refl
+  perform-listed W l bs (obstacle k lower upper room) e = ap (obstructed bs) (obstacle-listed l k (queryOf (obstacle k lower upper room)))
   perform-listed W l bs (clauses k q) e = absurd (true≢false e)
 
   -- ---- the rules
@@ -204,6 +215,8 @@ module _ (m : Meaning) (xs : List Exclusion) (x : Others) (W : ℕ) (bs : List �
       ap (besideText (short-ask k lower upper room)) (rule-listed m xs x W bs (short-ask k lower upper room) refl)
   beside-listed (show k room) = ap (besideText (show k room)) (rule-listed m xs x W bs (show k room) refl)
   beside-listed (explain k n) = ap (besideText (explain k n)) (rule-listed m xs x W bs (explain k n) refl)
+  beside-listed (obstacle k lower upper room) =
+      ap (besideText (obstacle k lower upper room)) (rule-listed m xs x W bs (obstacle k lower upper room) refl)
   beside-listed (clauses k q) = text-listed k q
 
 pub rules-beside : (m : Meaning) (xs : List Exclusion) (W : ℕ) (bs : List ℕ) (ys : List Others) (os : List Operation)

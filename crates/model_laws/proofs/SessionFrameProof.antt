@@ -11,9 +11,9 @@ use Rattle.model.specs.declared.Line.{Line}
 use Rattle.model.specs.Policy.{Meaning}
 use Rattle.model.specs.Line.{lineSize, readLine, writeLine, opening, closing, putIn}
 use Rattle.model.specs.Limits.{Others}
-use Rattle.model.specs.Session.{Operation, open-session, close-session, ask, short-ask, show, explain, clauses, sessionOf, asked, perform, rule}
+use Rattle.model.specs.Session.{Operation, open-session, close-session, ask, short-ask, show, explain, obstacle, clauses, sessionOf, asked, perform, rule}
 use Rattle.model.specs.Frames.{sessionBytes, SessionFrames}
-use Rattle.model_laws.proofs.LineLaws.{unless-part, explained-line, blockAt, block-set, block-line, behind-opened, history-part}
+use Rattle.model_laws.proofs.LineLaws.{unless-part, explained-line, obstructed-line, blockAt, block-set, block-line, behind-opened, history-part}
 use Rattle.model_laws.proofs.RoundTrip.{write-read}
 
 module _ (W : ℕ) (m : Meaning) (x : Others) (bs : List ℕ) (hb : areBytes bs ≡ true) (hn : length bs ≡ lineSize W) where
@@ -37,6 +37,7 @@ module _ (W : ℕ) (m : Meaning) (x : Others) (bs : List ℕ) (hb : areBytes bs 
   perform-others (short-ask k lower upper room) j h = asked-others k j _ h
   perform-others (show k room) j h = refl
   perform-others (explain k n) j h = ap (sessionBytes j) (explained-line bs _)
+  perform-others (obstacle k lower upper room) j h = ap (sessionBytes j) (obstructed-line bs _)
   perform-others (clauses k q) j h = refl
 
   rule-others : (op : Operation) (j : ℕ) → ¬ (j ≡ sessionOf op) → sessionBytes j (rule W m x bs op .line) ≡ sessionBytes j bs

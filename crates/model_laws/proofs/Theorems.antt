@@ -25,6 +25,7 @@ use Rattle.model.specs.Line.{lineSize, exclusionsMet}
 use Rattle.model.specs.Session.{Query, explanation}
 use Rattle.model.specs.Read.{ReadOff}
 use Rattle.model.specs.Chains.{Chain, Authorized, Carries, Provides, GranterIs}
+use Rattle.model.specs.Obstacles.{ObstacleIs, AsksTwenty}
 use Rattle.model.specs.Explained.{ExplanationIs}
 use Rattle.model.specs.Ordered.{FewRoles, JudgeIs, Antisymmetric, LoopCallIs}
 use Rattle.model.specs.Ranges.{InRange}
@@ -32,7 +33,7 @@ use Rattle.model.specs.Chosen.{ChoiceIs, Unbarred, ChosenIs, RankIs}
 use Rattle.model.specs.Conditions.{Conditions, Solution, Admitted, Permitted}
 use Rattle.model.specs.Independence.{Run, toldOf, SameFor, Independent}
 use Rattle.model.specs.Kept.{LineKept, RunKept}
-use Rattle.model.specs.Frames.{LineBytes, StepFrame, ShowKeeps, ExplainKeeps, ClausesKeep, AnswerKeepsLength, TextsKeep, SessionFrames}
+use Rattle.model.specs.Frames.{LineBytes, StepFrame, ShowKeeps, ExplainKeeps, ObstacleKeeps, ClausesKeep, AnswerKeepsLength, TextsKeep, SessionFrames}
 use Rattle.model.specs.Moves.{Resized, move, MoveIs}
 use Rattle.model_laws.proofs.Tables
 use Rattle.model_laws.proofs.Accepted
@@ -47,6 +48,8 @@ use Rattle.model_laws.proofs.Choices
 use Rattle.model_laws.proofs.Barred
 use Rattle.model_laws.proofs.ConditionsProof
 use Rattle.model_laws.proofs.AdmittedProof
+use Rattle.model_laws.proofs.ObstacleProof
+use Rattle.model_laws.proofs.TwentyProof
 use Rattle.model_laws.proofs.IndependenceProof
 use Rattle.model_laws.proofs.KeptProof
 use Rattle.model_laws.proofs.RoundTrip
@@ -130,23 +133,24 @@ module _ (s : List ℕ) (h : Head) (accepted : judge s ≡ Accepted h) where
 
   -- the choice is the one admissible set that none is better than, and none exactly if no set is admissible
   pub choice-is : (u : ℕ) (l : Line) (k lower upper a b : ℕ) → ChoiceIs (meaning (policyOf s) u) l k lower upper a b
-  choice-is u l k lower upper a b = Choices.choice (meaning (policyOf s) u) l k lower upper a b (unfold meaning in (AdmittedProof.own-below s h accepted u))
+  choice-is u l k lower upper a b =
+      Choices.choice (meaning (policyOf s) u) l k lower upper a b (unfold meaning in (AdmittedProof.own-below (policyOf s) in-range u))
 
   -- an ask is answered with the one best admissible set without barred roles, and with none exactly if there is no such set
   pub chosen-is : (u : ℕ) (x : Others) (l : Line) (k : ℕ) (q : Query) → ChosenIs (meaning (policyOf s) u) x l k q
-  chosen-is u x l k q = Barred.chosen-is (meaning (policyOf s) u) x l k (unfold meaning in (AdmittedProof.own-below s h accepted u)) q
+  chosen-is u x l k q = Barred.chosen-is (meaning (policyOf s) u) x l k (unfold meaning in (AdmittedProof.own-below (policyOf s) in-range u)) q
 
   -- under a policy without limits nothing is barred: it is answered with `choose`
   pub unlimited-choice : hasLimits (policyOf s) ≡ false → (u : ℕ) (x : Others) (l : Line) (k : ℕ)
       → unbarred (meaning (policyOf s) u) x l k ≡ meaning (policyOf s) u
   unlimited-choice e u x l k =
       unfold meaning hasLimits in
-      (Barred.unlimited-choice (meaning (policyOf s) u) x l k (AdmittedProof.own-below s h accepted u) (Barred.none-limited (policyOf s .limits) e))
+      (Barred.unlimited-choice (meaning (policyOf s) u) x l k (AdmittedProof.own-below (policyOf s) in-range u) (Barred.none-limited (policyOf s .limits) e))
 
   module _ (u : ℕ) (l : Line) (k lb ub t : ℕ) (open-k : k < length (l .sessions)) where
     -- admissible is 001's conditions 1 to 6
     pub admissible-is : (admissible (meaning (policyOf s) u) l k lb ub t ≡ true) ↔ Admitted (policyOf s) u l k lb ub t
-    admissible-is = AdmittedProof.admissible-is s h accepted u l k lb ub t open-k
+    admissible-is = AdmittedProof.admissible-is (policyOf s) in-range u l k lb ub t open-k
 
     -- on a line where every exclusion is met, as on a sound one, they are 001's as they stand there, condition 6 for session k alone
     pub solution-is : exclusionsMet (meaning (policyOf s) u) l ≡ true
@@ -156,7 +160,11 @@ module _ (s : List ℕ) (h : Head) (accepted : judge s ≡ Accepted h) where
     -- admissible without barred roles is those conditions and 001's CARD
     pub permitted-is : (x : Others)
         → ((admissible (meaning (policyOf s) u) l k lb ub t ≡ true) × Unbarred (meaning (policyOf s) u) x l k t) ↔ Permitted (policyOf s) u x l k lb ub t
-    permitted-is = AdmittedProof.permitted-is s h accepted u l k lb ub t open-k
+    permitted-is = AdmittedProof.permitted-is (policyOf s) in-range u l k lb ub t open-k
+
+  -- an obstacle tells what stands in the way, and nothing exactly if some set is permitted
+  pub obstacle-is : (u : ℕ) (x : Others) (l : Line) (k lb ub : ℕ) → lb < 2 ^ 256 → k < length (l .sessions) → ObstacleIs (policyOf s) u x l k lb ub
+  obstacle-is = ObstacleProof.obstacle-is (policyOf s) in-range
 
   -- ---- soundness is kept
 
@@ -167,6 +175,10 @@ module _ (s : List ℕ) (h : Head) (accepted : judge s ≡ Accepted h) where
   -- a run from the zero ledger never gives 11
   pub run-kept : (W : ℕ) → W ≤ 64 → RunKept W s
   run-kept W wide = KeptProof.run-kept W wide s h accepted
+
+-- an ask is refused by 20 exactly if the obstacle with its bounds is done, under any image and on any ledger
+pub asks-twenty : (W : ℕ) (image : List ℕ) → AsksTwenty W image
+asks-twenty = TwentyProof.asks-twenty
 
 -- ---- independence: demand 3
 
@@ -204,6 +216,9 @@ show-keeps = FramesProof.show-keeps
 
 pub explain-keeps : (W : ℕ) (image ledger : List ℕ) (u k n : ℕ) → ExplainKeeps W image ledger u k n
 explain-keeps = FramesProof.explain-keeps
+
+pub obstacle-keeps : (W : ℕ) → ObstacleKeeps W
+obstacle-keeps = FramesProof.obstacle-keeps
 
 pub clauses-keep : (W : ℕ) → ClausesKeep W
 clauses-keep = FramesProof.clauses-keep

@@ -3,7 +3,7 @@
 use mathlib.Core.Path.{_≡_, refl, sym, ap, ap₂, _∙_, subst}
 use mathlib.Core.Logic.{_⊎_, inl, inr, _↔_}
 use mathlib.Core.Bool.{Bool, true, false, _&&_, not, true≢false, and-false}
-use mathlib.Core.Option.{Option, none, some}
+use mathlib.Core.Option.{Option, none, some, Option·some-injective, Option·none-ne-some}
 use mathlib.Core.List.{List, [], _∷_}
 use Prim.Native.Nat.{ℕ, _+_, _*_, _^_, _≤_, _<_, zero-le}
 use native.Mathlib.Nat.{lt-of-lt-of-le}
@@ -17,7 +17,7 @@ use Rattle.model.specs.declared.Head.{Head}
 use Rattle.model.specs.declared.Line.{Line}
 use Rattle.model.specs.declared.Checked.{Checked}
 use Rattle.model.specs.declared.Checked.the-variants.{Accepted, Refused}
-use Rattle.model.specs.Tests.{pick, first}
+use Rattle.model.specs.Tests.{pick, first, orElse}
 use Rattle.model.specs.Sets.{has, within, count}
 use Rattle.model.specs.Bytes.{number}
 use Rattle.model.specs.Judgement.{judge, judgeMeaning}
@@ -30,10 +30,12 @@ use Rattle.model.specs.Choice.{carriedBy, admissible, choose}
 use Rattle.model.specs.Dimacs.{textOf}
 use Rattle.model.specs.Chosen.{Unbarred, ChosenIs, IsBestUnbarred}
 use Rattle.model.specs.Explained.{Explains, ExplanationIs}
-use Rattle.model.specs.Session.{Query, Operation, open-session, close-session, ask, short-ask, show, explain, clauses, shortAim, sessionOf, queryOf, isAsk, Reply, refuse, done, given, wrote, Result, Refusal, bad-other, bad-line, bad-session, is-closed, is-full, bad-set, bad-permission, bad-bounds, bad-aim, bad-room, no-set, not-below, not-carried, too-long, refusalNumber, refusalExtra, canGive, chosen, textFor, isNone, explanation, otherFirst, applies, asked, explained, perform, unless, rule}
+use Rattle.model.specs.Obstacle.{Obstacle, lacking, carriersOf, fitting, lacks, left, blocking, blocks, obstacleOf}
+use Rattle.model.specs.Obstacles.{ObstacleIs}
+use Rattle.model.specs.Session.{Query, Operation, open-session, close-session, ask, short-ask, show, explain, obstacle, clauses, shortAim, sessionOf, queryOf, isAsk, Reply, refuse, done, given, tell, wrote, Result, Refusal, bad-other, bad-line, bad-session, is-closed, is-full, bad-set, bad-permission, bad-bounds, bad-aim, bad-room, no-set, not-below, not-carried, bad-pair, no-obstacle, too-long, refusalNumber, refusalExtra, canGive, chosen, obstacleFor, textFor, isNone, explanation, otherFirst, applies, asked, explained, obstructed, perform, unless, rule}
 use Rattle.model.specs.Run.{Call, Event, lineAt, withLine, lineOf, unsoundOther, othersOf, told, ruled, stepOn, stepBy, step}
 use Rattle.model_laws.proofs.Bools.{bool-ext}
-use Rattle.model_laws.proofs.AnyWidth.{same-sets, within-iff}
+use Rattle.model_laws.proofs.AnyWidth.{same-sets, members-below, within-iff}
 use Rattle.model_laws.proofs.Choices.{within-below}
 use Rattle.model_laws.proofs.Reaches.{authorized-below}
 use Rattle.model_laws.proofs.Closure.{provided-is}
@@ -45,7 +47,7 @@ use Rattle.model_laws.proofs.Judgements as J
 use Rattle.model_laws.proofs.Theorems as T
 use Rattle.limits.specs.Eleven as E
 use Rattle.limits.proofs.ElevenProof.{Lowest, lowest-of, answer}
-use Rattle.register.specs.Calls.{Case, case, refusal, Answers, WrongSize, TooHigh, NotWithin, WrongAim, shortQuery, LowestUnsound, own, after, unchanged, shown, Unsound, own-line as unsound-own, some-line, line-case, Closed, AllOpen, Allowed, text, named, bounded, answering, cases, Opens, Carried, Chooses, Shows, Tells, Does, casesFor, Register, by-words, by-loop, by-reach, by-call, StepIs}
+use Rattle.register.specs.Calls.{Case, case, refusal, Answers, WrongSize, TooHigh, NotWithin, WrongAim, shortQuery, unaimed, LowestUnsound, own, after, unchanged, shown, Unsound, own-line as unsound-own, some-line, line-case, Closed, AllOpen, Allowed, InTheWay, text, named, bounded, answering, naming, cases, Opens, Carried, Chooses, Shows, Tells, Names, Does, casesFor, Register, by-words, by-loop, by-reach, by-call, StepIs}
 use Rattle.register.proofs.Decided.{Decides, always, not-decides, equal-decides, below-decides, not-below-decides, most-decides}
 use Rattle.register.proofs.AnswerLaws.{One, NoneOf, one-event, zeros}
 use Rattle.register.proofs.CaseLaws.{size-decides, high-bounds, within-decides, aim-decides, full-decides, open-before}
@@ -138,7 +140,8 @@ module _ (W : ℕ) (s : List ℕ) (h : Head) (accepted : judge s ≡ Accepted h)
         (not-true (has (l .opened) k), λ e z. true≢false (sym (not-false (has (l .opened) k) e) ∙ z)) (λ b. rest (omega arith)))
 
     -- 15 to 17
-    bounded-step : (fs : List Refusal) (cs : List Case) → At fs cs → At (bad-set ∷ bad-permission ∷ bad-bounds ∷ fs) (bounded W p ledger u q cs)
+    bounded-step : (fs : List Refusal) (cs : List Case) → (¬ TooHigh (p .head .permissions) q → At fs cs)
+        → At (bad-set ∷ bad-permission ∷ bad-bounds ∷ fs) (bounded W p ledger u q cs)
     unfolding applies refusalNumber refusalExtra meaning
     bounded-step fs cs rest =
         case-step bad-set (bad-permission ∷ bad-bounds ∷ fs) 15 (WrongSize q)
@@ -146,7 +149,7 @@ module _ (W : ℕ) (s : List ℕ) (h : Head) (accepted : judge s ≡ Accepted h)
         (size-decides q)
         (λ _. case-step bad-permission (bad-bounds ∷ fs) 16 (TooHigh (p .head .permissions) q) (case 17 (NotWithin q) ∷ cs) refl refl
         (high-bounds (p .head .permissions) q)
-        (λ _. case-step bad-bounds fs 17 (NotWithin q) cs refl refl (within-decides q) (λ _. rest)))
+        (λ h. case-step bad-bounds fs 17 (NotWithin q) cs refl refl (within-decides q) (λ _. rest h)))
 
     -- 18
     aim-step : (fs : List Refusal) (cs : List Case) → At fs cs → At (bad-aim ∷ fs) (case 18 (WrongAim q) ∷ cs)
@@ -158,6 +161,12 @@ module _ (W : ℕ) (s : List ℕ) (h : Head) (accepted : judge s ≡ Accepted h)
     unfolding applies refusalNumber refusalExtra
     room-step fs cs rest =
         case-step bad-room fs 19 (¬ (q .room ≡ 40)) cs refl refl (not-decides (eqb (q .room) 40) (equal-decides (q .room) 40)) (λ _. rest)
+
+    -- 19 of an obstacle
+    pair-step : (fs : List Refusal) (cs : List Case) → At fs cs → At (bad-pair ∷ fs) (case 19 (¬ (q .room ≡ 16)) ∷ cs)
+    unfolding applies refusalNumber refusalExtra
+    pair-step fs cs rest =
+        case-step bad-pair fs 19 (¬ (q .room ≡ 16)) cs refl refl (not-decides (eqb (q .room) 16) (equal-decides (q .room) 16)) (λ _. rest)
 
     -- 11, by the user's own line
     line-step : (asks : Bool) (fs : List Refusal) (cs : List Case) → (asks && hasLimits p) ≡ false → (sound W m l ≡ true → At fs cs)
@@ -257,6 +266,16 @@ module _ (W : ℕ) (s : List ℕ) (h : Head) (accepted : judge s ≡ Accepted h)
     same-choice k q =
         ap (λ (n : Meaning). choose n l k (number (q .lower)) (number (q .upper)) (q .permissionAim) (q .roleAim)) (same-left k)
 
+    same-obstacle : (k : ℕ) (q : Query) → obstacleFor m x l k q ≡ obstacleFor m y l k q
+    unfolding obstacleFor obstacleOf
+    same-obstacle k q =
+        let lower = number (q .lower) in
+        let upper = number (q .upper) in
+        ap (λ (n : Meaning). orElse (lacks 1 (carriersOf m (λ r. true)) (lacking m lower (m .authorized)))
+        (orElse (lacks 2 (carriersOf m (has (m .authorized))) (lacking m lower (fitting m upper)))
+        (orElse (lacks 3 (carriersOf m (has (fitting m upper))) (lacking m lower (fitting n upper)))
+        (blocks l k (blocking (left n l k lower upper) [] (m .ordered)))))) (same-left k)
+
     same-text : (k : ℕ) (q : Query) → textFor m x l k q ≡ textFor m y l k q
     unfolding textFor
     same-text k q =
@@ -310,6 +329,42 @@ module _ (W : ℕ) (s : List ℕ) (h : Head) (accepted : judge s ≡ Accepted h)
         let j = same-carried (v .set) (v .permissions) (w .permissions) (v .carries) c in
         v .event ∙ (λ n. after W p ledger u (shown W p ledger u (i n) (j n)) (putIn k (i n) l)) ∙ sym (w .event)
 
+  -- ---- what stands in the way
+  module _ (k : ℕ) (q : Query) (inside : k < W) (low : ¬ TooHigh (p .head .permissions) q) where
+    -- the lower bound has permissions of the policy alone
+    lower-below : number (q .lower) < 2 ^ 256
+    lower-below =
+        members-below 256 (number (q .lower)) (λ n e. elim (decLt n (p .head .permissions)) [
+          | yes i ↦ lt-of-lt-of-le i (range .permissions .1)
+          | no i ↦ absurd (low (record { permission = n; high = omega arith; member = inl e }))
+        ])
+
+    standing : ObstacleIs p u (othersOf W p u ledger) l k (number (q .lower)) (number (q .upper))
+    standing =
+        T.obstacle-is s h accepted u (othersOf W p u ledger) l k (number (q .lower)) (number (q .upper)) lower-below
+        (subst (λ (n : ℕ). k < n) (sym (sessions-of u)) inside)
+
+    -- 20 of an obstacle
+    clear-decides : (o : Option Obstacle) → obstacleFor m (othersOf W p u ledger) l k q ≡ o
+        → Decides (isNone o) ((b : Obstacle) → ¬ InTheWay W p ledger u k q b)
+    unfolding isNone obstacleFor
+    clear-decides none e = always (λ b w. Option·none-ne-some b (sym e ∙ standing .tells b .1 w))
+    clear-decides (some b) e = (λ f. absurd (true≢false (sym f)), λ f n. n b (standing .tells b .0 e))
+
+    -- what is told stands in the way
+    names : (o : Option Obstacle) → obstacleFor m (othersOf W p u ledger) l k q ≡ o → (¬ ((b : Obstacle) → ¬ InTheWay W p ledger u k q b))
+        → Names W p ledger u k q (event (obstructed bs o))
+    unfolding obstructed tell obstacleFor
+    names none e n = absurd (n (clear-decides none e .0 (unfold isNone in refl)))
+    names (some b) e n = record { found = b; stands = standing .tells b .0 e; event = kept (tell b) }
+
+    -- there is one
+    one-named : (e f : Event) → Names W p ledger u k q e → Names W p ledger u k q f → e ≡ f
+    unfolding tell
+    one-named e f v w =
+        let i = Option·some-injective (v .found) (w .found) (sym (standing .tells (v .found) .1 (v .stands)) ∙ standing .tells (w .found) .1 (w .stands)) in
+        v .event ∙ ap (λ (b : Obstacle). unchanged W p ledger u (tell b)) i ∙ sym (w .event)
+
   -- ---- each call
 
   -- 19 and 20 of an ask, and its answer
@@ -325,6 +380,21 @@ module _ (W : ℕ) (s : List ℕ) (h : Head) (accepted : judge s ≡ Accepted h)
       (case-step o k q r (Chooses W p ledger u k q) no-set [] 20 None [] refl refl
       (subst (λ (c : Option ℕ). Decides (isNone c) None) (sym e) (none-decides k q inside (chosen m (y op a) l k q) refl))
       (λ n. subst (λ (c : Option ℕ). Chooses W p ledger u k q (event (asked m l bs k c))) (sym e) (chooses k q inside (chosen m (y op a) l k q) refl n)))
+
+  -- 19 and 20 of an obstacle, and its answer
+  naming-step : (op : Operation) (a : isAsk op ≡ true) (k : ℕ) (q : Query) → k < W → ¬ TooHigh (p .head .permissions) q
+      → At (x op a) k q (obstructed bs (obstacleFor m (x op a) l k q)) (Names W p ledger u k q) (bad-pair ∷ no-obstacle ∷ []) (naming W p ledger u k q)
+  unfolding applies refusalNumber refusalExtra first unless
+  naming-step op a k q inside low =
+      let o = x op a in
+      let r = obstructed bs (obstacleFor m o l k q) in
+      let D = Names W p ledger u k q in
+      let e = same-obstacle op a k q in
+      let Clear : Type 0 = (b : Obstacle) → ¬ InTheWay W p ledger u k q b in
+      pair-step o k q r D (no-obstacle ∷ []) (case 20 Clear ∷ [])
+      (case-step o k q r D no-obstacle [] 20 Clear [] refl refl
+      (subst (λ (c : Option Obstacle). Decides (isNone c) Clear) (sym e) (clear-decides k q inside low (obstacleFor m (y op a) l k q) refl))
+      (λ n. subst (λ (c : Option Obstacle). D (event (obstructed bs c))) (sym e) (names k q inside low (obstacleFor m (y op a) l k q) refl n)))
 
   -- the active roles of a session of a sound line are the user's
   active-own : sound W m l ≡ true → (k : ℕ) → within (sessionAt l k .active) (authorized p u) ≡ true
@@ -406,7 +476,8 @@ module _ (W : ℕ) (s : List ℕ) (h : Head) (accepted : judge s ≡ Accepted h)
       (named W p ledger u k (bounded W p ledger u q (case 18 (WrongAim q) ∷ end))) (unlimited op refl) (all-sound op refl)
       (λ e v w. answer W p ledger (record { user = u; operation = op }) e refl v w)
       (named-step o k q r D (bad-set ∷ bad-permission ∷ bad-bounds ∷ bad-aim ∷ fs) (bounded W p ledger u q (case 18 (WrongAim q) ∷ end))
-      (λ i. bounded-step o k q r D (bad-aim ∷ fs) (case 18 (WrongAim q) ∷ end) (aim-step o k q r D fs end (answering-step op refl k q i))))
+      (λ i. bounded-step o k q r D (bad-aim ∷ fs) (case 18 (WrongAim q) ∷ end)
+      (λ _. aim-step o k q r D fs end (answering-step op refl k q i))))
   answers low (short-ask k lower upper room) =
       let op = short-ask k lower upper room in
       let q = shortQuery lower upper room in
@@ -418,7 +489,7 @@ module _ (W : ℕ) (s : List ℕ) (h : Head) (accepted : judge s ≡ Accepted h)
       ask-step o k q r D low (bad-session ∷ is-closed ∷ bad-set ∷ bad-permission ∷ bad-bounds ∷ fs) (named W p ledger u k (bounded W p ledger u q end))
       (unlimited op refl) (all-sound op refl) (λ e v w. answer W p ledger (record { user = u; operation = op }) e refl v w)
       (named-step o k q r D (bad-set ∷ bad-permission ∷ bad-bounds ∷ fs) (bounded W p ledger u q end)
-      (λ i. bounded-step o k q r D fs end (answering-step op refl k q i)))
+      (λ i. bounded-step o k q r D fs end (λ _. answering-step op refl k q i)))
   answers low (show k room) =
       let o = told W p ledger (record { user = u; operation = show k room }) in
       let q = queryOf (show k room) in
@@ -440,6 +511,18 @@ module _ (W : ℕ) (s : List ℕ) (h : Head) (accepted : judge s ≡ Accepted h)
       (not-below-decides n (p .head .permissions))
       (λ _. case-step o k q r D (not-carried n) [] 20 None [] refl refl (unexplained e k n (explanation (m .granter n) (sessionAt l k .active)) refl)
       (tells e k n (explanation (m .granter n) (sessionAt l k .active)) refl))))
+  answers low (obstacle k lower upper room) =
+      let op = obstacle k lower upper room in
+      let q = unaimed lower upper room in
+      let o = x op refl in
+      let r = perform W m o l bs op in
+      let D = Names W p ledger u k q in
+      let end = naming W p ledger u k q in
+      let fs = bad-pair ∷ no-obstacle ∷ [] in
+      ask-step o k q r D low (bad-session ∷ is-closed ∷ bad-set ∷ bad-permission ∷ bad-bounds ∷ fs) (named W p ledger u k (bounded W p ledger u q end))
+      (unlimited op refl) (all-sound op refl) (λ e v w. answer W p ledger (record { user = u; operation = op }) e refl v w)
+      (named-step o k q r D (bad-set ∷ bad-permission ∷ bad-bounds ∷ fs) (bounded W p ledger u q end)
+      (λ i. bounded-step o k q r D fs end (naming-step op refl k q i)))
   answers low (clauses k q) =
       let op = clauses k q in
       let o = x op refl in
@@ -453,7 +536,7 @@ module _ (W : ℕ) (s : List ℕ) (h : Head) (accepted : judge s ≡ Accepted h)
       (λ e v w. answer W p ledger (record { user = u; operation = op }) e refl v w)
       (named-step o k q r D (bad-set ∷ bad-permission ∷ bad-bounds ∷ bad-aim ∷ too-long ∷ []) (bounded W p ledger u q end)
       (λ _. bounded-step o k q r D (bad-aim ∷ too-long ∷ []) end
-      (aim-step o k q r D (too-long ∷ []) (case 19 (q .room < length t) ∷ [])
+      (λ _. aim-step o k q r D (too-long ∷ []) (case 19 (q .room < length t) ∷ [])
       (case-step o k q r D too-long [] 19 (q .room < length t) [] refl refl
       (subst (λ (c : List ℕ). Decides (ltb (q .room) (length c)) (q .room < length t)) (sym e) (below-decides (q .room) (length t)))
       (λ _. kept (wrote (textFor m o l k q)) ∙ ap (λ (c : List ℕ). unchanged W p ledger u (record { number = 0; extra = length c; filled = c })) e)))))
@@ -482,6 +565,7 @@ module _ (W : ℕ) (s : List ℕ) (h : Head) (accepted : judge s ≡ Accepted h)
   one-extra (short-ask k lower upper room) = (one-line true, (zeros, (zeros, (zeros, (zeros, (zeros, (zeros, (zeros, tt))))))))
   one-extra (show k room) = (one-line false, (zeros, (zeros, (zeros, tt))))
   one-extra (explain k n) = (one-line false, (zeros, (zeros, (zeros, (zeros, tt)))))
+  one-extra (obstacle k lower upper room) = (one-line true, (zeros, (zeros, (zeros, (zeros, (zeros, (zeros, (zeros, tt))))))))
   one-extra (clauses k q) = (one-line true, (zeros, (zeros, (zeros, (zeros, (zeros, (zeros, (zeros, tt))))))))
 
   one-opened : (e f : Event) → Opens W p ledger u e → Opens W p ledger u f → e ≡ f
@@ -537,6 +621,8 @@ module _ (W : ℕ) (s : List ℕ) (h : Head) (accepted : judge s ≡ Accepted h)
   one-done (short-ask k lower upper room) e f n v w = one-choice k (shortQuery lower upper room) (within-W k (n .1 .0)) e f v w
   one-done (show k room) e f n v w = one-shown k e f v w
   one-done (explain k n) e f z v w = one-told k n e f v w
+  one-done (obstacle k lower upper room) e f n v w =
+      one-named k (unaimed lower upper room) (within-W k (n .1 .0)) (λ h. n .1 .1 .1 .1 .0 0 (refl, h)) e f v w
   one-done (clauses k q) e f n v w = v ∙ sym w
 
 -- ---- the whole

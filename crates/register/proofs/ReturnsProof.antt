@@ -11,7 +11,7 @@ use Rattle.model.specs.declared.Checked.the-variants.{Refused}
 use Rattle.model.specs.Image.{checkNumber}
 use Rattle.model.specs.Judgement.{judge, judgeMeaning}
 use Rattle.model.specs.Policy.{Policy, policyOf}
-use Rattle.model.specs.Session.{Operation, open-session, close-session, ask, short-ask, show, explain, clauses}
+use Rattle.model.specs.Session.{Operation, open-session, close-session, ask, short-ask, show, explain, obstacle, clauses}
 use Rattle.model.specs.Run.{Call, Event, step, returned}
 use Rattle.model_laws.proofs.ImageNumbers.{Numbered, words-numbered}
 use Rattle.model_laws.proofs.Judgements.{judge-is}
@@ -64,6 +64,7 @@ module _ (W : ℕ) (p : Policy) (ledger : List ℕ) (u : ℕ) where
   cases-small (short-ask k lower upper room) = (lit< tt, (lit< tt, (lit< tt, (lit< tt, (lit< tt, (lit< tt, (lit< tt, (lit< tt, tt))))))))
   cases-small (show k room) = (lit< tt, (lit< tt, (lit< tt, (lit< tt, tt))))
   cases-small (explain k n) = (lit< tt, (lit< tt, (lit< tt, (lit< tt, (lit< tt, tt)))))
+  cases-small (obstacle k lower upper room) = (lit< tt, (lit< tt, (lit< tt, (lit< tt, (lit< tt, (lit< tt, (lit< tt, (lit< tt, tt))))))))
   cases-small (clauses k q) = (lit< tt, (lit< tt, (lit< tt, (lit< tt, (lit< tt, (lit< tt, (lit< tt, (lit< tt, tt))))))))
 
   done-small : (op : Operation) (e : Event) → Does W p ledger u op e → Small e
@@ -73,6 +74,7 @@ module _ (W : ℕ) (p : Policy) (ledger : List ℕ) (u : ℕ) where
   done-small (short-ask k lower upper room) e w = subst Small (sym (w .event)) (lit< tt)
   done-small (show k room) e w = subst Small (sym (w .event)) (lit< tt)
   done-small (explain k n) e w = subst Small (sym (w .event)) (lit< tt)
+  done-small (obstacle k lower upper room) e w = subst Small (sym (w .event)) (lit< tt)
   done-small (clauses k q) e w = subst Small (sym w) (lit< tt)
 
 register-small : (W : ℕ) (image ledger : List ℕ) (c : Call) (e : Event) → Register W image ledger c e → Small e

@@ -20,7 +20,9 @@ use Rattle.model.specs.Line.{lineSize, writeLine, sessionAt, opening, closing, 
 use Rattle.model.specs.Choice.{better}
 use Rattle.model.specs.Conditions.{Permitted}
 use Rattle.model.specs.Explained.{Explains}
-use Rattle.model.specs.Session.{Query, Operation, open-session, close-session, ask, short-ask, show, explain, clauses, Reply, textFor}
+use Rattle.model.specs.Obstacle.{Obstacle}
+use Rattle.model.specs.Obstacles.{Stands}
+use Rattle.model.specs.Session.{Query, Operation, open-session, close-session, ask, short-ask, show, explain, obstacle, clauses, Reply, textFor}
 use Rattle.model.specs.Run.{Call, Event, withLine, lineOf, othersOf, step}
 use Rattle.register.specs.Faults.{Refuses, Accepts}
 use Rattle.register.specs.Sound.{Sound}
@@ -72,6 +74,10 @@ WrongAim q = (2 < q .permissionAim) ⊎ (2 < q .roleAim)
 abbrev pub shortQuery : List ℕ → List ℕ → ℕ → Query
 shortQuery lower upper room = record { lower = lower; upper = upper; permissionAim = 1; roleAim = 1; room = room }
 
+-- an obstacle has the bounds of an ask, and no aims
+abbrev pub unaimed : List ℕ → List ℕ → ℕ → Query
+unaimed lower upper room = record { lower = lower; upper = upper; permissionAim = 0; roleAim = 0; room = room }
+
 -- ---- lines that are not sound
 
 -- v is the lowest user whose line is not sound
@@ -97,8 +103,8 @@ module _ (W : ℕ) (p : Policy) (ledger : List ℕ) (u : ℕ) where
   abbrev pub shown : ℕ → ℕ → Reply
   shown roles permissions = record { number = 0; extra = 0; filled = bytesOf 8 roles ++ bytesOf 32 permissions }
 
-  -- 11, line: this user's line is not sound; for an ask or a clause text under a policy with limits, any line, and the extra names the lowest
-  -- user with one, plus 1, unless that is the asker
+  -- 11, line: this user's line is not sound; for an ask, an obstacle or a clause text under a policy with limits, any line, and the extra
+  -- names the lowest user with one, plus 1, unless that is the asker
   pub data Unsound (asks : Bool) (x : ℕ) : Type 0 where
     own-line : (asks && hasLimits p) ≡ false → ¬ Sound W p u own → x ≡ 0 → Unsound asks x
     some-line : (asks && hasLimits p) ≡ true → (v : ℕ) → LowestUnsound W p ledger v → x ≡ pick (eqb v u) 0 (v + 1) → Unsound asks x
@@ -117,6 +123,10 @@ module _ (W : ℕ) (p : Policy) (ledger : List ℕ) (u : ℕ) where
   abbrev pub Allowed : ℕ → Query → ℕ → Type 0
   Allowed k q s = Permitted p u (othersOf W p u ledger) own k (number (q .lower)) (number (q .upper)) s
 
+  -- what stands in the way of these bounds (P14: the first of four kinds that holds)
+  abbrev pub InTheWay : ℕ → Query → Obstacle → Type 0
+  InTheWay k q o = Stands p u (othersOf W p u ledger) own k (number (q .lower)) (number (q .upper)) o
+
   -- the clause text of a query
   abbrev pub text : ℕ → Query → List ℕ
   text k q = textFor (meaning p u) (othersOf W p u ledger) own k q
@@ -133,6 +143,10 @@ module _ (W : ℕ) (p : Policy) (ledger : List ℕ) (u : ℕ) where
   abbrev pub answering : ℕ → Query → List Case
   answering k q = case 19 (¬ (q .room ≡ 40)) ∷ case 20 ((s : ℕ) → ¬ Allowed k q s) ∷ []
 
+  -- 19 and 20 of an obstacle: another buffer than of 16 bytes; nothing stands in the way
+  abbrev pub naming : ℕ → Query → List Case
+  naming k q = case 19 (¬ (q .room ≡ 16)) ∷ case 20 ((o : Obstacle) → ¬ InTheWay k q o) ∷ []
+
   -- the cases of each call from 11 on, in number order
   abbrev pub cases : Operation → List Case
   cases open-session = line-case false ∷ case 14 AllOpen ∷ []
@@ -141,6 +155,7 @@ module _ (W : ℕ) (p : Policy) (ledger : List ℕ) (u : ℕ) where
   cases (short-ask k lower upper room) = line-case true ∷ named k (bounded (shortQuery lower upper room) (answering k (shortQuery lower upper room)))
   cases (show k room) = line-case false ∷ named k (case 19 (¬ (room ≡ 40)) ∷ [])
   cases (explain k n) = line-case false ∷ named k (case 16 (p .head .permissions ≤ n) ∷ case 20 (¬ Provides p (sessionAt own k .active) n) ∷ [])
+  cases (obstacle k lower upper room) = line-case true ∷ named k (bounded (unaimed lower upper room) (naming k (unaimed lower upper room)))
   cases (clauses k q) = line-case true ∷ named k (bounded q (case 18 (WrongAim q) ∷ case 19 (q .room < length (text k q)) ∷ []))
 
   -- ---- what is done
@@ -179,6 +194,13 @@ module _ (W : ℕ) (p : Policy) (ledger : List ℕ) (u : ℕ) where
     pub explains : Explains p (sessionAt own k .active) n carrier giver
     pub event : e ≡ unchanged (record { number = 0; extra = 64 * carrier + giver; filled = [] })
 
+  -- what stands in the way is told, as its kind plus 8 times what it is about, and two role sets
+  pub record Names (k : ℕ) (q : Query) (e : Event) : Type 0 where
+    pub found : Obstacle
+    pub stands : InTheWay k q found
+    pub event : e
+        ≡ unchanged (record { number = 0; extra = found .kind + 8 * found .about; filled = bytesOf 8 (found .first) ++ bytesOf 8 (found .second) })
+
   abbrev pub Does : Operation → Event → Type 0
   Does open-session e = Opens e
   Does (close-session k) e = e ≡ after (record { number = 0; extra = 0; filled = [] }) (closing k own)
@@ -186,6 +208,7 @@ module _ (W : ℕ) (p : Policy) (ledger : List ℕ) (u : ℕ) where
   Does (short-ask k lower upper room) e = Chooses k (shortQuery lower upper room) e
   Does (show k room) e = Shows k e
   Does (explain k n) e = Tells k n e
+  Does (obstacle k lower upper room) e = Names k (unaimed lower upper room) e
   Does (clauses k q) e = e ≡ unchanged (record { number = 0; extra = length (text k q); filled = text k q })
 
 -- ---- the whole

@@ -10,7 +10,8 @@ use Rattle.model.specs.declared.Checked.the-variants.{Accepted, Refused}
 use Rattle.model.specs.Policy.{Policy, Meaning, policyOf, meaning}
 use Rattle.model.specs.Judgement.{judge}
 use Rattle.model.specs.Limits.{Others}
-use Rattle.model.specs.Session.{Operation, open-session, close-session, ask, short-ask, show, explain, clauses, Reply, refuse, done, given, wrote, Result, Refusal, bad-other, bad-line, bad-session, is-closed, is-full, bad-set, bad-permission, bad-bounds, bad-aim, bad-room, no-set, not-below, not-carried, too-long, refusalNumber, asked, explained, perform, unless, rule}
+use Rattle.model.specs.Obstacle.{Obstacle}
+use Rattle.model.specs.Session.{Operation, open-session, close-session, ask, short-ask, show, explain, obstacle, clauses, Reply, refuse, done, given, tell, wrote, Result, Refusal, bad-other, bad-line, bad-session, is-closed, is-full, bad-set, bad-permission, bad-bounds, bad-aim, bad-room, no-set, not-below, not-carried, bad-pair, no-obstacle, too-long, refusalNumber, asked, explained, obstructed, perform, unless, rule}
 use Rattle.model.specs.Run.{Call, Event, step, stepBy, stepOn, ruled, returned}
 use Rattle.model_laws.proofs.Bools.{pick-case}
 use Rattle.model_laws.proofs.ImageNumbers.{Numbered}
@@ -48,6 +49,8 @@ refusal-small bad-room = omega arith
 refusal-small no-set = omega arith
 refusal-small (not-below n) = omega arith
 refusal-small (not-carried n) = omega arith
+refusal-small bad-pair = omega arith
+refusal-small no-obstacle = omega arith
 refusal-small too-long = omega arith
 
 asked-small : (m : Meaning) (l : _) (bs : List ℕ) (k : ℕ) (o : Option ℕ) → asked m l bs k o .reply .number < 256
@@ -60,6 +63,11 @@ unfolding explained refuse done
 explained-small bs none = omega arith
 explained-small bs (some x) = omega arith
 
+obstructed-small : (bs : List ℕ) (o : Option Obstacle) → obstructed bs o .reply .number < 256
+unfolding obstructed refuse tell
+obstructed-small bs none = omega arith
+obstructed-small bs (some x) = omega arith
+
 perform-small : (W : ℕ) (m : Meaning) (x : Others) (l : _) (bs : List ℕ) (op : Operation) → perform W m x l bs op .reply .number < 256
 unfolding perform done given wrote
 perform-small W m x l bs open-session = omega arith
@@ -68,6 +76,7 @@ perform-small W m x l bs (ask k q) = asked-small m l bs k _
 perform-small W m x l bs (short-ask k lower upper room) = asked-small m l bs k _
 perform-small W m x l bs (show k room) = omega arith
 perform-small W m x l bs (explain k n) = explained-small bs _
+perform-small W m x l bs (obstacle k lower upper room) = obstructed-small bs _
 perform-small W m x l bs (clauses k q) = omega arith
 
 unless-small : (x : Others) (o : Option Refusal) (bs : List ℕ) (r : Result) → r .reply .number < 256 → unless x o bs r .reply .number < 256

@@ -77,7 +77,7 @@ shared = TidyProof.shared
 pub tidy-again : (s : List ℕ) (h : Head) → judge s ≡ Accepted h → tidyOf (tidyOf s) ≡ tidyOf s
 tidy-again = TidyProof.tidy-again
 
--- check, open, close, ask, short ask, show and explain answer alike on the image and on its tidy one, and so do whole runs
+-- check, open, close, ask, short ask, show, explain and obstacle answer alike on the image and on its tidy one, and so do whole runs
 pub tidy-alike : (s : List ℕ) (h : Head) → judge s ≡ Accepted h → Alike s (tidyOf s)
 tidy-alike = TidyProof.tidy-alike
 

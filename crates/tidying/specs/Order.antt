@@ -53,7 +53,7 @@ endOf s = wordAt s (behindHead s)
 -- ---- the claims
 
 -- order has no say: t is accepted with the head that s is accepted with, has its end word, its policy and its tidy image, and check, open,
--- close, ask, short ask, show and explain, and whole runs of them, answer alike under both
+-- close, ask, short ask, show, explain and obstacle, and whole runs of them, answer alike under both
 pub record OrderFree (s t : List ℕ) (h : Head) : Type 0 where
   pub accepted : judge t ≡ Accepted h
   pub end : endOf s ≡ endOf t

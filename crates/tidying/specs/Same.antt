@@ -43,7 +43,7 @@ unfolding asksText isText clausesBy
 texts-ask user session room = refl
 
 -- calls answer alike under two images: a check, and for every number of sessions and every ledger every call (open, close, ask, short
--- ask, show, explain) and every list of them, with the same number, extra, filled bytes and ledger
+-- ask, show, explain, obstacle) and every list of them, with the same number, extra, filled bytes and ledger
 pub record Alike (s t : List ℕ) : Type 0 where
   pub checks : judge s ≡ judge t
   pub steps : (W : ℕ) (ledger : List ℕ) (c : Call) → asksText c ≡ false → step W s ledger c ≡ step W t ledger c
