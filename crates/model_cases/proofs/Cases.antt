@@ -4,6 +4,7 @@ use mathlib.Core.Path.{_≡_, refl}
 use mathlib.Core.Bool.{true}
 use Rattle.model.specs.Tests.{all}
 use Rattle.model_cases.specs.Ward.{holds, starred, settled, carded}
+use Rattle.model_cases.specs.ObstacleCases.{obstacleCases}
 use Rattle.model_cases.specs.Refusals.{isJudged, judgedImages, isLooped, loopedImages}
 use Rattle.model_cases.specs.Returned.{isSeen, returnedCases, isChecked, checkedCases}
 use Rattle.model_cases.specs.MoveCases.{movesSo, moveCases}
@@ -20,6 +21,10 @@ settled-hold = refl
 pub carded-hold : all holds carded ≡ true
 unfolding listing
 carded-hold = refl
+
+pub obstacles-hold : all holds obstacleCases ≡ true
+unfolding listing
+obstacles-hold = refl
 
 pub judged-so : all isJudged judgedImages ≡ true
 unfolding listing

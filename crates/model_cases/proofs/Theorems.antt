@@ -4,6 +4,7 @@ use mathlib.Core.Path.{_≡_}
 use mathlib.Core.Bool.{true}
 use Rattle.model.specs.Tests.{all}
 use Rattle.model_cases.specs.Ward.{holds, starred, settled, carded}
+use Rattle.model_cases.specs.ObstacleCases.{obstacleCases}
 use Rattle.model_cases.specs.Refusals.{isJudged, judgedImages, isLooped, loopedImages}
 use Rattle.model_cases.specs.Returned.{isSeen, returnedCases, isChecked, checkedCases}
 use Rattle.model_cases.specs.Texted.{isTexted, textCases}
@@ -24,6 +25,10 @@ settled-cases = Cases.settled-hold
 -- cases on limits
 pub carded-cases : all holds carded ≡ true
 carded-cases = Cases.carded-hold
+
+-- cases on what stands in the way of an ask
+pub obstacle-cases : all holds obstacleCases ≡ true
+obstacle-cases = Cases.obstacles-hold
 
 -- images with their refusals 1 to 8, 22 and 23, each clause and each tie
 pub judged-cases : all isJudged judgedImages ≡ true

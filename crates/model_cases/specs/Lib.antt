@@ -1,4 +1,5 @@
 pub mod Ward
+pub mod ObstacleCases
 pub mod Refusals
 pub mod Returned
 pub mod Texted

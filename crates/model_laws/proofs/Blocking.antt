@@ -5,15 +5,17 @@ use mathlib.Core.Logic.{_⊎_, inl, inr, _↔_}
 use mathlib.Core.Bool.{Bool, true, false, true≢false}
 use mathlib.Core.Option.{Option, none, some, Option·some-injective, Option·some-ne-none, Option·none-ne-some}
 use mathlib.Core.List.{List, [], _∷_, _++_, append-assoc, append-nil, List·Memᴰ, List·Memᴰ·head, List·Memᴰ·tail, List·Memᴰ·not-nil, List·Memᴰ·cases-cons}
-use Prim.Native.Nat.{ℕ, _≤_, _<_, zero-le}
+use Prim.Native.Nat.{ℕ, suc, _≤_, _<_, zero-le}
 use native.Mathlib.Decide.{decLt}
 use native.Mathlib.Omega.{arith}
 use lib.Dec.{ltb}
+use lib.ListN.{length, getD, take, drop}
+use lib.Seq.{take-suc, split-at}
 use borrow.Author.Tests.{ltb-true, ltb-false, lt-ltb, le-ltb}
 use Rattle.model.specs.declared.Exclusion.{Exclusion}
-use Rattle.model.specs.Tests.{any, all, orElse, lowest, ifBelow}
+use Rattle.model.specs.Tests.{any, orElse, lowest, ifBelow}
 use Rattle.model.specs.Obstacle.{blocking}
-use Rattle.model_laws.proofs.Bools.{and-l, and-r, both, or-l, or-r, or-cases, not-both}
+use Rattle.model_laws.proofs.Bools.{or-l, or-r, or-cases, not-both}
 use Rattle.model_laws.proofs.LowestLaws.{LowestIs, lowest-is, lowest-found}
 
 -- ---- some member passes
@@ -35,12 +37,6 @@ module _ {A : Type 0} (f : A → Bool) where
         | inl q ↦ or-l (f y) (any f xs) (ap f (sym q) ∙ e)
         | inr k ↦ or-r (f y) (any f xs) (some-any xs x k e)
       ]
-
-  -- all of a list pass, and so all of its front
-  pub all-front : (xs ys : List A) → all f (xs ++ ys) ≡ true → all f xs ≡ true
-  unfolding all
-  all-front [] ys e = refl
-  all-front (x ∷ xs) ys e = both (f x) (all f xs) (and-l (f x) (all f (xs ++ ys)) e) (all-front xs ys (and-r (f x) (all f (xs ++ ys)) e))
 
 -- ---- the first or else the second
 module _ {A : Type 0} (a b : Option A) where
@@ -186,3 +182,10 @@ module _ (test : List Exclusion → Bool) where
         let a = one-more xs z before ∙ h in
         ap (λ (b : Bool). let o : Option Exclusion = elim b [ true ↦ blocking test (xs ++ (z ∷ [])) (before ++ (y ∷ after)) | false ↦ some z ] in o)
         (front (xs ++ (z ∷ [])) before a) ∙ at-blocked (xs ++ (z ∷ [])) before after y a (one-more xs z (before ++ (y ∷ [])) ∙ e)
+
+    -- the same by the number j of exclusions before the one that blocks
+    pub blocked-behind : (ys : List Exclusion) (j : ℕ) (d : Exclusion) → j < length ys → test (take j ys) ≡ true → test (take (suc j) ys) ≡ false
+        → blocking test [] ys ≡ some (getD ys j d)
+    blocked-behind ys j d i h e =
+        ap (blocking test []) (split-at ys j d i)
+        ∙ at-blocked [] (take j ys) (drop (suc j) ys) (getD ys j d) h (ap test (sym (take-suc ys j d i)) ∙ e)

@@ -18,7 +18,7 @@ use Rattle.model.specs.Line.{readLine, exclusionsMet, sessionSound, sessionsSou
 use Rattle.model.specs.Limits.{Others, nobody, barred, unbarred}
 use Rattle.model.specs.Choice.{carriedBy, admissible, permissionCost, better, best, choose}
 use Rattle.model.specs.Obstacle.{lacking, carriersOf, fitting, excludingOnly, left, obstacleOf}
-use Rattle.model.specs.Session.{Query, Operation, open-session, close-session, ask, short-ask, show, explain, obstacle, clauses, sessionOf, queryOf, isText, Result, Refusal, bad-other, bad-line, bad-session, is-closed, is-full, bad-set, bad-permission, bad-bounds, bad-aim, bad-room, no-set, not-below, not-carried, bad-pair, no-obstacle, too-long, refusalNumber, refuse, wrote, done, canGive, chosen, obstacleFor, isNone, otherFirst, applies, asked, obstructed, perform, unless, rule}
+use Rattle.model.specs.Session.{Query, Operation, open-session, close-session, ask, short-ask, show, explain, obstacle, clauses, sessionOf, queryOf, isText, Result, Refusal, bad-other, bad-line, bad-session, is-closed, is-full, bad-set, bad-permission, bad-bounds, bad-aim, bad-room, no-set, not-below, not-carried, no-obstacle, too-long, refusalNumber, refuse, wrote, done, canGive, chosen, obstacleFor, isNone, otherFirst, applies, asked, obstructed, perform, unless, rule}
 use Rattle.model.specs.Independence.{rules, hasText, besideText, besideTexts}
 use Rattle.model.specs.Ranges.{Each}
 use Rattle.model_laws.proofs.Bools.{neither}

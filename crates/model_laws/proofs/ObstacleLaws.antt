@@ -5,27 +5,29 @@ use mathlib.Core.Path.{_≡_, refl, sym, ap, _∙_}
 use mathlib.Core.Logic.{_↔_}
 use mathlib.Core.Bool.{Bool, true, false, _&&_, not}
 use mathlib.Core.Option.{Option, none, some, Option·some-injective, Option·some-ne-none, Option·none-ne-some}
-use mathlib.Core.List.{List, [], _∷_, _++_}
+use mathlib.Core.List.{List, [], _++_, Memᴰ·append-left}
 use Prim.Native.Nat.{ℕ, _^_, _<_}
 use lib.ListN.{getD}
 use borrow.Author.Tests.{not-false}
 use Rattle.model.specs.declared.Exclusion.{Exclusion}
 use Rattle.model.specs.declared.Line.{Line}
-use Rattle.model.specs.Tests.{all}
+use Rattle.model.specs.Tests.{all, isSome}
 use Rattle.model.specs.Sets.{has, within, subsets}
 use Rattle.model.specs.Policy.{Meaning, met}
 use Rattle.model.specs.Line.{counted, exclusionsMet, putIn}
 use Rattle.model.specs.Limits.{Others, unbarred}
-use Rattle.model.specs.Choice.{carriedBy, admissible}
+use Rattle.model.specs.Choice.{carriedBy, admissible, choose}
+use Rattle.model.specs.Chosen.{ChoiceIs}
 use Rattle.model.specs.Obstacle.{Obstacle, lacking, fitting, lacks, excludingOnly, left, blocking, blocks, obstacleOf}
-use Rattle.model_laws.proofs.Bools.{and-l, and-r, both}
+use Rattle.model_laws.proofs.Bools.{and-l, and-r, both, four, all-four, fails, not-both}
 use Rattle.model_laws.proofs.UnionLaws.{has-below, has-unionAt}
 use Rattle.model_laws.proofs.AnyWidth.{within-iff}
 use Rattle.model_laws.proofs.Inclusion.{within-trans}
 use Rattle.model_laws.proofs.LowestLaws.{setOf-has, has-setOf}
+use Rattle.model_laws.proofs.Every.{all-mem, mem-all}
 use Rattle.model_laws.proofs.Choices
 use Rattle.model_laws.proofs.Barred.{unbarred-below, left-own}
-use Rattle.model_laws.proofs.Blocking.{any-some, some-any, all-front, or-else-none, or-second, LowestBelow, below-none, below-some, never-blocked, not-blocked}
+use Rattle.model_laws.proofs.Blocking.{any-some, some-any, or-else-none, or-second, LowestBelow, below-none, below-some, never-blocked, not-blocked}
 
 -- ---- permissions that are lacking
 
@@ -103,27 +105,6 @@ module _ (m : Meaning) (upper : ℕ) where
 
 -- ---- sets that are left with the exclusions xs alone
 
--- the parts of a test of four
-parts : (a b c d : Bool) → (a && b && c && d) ≡ true → (a ≡ true) × (b ≡ true) × (c ≡ true) × (d ≡ true)
-parts a b c d e =
-    let x = and-l (a && b && c) d e in
-    let y = and-l (a && b) c x in
-    (and-l a b y, and-r a b y, and-r (a && b) c x, and-r (a && b && c) d e)
-
-of-parts : (a b c d : Bool) → a ≡ true → b ≡ true → c ≡ true → d ≡ true → (a && b && c && d) ≡ true
-of-parts a b c d e f g h = both (a && b && c) d (both (a && b) c (both a b e f) g) h
-
--- a test that follows from another, of all members
-all-by : {A : Type 0} (f g : A → Bool) → ((x : A) → f x ≡ true → g x ≡ true) → (xs : List A) → all f xs ≡ true → all g xs ≡ true
-unfolding all
-all-by f g h [] e = refl
-all-by f g h (x ∷ xs) e = both (g x) (all g xs) (h x (and-l (f x) (all f xs) e)) (all-by f g h xs (and-r (f x) (all f xs) e))
-
-all-true : {A : Type 0} (xs : List A) → all (λ (x : A). true) xs ≡ true
-unfolding all
-all-true [] = refl
-all-true (x ∷ xs) = all-true xs
-
 module _ (m : Meaning) (l : Line) (k lower upper : ℕ) where
   -- s is admissible with the exclusions xs alone
   abbrev pub Fine : List Exclusion → ℕ → Type 0
@@ -133,10 +114,10 @@ module _ (m : Meaning) (l : Line) (k lower upper : ℕ) where
   fine-front : (xs ys : List Exclusion) (s : ℕ) → Fine (xs ++ ys) s → Fine xs s
   unfolding admissible excludingOnly carriedBy exclusionsMet
   fine-front xs ys s e =
-      let w = parts (within s (m .authorized)) _ _ _ e in
-      of-parts (within s (m .authorized)) _ _ _ (w .0) (w .1) (w .2)
-      (all-by (λ a. all (met (counted (putIn k s l) a)) (xs ++ ys)) (λ a. all (met (counted (putIn k s l) a)) xs)
-      (λ a. all-front (met (counted (putIn k s l) a)) xs ys) (putIn k s l .sessions) (w .3))
+      let w = four (within s (m .authorized)) _ _ _ e in
+      all-four (within s (m .authorized)) _ _ _ (w .0) (w .1) (w .2)
+      (mem-all _ (putIn k s l .sessions) (λ a i. let h = all-mem _ (putIn k s l .sessions) (w .3) a i in
+      mem-all (met (counted (putIn k s l) a)) xs (λ y j. all-mem _ (xs ++ ys) h y (Memᴰ·append-left ys j))))
 
   module _ (below : m .authorized < 2 ^ 64) where
     -- some set is
@@ -148,6 +129,18 @@ module _ (m : Meaning) (l : Line) (k lower upper : ℕ) where
           (Choices.listed (excludingOnly m xs) l k lower upper 0 0 below (w .0) (w .1)) (w .1),
     )
 
+    -- that is, the choice with them gives one, whatever the objectives
+    pub left-choice : (xs : List Exclusion) (a b : ℕ) → left m l k lower upper xs ≡ isSome (choose (excludingOnly m xs) l k lower upper a b)
+    unfolding isSome
+    left-choice xs a b = go (choose (excludingOnly m xs) l k lower upper a b) refl
+      where
+        is : ChoiceIs (excludingOnly m xs) l k lower upper a b
+        is = Choices.choice (excludingOnly m xs) l k lower upper a b (unfold excludingOnly in below)
+
+        go : (o : Option ℕ) → choose (excludingOnly m xs) l k lower upper a b ≡ o → left m l k lower upper xs ≡ isSome o
+        go none e = fails _ (λ h. let w = left-is xs .0 h in not-both _ (w .1) (is .is-none .0 e (w .0)))
+        go (some s) e = left-is xs .1 (s, is .is-best s .0 e .is-admissible)
+
     pub left-front : (xs ys : List Exclusion) → left m l k lower upper (xs ++ ys) ≡ true → left m l k lower upper xs ≡ true
     left-front xs ys e = let w = left-is (xs ++ ys) .0 e in left-is xs .1 (w .0, fine-front xs ys (w .0) (w .1))
 
@@ -158,8 +151,8 @@ module _ (m : Meaning) (l : Line) (k lower upper : ℕ) where
       where
         fine : Fine [] (fitting m upper)
         fine =
-            of-parts (within (fitting m upper) (m .authorized)) _ _ _ (fitting-own m upper) w (fitting-fits m upper)
-            (all-true (putIn k (fitting m upper) l .sessions))
+            all-four (within (fitting m upper) (m .authorized)) _ _ _ (fitting-own m upper) w (fitting-fits m upper)
+            (mem-all _ (putIn k (fitting m upper) l .sessions) (λ _ _. refl))
 
     -- where a set is left, they give every permission
     left-fitting : (xs : List Exclusion) → left m l k lower upper xs ≡ true → within lower (carriedBy m (fitting m upper)) ≡ true
@@ -168,7 +161,7 @@ module _ (m : Meaning) (l : Line) (k lower upper : ℕ) where
       where
         go : (s : ℕ) → Fine xs s → within lower (carriedBy m (fitting m upper)) ≡ true
         go s e =
-            let w = parts (within s (m .authorized)) _ _ _ e in
+            let w = four (within s (m .authorized)) _ _ _ e in
             within-trans lower (carriedBy m s) (carriedBy m (fitting m upper)) (w .1)
             (carried-mono m s (fitting m upper) (fitting-all m upper below s (w .0) (w .2)))
 

@@ -13,7 +13,7 @@ use lib.Dec.{eqb}
 use lib.Pow.{pow-pos, pow-mono}
 use lib.Bits.{or-zero-l, or-zero-r}
 use lib.ListN.{getD, length, length-append}
-use borrow.Author.Tests.{eq-eqb, not-true}
+use borrow.Author.Tests.{eq-eqb, not-true, not-false}
 use Rattle.model.specs.declared.Kind.{Kind}
 use Rattle.model.specs.declared.Kind.the-variants.{SsDmer, MsDmer, SsHmer, MsHmer}
 use Rattle.model.specs.declared.Exclusion.{Exclusion}
@@ -31,7 +31,7 @@ use Rattle.model.specs.Ranges.{Each, ExclusionInRange, InRange}
 use Rattle.model.specs.Chosen.{Unbarred}
 use Rattle.model.specs.Conditions.{countedAfter, Permitted}
 use Rattle.model.specs.Obstacles.{LowestWith, Members, Fits, Exceeds, excludingJust, LacksOwn, LacksUpper, LacksLimit, Left, Stands, by-own, by-upper, by-limit, by-exclusion, Readable, ObstacleIs}
-use Rattle.model_laws.proofs.Bools.{and-l, and-r, both, not-both, bool-ext}
+use Rattle.model_laws.proofs.Bools.{and-l, and-r, both, not-both, fails, bool-ext}
 use Rattle.model_laws.proofs.SetLaws.{has-inter, has-within}
 use Rattle.model_laws.proofs.UnionLaws.{has-below, has-unionAt}
 use Rattle.model_laws.proofs.AnyWidth.{lt-two-pow, same-sets, members-below, within-iff}
@@ -60,11 +60,7 @@ outside a b e =
     ]
   where
     inside : (k : ℕ) → has a k ≡ true → (has a k && not (has b k)) ≡ false → has b k ≡ true
-    inside k h q = go (has b k) (sym (ap (λ (c : Bool). c && not (has b k)) h) ∙ q)
-      where
-        go : (c : Bool) → not c ≡ false → c ≡ true
-        go true e = refl
-        go false e = sym e
+    inside k h q = not-false (has b k) (sym (ap (λ (c : Bool). c && not (has b k)) h) ∙ q)
 
 -- ---- what stays counted at session k is what is counted there whatever is put in
 module _ (l : Line) (k : ℕ) where
@@ -147,14 +143,9 @@ module _ (p : Policy) (range : InRange p) where
         λ e r h c. let i = low r h in
             not-both (has (carriedBy (meaning p u) s) q)
             (has-unionAt (meaning p u .carried) s q .1 (record { member = r; below = i; chosen = mem r .1 h; holds = row-is r q i .1 c })) e,
-        λ f. go (has (carriedBy (meaning p u) s) q) refl f,
+        λ f. fails _ (λ e. let w = has-unionAt (meaning p u .carried) s q .0 e in
+            f (w .member) (mem (w .member) .0 (w .chosen)) (row-is (w .member) q (w .below) .0 (w .holds))),
       )
-        where
-          go : (b : Bool) → has (carriedBy (meaning p u) s) q ≡ b → ((r : ℕ) → P r → ¬ Carries p r q) → b ≡ false
-          go false e f = refl
-          go true e f =
-              let w = has-unionAt (meaning p u .carried) s q .0 e in
-              absurd (f (w .member) (mem (w .member) .0 (w .chosen)) (row-is (w .member) q (w .below) .0 (w .holds)))
 
       -- Q says that q is asked for, and that none of them carries it
       module _ (lb : ℕ) (small : lb < 2 ^ 256) (Q : ℕ → Type 0)
@@ -173,13 +164,9 @@ module _ (p : Policy) (range : InRange p) where
               (record {
                 small = has-below 256 lb q small (is q .0 (w .holds) .0);
                 passes = lacked-is q .1 (w .holds);
-                least = λ j i. go j (lacked (meaning p u) lb s j) refl (w .lowest j i);
+                least = λ j i. fails _ (λ e. w .lowest j i (lacked-is j .0 e));
               }),
         )
-          where
-            go : (j : ℕ) (b : Bool) → lacked (meaning p u) lb s j ≡ b → ¬ Q j → b ≡ false
-            go j false e n = refl
-            go j true e n = absurd (n (lacked-is j .0 e))
 
         lacking-nothing : (lacking (meaning p u) lb s ≡ none) ↔ ((q : ℕ) → ¬ Q q)
         lacking-nothing = (
@@ -400,24 +387,35 @@ module _ (p : Policy) (range : InRange p) (u : ℕ) (x : Others) (l : Line) (k l
   abbrev told : Option Obstacle
   told = obstacleOf m x l k lb ub
 
-  own-stands : (o : Obstacle) → lacks 1 (carriersOf m (λ r. true)) (lacking m lb (m .authorized)) ≡ some o → It o
+  -- by each kind
+  abbrev kind1 : Option Obstacle
+  kind1 = lacks 1 (carriersOf m (λ r. true)) (lacking m lb (m .authorized))
+
+  abbrev kind2 : Option Obstacle
+  kind2 = lacks 2 (carriersOf m (has (m .authorized))) (lacking m lb (fitting m ub))
+
+  abbrev kind3 : Option Obstacle
+  kind3 = lacks 3 (carriersOf m (has (fitting m ub))) (lacking m lb (fitting free ub))
+
+  abbrev kind4 : Option Obstacle
+  kind4 = blocks l k (blocking (left free l k lb ub) [] (m .ordered))
+
+  own-stands : (o : Obstacle) → kind1 ≡ some o → It o
   own-stands o e =
       let w = lacks-some 1 _ _ o e in
       subst It (w .2) (by-own (w .0) _ (own-told (w .0) .0 (w .1)) (own-shown (w .0)))
 
-  upper-stands : (o : Obstacle) → lacking m lb (m .authorized) ≡ none
-      → lacks 2 (carriersOf m (has (m .authorized))) (lacking m lb (fitting m ub)) ≡ some o → It o
+  upper-stands : (o : Obstacle) → lacking m lb (m .authorized) ≡ none → kind2 ≡ some o → It o
   upper-stands o n e =
       let w = lacks-some 2 _ _ o e in
       subst It (w .2) (by-upper (w .0) _ (own-nothing .0 n) (upper-told (w .0) .0 (w .1)) (upper-shown (w .0)))
 
-  limit-stands : (o : Obstacle) → lacking m lb (fitting m ub) ≡ none
-      → lacks 3 (carriersOf m (has (fitting m ub))) (lacking m lb (fitting free ub)) ≡ some o → It o
+  limit-stands : (o : Obstacle) → lacking m lb (fitting m ub) ≡ none → kind3 ≡ some o → It o
   limit-stands o n e =
       let w = lacks-some 3 _ _ o e in
       subst It (w .2) (by-limit (w .0) _ (upper-nothing .0 n) (limit-told (w .0) .0 (w .1)) (limit-shown (w .0)))
 
-  exclusion-stands : (o : Obstacle) → lacking m lb (fitting free ub) ≡ none → blocks l k (blocking (left free l k lb ub) [] (m .ordered)) ≡ some o → It o
+  exclusion-stands : (o : Obstacle) → lacking m lb (fitting free ub) ≡ none → kind4 ≡ some o → It o
   unfolding blocks
   exclusion-stands o n e =
       let w = blocks-some l k _ o e in
@@ -437,26 +435,15 @@ module _ (p : Policy) (range : InRange p) (u : ℕ) (x : Others) (l : Line) (k l
   unfolding obstacleOf
   to o e = first (or-else-some _ _ o e)
     where
-      third : (lacks 3 (carriersOf m (has (fitting m ub))) (lacking m lb (fitting free ub)) ≡ some o)
-          ⊎ ((lacks 3 (carriersOf m (has (fitting m ub))) (lacking m lb (fitting free ub)) ≡ none)
-          × (blocks l k (blocking (left free l k lb ub) [] (m .ordered)) ≡ some o))
-          → lacking m lb (fitting m ub) ≡ none → It o
+      third : (kind3 ≡ some o) ⊎ ((kind3 ≡ none) × (kind4 ≡ some o)) → lacking m lb (fitting m ub) ≡ none → It o
       third (inl f) n = limit-stands o n f
       third (inr f) n = exclusion-stands o (lacks-none 3 _ _ (f .0)) (f .1)
 
-      second : (lacks 2 (carriersOf m (has (m .authorized))) (lacking m lb (fitting m ub)) ≡ some o)
-          ⊎ ((lacks 2 (carriersOf m (has (m .authorized))) (lacking m lb (fitting m ub)) ≡ none)
-          × (orElse (lacks 3 (carriersOf m (has (fitting m ub))) (lacking m lb (fitting free ub)))
-          (blocks l k (blocking (left free l k lb ub) [] (m .ordered))) ≡ some o))
-          → lacking m lb (m .authorized) ≡ none → It o
+      second : (kind2 ≡ some o) ⊎ ((kind2 ≡ none) × (orElse kind3 kind4 ≡ some o)) → lacking m lb (m .authorized) ≡ none → It o
       second (inl f) n = upper-stands o n f
       second (inr f) n = third (or-else-some _ _ o (f .1)) (lacks-none 2 _ _ (f .0))
 
-      first : (lacks 1 (carriersOf m (λ r. true)) (lacking m lb (m .authorized)) ≡ some o)
-          ⊎ ((lacks 1 (carriersOf m (λ r. true)) (lacking m lb (m .authorized)) ≡ none)
-          × (orElse (lacks 2 (carriersOf m (has (m .authorized))) (lacking m lb (fitting m ub)))
-          (orElse (lacks 3 (carriersOf m (has (fitting m ub))) (lacking m lb (fitting free ub)))
-          (blocks l k (blocking (left free l k lb ub) [] (m .ordered)))) ≡ some o)) → It o
+      first : (kind1 ≡ some o) ⊎ ((kind1 ≡ none) × (orElse kind2 (orElse kind3 kind4) ≡ some o)) → It o
       first (inl f) = own-stands o f
       first (inr f) = second (or-else-some _ _ o (f .1)) (lacks-none 1 _ _ (f .0))
 
@@ -490,10 +477,6 @@ module _ (p : Policy) (range : InRange p) (u : ℕ) (x : Others) (l : Line) (k l
     where
       shown : Exclusion → ℕ → Obstacle
       shown y c = record { kind = 4; about = kindNumber (y .kind) + 4 * y .limit; first = c; second = y .members }
-
-      fails : (t : Bool) → ¬ (t ≡ true) → t ≡ false
-      fails true h = absurd (h refl)
-      fails false h = refl
 
   -- nothing that is told is lost
   readable : (o : Obstacle) → It o → Readable o
