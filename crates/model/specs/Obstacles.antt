@@ -4,16 +4,17 @@ use mathlib.Core.Path.{_≡_}
 use mathlib.Core.Logic.{_↔_}
 use mathlib.Core.Bool.{true, false}
 use mathlib.Core.Option.{none, some}
-use mathlib.Core.List.{List, [], _∷_, _++_}
+use mathlib.Core.List.{List, [], _∷_, _++_, List·Memᴰ}
 use Prim.Native.Nat.{ℕ, _+_, _*_, _/_, _%_, _^_, _≤_, _<_}
 use Rattle.model.specs.declared.Exclusion.{Exclusion}
 use Rattle.model.specs.declared.Line.{Line}
 use Rattle.model.specs.Sets.{has}
-use Rattle.model.specs.Policy.{Policy, kindNumber, sorted, meaning}
+use Rattle.model.specs.Policy.{Policy, kindNumber, before, meaning}
 use Rattle.model.specs.Limits.{Others, barred}
 use Rattle.model.specs.Obstacle.{Obstacle, obstacleOf}
 use Rattle.model.specs.Run.{step, askBy, obstacleBy}
 use Rattle.model.specs.Chains.{Authorized, Carries}
+use Rattle.model.specs.Ranges.{Ascending}
 use Rattle.model.specs.Conditions.{countedAfter, Permitted}
 
 -- a call's extra and bytes hold all of it
@@ -38,6 +39,11 @@ Fits p ub r = (n : ℕ) → Carries p r n → has ub n ≡ true
 
 abbrev pub Exceeds : Policy → ℕ → ℕ → Type 0
 Exceeds p ub r = (n : ℕ) × Carries p r n × (has ub n ≡ false)
+
+-- xs are the exclusions of a policy in the order of the tidy image, each once: ascending by kind, limit and member set
+pub record InTidyOrder (p : Policy) (xs : List Exclusion) : Type 0 where
+  pub ascending : Ascending (λ x y. before x y ≡ true) xs
+  pub members : (y : Exclusion) → List·Memᴰ y xs ↔ List·Memᴰ y (p .exclusions)
 
 -- the policy with the exclusions xs alone
 unfoldable pub excludingJust : List Exclusion → Policy → Policy
@@ -81,8 +87,8 @@ module _ (p : Policy) (u : ℕ) (x : Others) (l : Line) (k lb ub : ℕ) where
         → Stands (record { kind = 2; about = q; first = s; second = 0 })
     by-limit : (q s : ℕ) → ((j : ℕ) → ¬ LacksUpper j) → LowestWith LacksLimit q
         → Members s (λ r. Authorized p u r × Carries p r q × Fits p ub r) → Stands (record { kind = 3; about = q; first = s; second = 0 })
-    by-exclusion : (before after : List Exclusion) (y : Exclusion) (s : ℕ) → sorted (p .exclusions) ≡ before ++ (y ∷ after)
-        → Left before → ¬ Left (before ++ (y ∷ [])) → Members s (λ r. (has (y .members) r ≡ true) × Counted y r)
+    by-exclusion : (front rest : List Exclusion) (y : Exclusion) (s : ℕ) → InTidyOrder p (front ++ (y ∷ rest))
+        → Left front → ¬ Left (front ++ (y ∷ [])) → Members s (λ r. (has (y .members) r ≡ true) × Counted y r)
         → Stands (record { kind = 4; about = kindNumber (y .kind) + 4 * y .limit; first = s; second = y .members })
 
   -- what is told is what stands in the way, and nothing is told exactly if some set meets what the ask asks; where none does, exactly one

@@ -4,7 +4,7 @@ use mathlib.Core.Path.{_≡_, refl, sym, ap, _∙_, subst}
 use mathlib.Core.Logic.{_⊎_, inl, inr, _↔_}
 use mathlib.Core.Bool.{Bool, true, false, _&&_, not}
 use mathlib.Core.Option.{Option, none, some, Option·some-injective}
-use mathlib.Core.List.{List, [], _∷_, _++_, append-assoc, List·Memᴰ, List·Memᴰ·head, Memᴰ·append-right}
+use mathlib.Core.List.{List, [], _∷_, _++_, append-assoc, List·Memᴰ·head, Memᴰ·append-right}
 use Prim.Native.Nat.{ℕ, _+_, _*_, _^_, _<_, zero-le}
 use native.Mathlib.Nat.{lt-of-lt-of-le}
 use native.Mathlib.Decide.{decLt}
@@ -30,7 +30,7 @@ use Rattle.model.specs.Chains.{grants, Chain, here, step, Authorized, Carries}
 use Rattle.model.specs.Ranges.{Each, ExclusionInRange, InRange}
 use Rattle.model.specs.Chosen.{Unbarred}
 use Rattle.model.specs.Conditions.{countedAfter, Permitted}
-use Rattle.model.specs.Obstacles.{LowestWith, Members, Fits, Exceeds, excludingJust, LacksOwn, LacksUpper, LacksLimit, Left, Stands, by-own, by-upper, by-limit, by-exclusion, Readable, ObstacleIs}
+use Rattle.model.specs.Obstacles.{LowestWith, Members, Fits, Exceeds, InTidyOrder, excludingJust, LacksOwn, LacksUpper, LacksLimit, Left, Stands, by-own, by-upper, by-limit, by-exclusion, Readable, ObstacleIs}
 use Rattle.model_laws.proofs.Bools.{and-l, and-r, both, not-both, fails, bool-ext}
 use Rattle.model_laws.proofs.SetLaws.{has-inter, has-within}
 use Rattle.model_laws.proofs.UnionLaws.{has-below, has-unionAt}
@@ -43,7 +43,7 @@ use Rattle.model_laws.proofs.Choices.{choice}
 use Rattle.model_laws.proofs.Barred.{unbarred-below, admissible-unbarred}
 use Rattle.model_laws.proofs.Meanings.{all-same}
 use Rattle.model_laws.proofs.Eachs.{each-mem}
-use Rattle.model_laws.proofs.SortedLaws.{sameExclusion-eq, sameExclusion-refl, sorted-mem, any-mem, each-sorted, length-sorted}
+use Rattle.model_laws.proofs.SortedLaws.{sameExclusion-eq, sameExclusion-refl, sorted-mem, any-mem, each-sorted, ascending-sorted, sorted-only, length-sorted}
 use Rattle.model_laws.proofs.AdmittedProof.{own-below, permitted-is}
 use Rattle.model_laws.proofs.Blocking.{or-else-some, or-first, or-second, BlocksAt, blocked-at, at-blocked}
 use Rattle.model_laws.proofs.ObstacleLaws.{lacked, lacking-some, lacking-none, fitting-has, has-fitting, left-is, left-front, lacks-none, lacks-some, blocks-some, own-none, limit-left, left-limit, way-none, way-fourth, none-way}
@@ -380,6 +380,14 @@ module _ (p : Policy) (range : InRange p) (u : ℕ) (x : Others) (l : Line) (k l
       none-way m x l k lb ub small
       (left-is free l k lb ub (unbarred-below m x l k) (sorted (p .exclusions)) .1 (s, all-met s ∙ w .is-admissible))
 
+  -- the order of the tidy image
+  ordered-is : m .ordered ≡ sorted (p .exclusions)
+  unfolding meaning
+  ordered-is = refl
+
+  tidy-order : InTidyOrder p (sorted (p .exclusions))
+  tidy-order = record { ascending = ascending-sorted (p .exclusions); members = λ y. sorted-mem y (p .exclusions) }
+
   -- ---- what is told
   abbrev It : Obstacle → Type 0
   It = Stands p u x l k lb ub
@@ -427,7 +435,8 @@ module _ (p : Policy) (range : InRange p) (u : ℕ) (x : Others) (l : Line) (k l
       fourth y b =
           let e : sorted (p .exclusions) ≡ b .before ++ (y ∷ b .after) = unfold meaning in (b .parts) in
           let f : sorted (p .exclusions) ≡ (b .before ++ (y ∷ [])) ++ b .after = e ∙ sym (append-assoc (b .before) (y ∷ []) (b .after)) in
-          by-exclusion (b .before) (b .after) y _ e (left-permitted (b .before) (front-range (b .before) (y ∷ b .after) e) .0 (b .holds))
+          by-exclusion (b .before) (b .after) y _ (subst (InTidyOrder p) e tidy-order)
+          (left-permitted (b .before) (front-range (b .before) (y ∷ b .after) e) .0 (b .holds))
           (λ s. not-both (left free l k lb ub (b .before ++ (y ∷ [])))
           (left-permitted (b .before ++ (y ∷ [])) (front-range (b .before ++ (y ∷ [])) (b .after) f) .1 s) (b .fails)) (stays-is l k y)
 
@@ -464,15 +473,15 @@ module _ (p : Policy) (range : InRange p) (u : ℕ) (x : Others) (l : Line) (k l
       let a = upper-nothing .1 n in
       or-second _ _ (ap (lacks 1 _) (own-none m x l k lb ub small a)) ∙ or-second _ _ (ap (lacks 2 _) a)
       ∙ or-first _ _ _ (lacked-told 3 _ q s _ (limit-told q .1 w) (same-members _ s _ (limit-shown q) f))
-  from o (by-exclusion before after y c e s n g) =
-      let f : sorted (p .exclusions) ≡ (before ++ (y ∷ [])) ++ after = e ∙ sym (append-assoc before (y ∷ []) after) in
-      let a = left-permitted before (front-range before (y ∷ after) e) .1 s in
-      let b = left-permitted (before ++ (y ∷ [])) (front-range (before ++ (y ∷ [])) after f) in
-      let z : m .ordered ≡ before ++ (y ∷ after) = unfold meaning in e in
-      way-fourth m x l k lb ub small (left-limit m x l k lb ub small before a)
-      ∙ ap (blocks l k) (ap (blocking (left free l k lb ub) []) z
-      ∙ at-blocked (left free l k lb ub) (left-front free l k lb ub (unbarred-below m x l k)) [] before after y a
-      (fails (left free l k lb ub (before ++ (y ∷ []))) (λ h. n (b .0 h))))
+  from o (by-exclusion front rest y c t s n g) =
+      let e : sorted (p .exclusions) ≡ front ++ (y ∷ rest) = sorted-only (p .exclusions) (front ++ (y ∷ rest)) (t .ascending) (t .members) in
+      let f : sorted (p .exclusions) ≡ (front ++ (y ∷ [])) ++ rest = e ∙ sym (append-assoc front (y ∷ []) rest) in
+      let a = left-permitted front (front-range front (y ∷ rest) e) .1 s in
+      let b = left-permitted (front ++ (y ∷ [])) (front-range (front ++ (y ∷ [])) rest f) in
+      way-fourth m x l k lb ub small (left-limit m x l k lb ub small front a)
+      ∙ ap (blocks l k) (ap (blocking (left free l k lb ub) []) (ordered-is ∙ e)
+      ∙ at-blocked (left free l k lb ub) (left-front free l k lb ub (unbarred-below m x l k)) [] front rest y a
+      (fails (left free l k lb ub (front ++ (y ∷ []))) (λ h. n (b .0 h))))
       ∙ (λ i. some (shown y (same-members _ c _ (stays-is l k y) g i)))
     where
       shown : Exclusion → ℕ → Obstacle
@@ -486,10 +495,9 @@ module _ (p : Policy) (range : InRange p) (u : ℕ) (x : Others) (l : Line) (k l
       record { kind = omega arith; about = omega arith; first = members-below 64 s (λ r e. own-role p range u r (f r .0 e .0)); second = pow-pos 64 }
   readable o (by-limit q s n w f) =
       record { kind = omega arith; about = omega arith; first = members-below 64 s (λ r e. own-role p range u r (f r .0 e .0)); second = pow-pos 64 }
-  readable o (by-exclusion before after y c e s n g) =
-      let In = ExclusionInRange (p .head .roles) in
-      let r = each-mem In (sorted (p .exclusions)) (each-sorted In (p .exclusions) (range .exclusions)) y
-      (subst (List·Memᴰ y) (sym e) (Memᴰ·append-right before (List·Memᴰ·head refl))) in
+  readable o (by-exclusion front rest y c t s n g) =
+      let r = each-mem (ExclusionInRange (p .head .roles)) (p .exclusions) (range .exclusions) y
+      (t .members y .0 (Memᴰ·append-right front (List·Memᴰ·head refl))) in
       let h = lt-of-lt-of-le (r .members) (pow-mono (few p range)) in
       record {
         kind = omega arith;
