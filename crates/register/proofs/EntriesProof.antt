@@ -23,24 +23,10 @@ use Rattle.model.specs.Words.{headWord, assignWord, grantWord, seniorWord, excl
 use Rattle.model.specs.Policy.{kindNumber}
 use Rattle.model.specs.Ranges.{OneTo}
 use Rattle.model_laws.proofs.Bools.{and-l, and-r, both, pick-case}
+use Rattle.model_laws.proofs.SortedLaws.{kind-of, kind-number}
 use Rattle.register.specs.Entries.{Fits, IsWord, IsHead, WordIs, WordsAre}
 
 -- ---- an exclusion's kind and its number
-kind-number : (k : ℕ) → k < 4 → kindNumber (kindOf k) ≡ k
-unfolding kindOf kindNumber pick
-kind-number zero l = refl
-kind-number (suc zero) l = refl
-kind-number (suc (suc zero)) l = refl
-kind-number (suc (suc (suc zero))) l = refl
-kind-number (suc (suc (suc (suc k)))) l = absurd (omega arith)
-
-kind-back : (k : Kind) → kindOf (kindNumber k) ≡ k
-unfolding kindOf kindNumber pick
-kind-back SsDmer = refl
-kind-back MsDmer = refl
-kind-back SsHmer = refl
-kind-back MsHmer = refl
-
 kind-below : (k : Kind) → kindNumber k < 4
 unfolding kindNumber
 kind-below SsDmer = omega arith
@@ -188,7 +174,7 @@ write-exclusion k n m a b =
     let x : field w 19 7 ≡ n = omega arith in
     let y : field w 12 7 ≡ m = omega arith in
     let z : w % 2 ^ 12 ≡ 0 = omega arith in
-    let q : kindOf (field w 26 2) ≡ k = ap kindOf v ∙ kind-back k in
+    let q : kindOf (field w 26 2) ≡ k = ap kindOf v ∙ kind-of k in
     decode-by w 5 t ∙ (λ i. says (Exclude (record { kind = q i; limit = x i; members = 0 }) (y i)) (z i))
 
 writes : (w : ℕ) (e : Entry) → Fits e → IsWord w e → decode w ≡ says e 0

@@ -1,6 +1,6 @@
 -- Words that are determined by what they say, and images by their words.
 -- Assumes nothing.
-use mathlib.Core.Path.{_≡_, refl, sym, ap, _∙_}
+use mathlib.Core.Path.{_≡_, sym, ap, _∙_}
 use mathlib.Core.Bool.{true, _&&_}
 use mathlib.Core.List.{List, [], _∷_, _++_}
 use Prim.Native.Nat.{ℕ, zero, suc, _+_, _*_, _/_, _%_, _^_, _<_}
@@ -13,7 +13,7 @@ use borrow.Author.Tests.{eqb-true, ltb-true}
 use Rattle.model.specs.declared.Entry.{Entry}
 use Rattle.model.specs.declared.Entry.the-variants.{Assignment, Grant, Senior, Exclude, Member, End, Unknown, Limit}
 use Rattle.model.specs.declared.Word.{Word}
-use Rattle.model.specs.Tests.{pick, between}
+use Rattle.model.specs.Tests.{between}
 use Rattle.model.specs.Bytes.{bytesOf}
 use Rattle.model.specs.Image.{wordAt, field, isKind, kindOf, decode, headOf, headRight}
 use Rattle.model.specs.Words.{headWord, assignWord, grantWord, seniorWord, exclusionWord, memberWord, limitWord, imageBytes}
@@ -22,6 +22,7 @@ use Rattle.model.specs.OwnWords.{wordsFrom}
 use Rattle.model.specs.Ranges.{Each}
 use Rattle.model_laws.proofs.Bools.{and-l, and-r, pick-case}
 use Rattle.model_laws.proofs.Eachs.{nil-of}
+use Rattle.model_laws.proofs.SortedLaws.{kind-number}
 use Rattle.tidy_laws.proofs.WordLaws.{words-next}
 
 -- ---- what is written for an entry
@@ -34,14 +35,6 @@ WordFor (Member r) w = w ≡ memberWord (r .0)
 WordFor (Limit r t) w = w ≡ limitWord (r .0) t
 WordFor End w = w ≡ 15 * 2 ^ 28 + w % 2 ^ 28
 WordFor Unknown w = Unit {0}
-
-kind-number : (k : ℕ) → k < 4 → kindNumber (kindOf k) ≡ k
-unfolding kindNumber kindOf pick
-kind-number zero l = refl
-kind-number (suc zero) l = refl
-kind-number (suc (suc zero)) l = refl
-kind-number (suc (suc (suc zero))) l = refl
-kind-number (suc (suc (suc (suc k)))) l = absurd (let z : ⊥ = omega arith in z)
 
 -- a quotient by its lowest digit
 div-step : (w a b : ℕ) → w / a ≡ w / (a * b) * b + w / a % b

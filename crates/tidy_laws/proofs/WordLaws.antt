@@ -193,17 +193,3 @@ module _ (w : ℕ) (ws : List ℕ) (low : w < 2 ^ 32) (rest : Each (λ w. w < 2 
   behind-read =
       let n : length (imageBytes (w ∷ ws)) / 4 - 1 ≡ length ws = omega (arith, bytes-length (w ∷ ws)) in
       ap (λ (k : ℕ). wordsFrom (imageBytes (w ∷ ws)) k 1) n ∙ words-next w (imageBytes ws) (length ws) 0 ∙ words-back ws rest
-
--- ---- kinds of exclusions
-
-kind-number : (k : ℕ) → k < 4 → kindNumber (kindOf k) ≡ k
-unfolding kindOf kindNumber pick
-kind-number zero h = refl
-kind-number (suc zero) h = refl
-kind-number (suc (suc zero)) h = refl
-kind-number (suc (suc (suc zero))) h = refl
-kind-number (suc (suc (suc (suc k)))) h = absurd (omega arith)
-
--- the kind of a row by its number
-pub row-kind : (x : ℕ) → kindNumber (kindOf (x % 4)) ≡ x % 4
-row-kind x = kind-number (x % 4) (omega arith)

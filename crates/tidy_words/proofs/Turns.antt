@@ -22,7 +22,7 @@ use Rattle.rows.proofs.Packing.{row-at}
 use Rattle.tidying.specs.Groups.{spread}
 use Rattle.tidying.specs.Tidy.{membersTo, tableGroups, exclusionGroup}
 use Rattle.tidy_laws.proofs.TidyLists.{members-length, row-words}
-use Rattle.tidy_laws.proofs.WordLaws.{row-kind}
+use Rattle.model_laws.proofs.SortedLaws.{row-kind}
 use Rattle.tidy_words.specs.Buffers.{setWords}
 use Rattle.tidy_words.specs.Tables.{pairWord, rowWords, tableWords, Table, exclusionWords}
 use Rattle.tidy_words.proofs.Writing.{Begins}
