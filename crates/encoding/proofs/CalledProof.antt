@@ -26,7 +26,7 @@ use Rattle.model.specs.Limits.{Others, unbarred}
 use Rattle.model.specs.Choice.{carriedBy, admissible}
 use Rattle.model.specs.Chosen.{Unbarred}
 use Rattle.model.specs.Conditions.{Permitted}
-use Rattle.model.specs.Session.{Query, ask, short-ask, shortAim, clauses, isAsk, Reply, refuse, given, wrote, Result, Refusal, bad-other, bad-line, bad-session, is-closed, is-full, bad-set, bad-permission, bad-bounds, bad-aim, bad-room, no-set, not-below, not-carried, too-long, refusalNumber, refusalExtra, canGive, chosen, textFor, isNone, applies, asked, perform, sessionOf, queryOf, unless, rule}
+use Rattle.model.specs.Session.{Query, ask, short-ask, shortAim, clauses, isAsk, Reply, refuse, given, wrote, Result, Refusal, bad-other, bad-line, bad-session, is-closed, is-full, bad-set, bad-permission, bad-bounds, bad-aim, bad-room, no-set, not-below, not-carried, bad-pair, no-obstacle, too-long, refusalNumber, refusalExtra, canGive, chosen, textFor, isNone, applies, asked, perform, sessionOf, queryOf, unless, rule}
 use Rattle.model.specs.Run.{Call, Event, lineAt, lineOf, heldByOthers, othersOf, told, ruled, stepOn, stepBy, step, askBy, shortAskBy, clausesBy}
 use Rattle.model_laws.proofs.Bools.{and-l}
 use Rattle.model_laws.proofs.CallLaws.{first-none}
@@ -64,6 +64,8 @@ refusal-number bad-room e = omega arith
 refusal-number no-set e = omega arith
 refusal-number (not-below n) e = omega arith
 refusal-number (not-carried n) e = omega arith
+refusal-number bad-pair e = omega arith
+refusal-number no-obstacle e = omega arith
 refusal-number too-long e = omega arith
 
 skip : (f : Refusal → Bool) (r : Refusal) (rs : List Refusal) → f r ≡ false → first f (r ∷ rs) ≡ first f rs
