@@ -35,7 +35,7 @@ pub struct Wanted {
 }
 
 // The best admissible role set for session k of a line that meets every exclusion, by the rows of the roles that the user may activate.
-fn best(
+pub fn best(
     rows: &[[u64; 4]; 64],
     authorized: u64,
     xs: &[[u64; 2]; 32],

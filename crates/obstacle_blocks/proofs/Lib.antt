@@ -1,0 +1,3 @@
+-- The laws behind an exclusion that stands in the way.
+pub mod Lefts
+pub mod Tells

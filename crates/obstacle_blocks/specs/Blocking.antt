@@ -1,0 +1,17 @@
+-- Where exclusions begin to leave no set.
+-- Assumes nothing.
+use mathlib.Core.Path.{_≡_}
+use mathlib.Core.Bool.{true, false}
+use Prim.Native.Nat.{ℕ, _+_, _<_}
+use lib.ListN.{take}
+use Rattle.model.specs.declared.Line.{Line}
+use Rattle.model.specs.Policy.{Policy}
+use Rattle.model.specs.Limits.{Others}
+use Rattle.model.specs.Obstacle.{left}
+use Rattle.asks.specs.Asks.{leftTo}
+
+-- of the policy's n exclusions the first j leave a set, and the first j + 1 leave none
+pub record Blocks (p : Policy) (u : ℕ) (x : Others) (l : Line) (k lower upper n j : ℕ) : Type 0 where
+  pub inside : j < n
+  pub leaves : left (leftTo p u x l k) l k lower upper (take j (p .exclusions)) ≡ true
+  pub stops : left (leftTo p u x l k) l k lower upper (take (j + 1) (p .exclusions)) ≡ false
