@@ -1,0 +1,2 @@
+-- The laws behind the first obstacle that holds.
+pub mod FourKinds
