@@ -1,0 +1,2 @@
+-- What a host gets of an obstacle.
+pub mod Telling
