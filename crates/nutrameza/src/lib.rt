@@ -14,6 +14,7 @@ ghost use Rattle.turned_table.specs.TableCalls.{tableCall};
 ghost use Rattle.turned.specs.Calls.{turnCall, unturnCall};
 
 pub mod clauses; // clauses.rt: the clause text of an ask
+pub mod obstacle; // obstacle.rt: what stands in the way of an ask
 
 // Judges an image: 0, or the refusal's number plus 256 times the place of the refused word, by 22 the lowest role on a loop, or by 23 the
 // lowest user who may activate more than 16 roles.
