@@ -111,6 +111,20 @@ mod raw {
             out: *mut u8,
             out_len: usize,
         ) -> u64;
+        pub fn nutrameza_obstacle(
+            image: *const u8,
+            image_len: usize,
+            ledger: *const u8,
+            ledger_len: usize,
+            user: u64,
+            session: u64,
+            lower: *const u8,
+            lower_len: usize,
+            upper: *const u8,
+            upper_len: usize,
+            roles: *mut u8,
+            roles_len: usize,
+        ) -> u64;
     }
 }
 
@@ -293,6 +307,27 @@ pub fn clauses(empty: Empty, image: &[u8], ledger: &[u8], wish: &Wish, objective
     }
 }
 
+#[cfg(feature = "asks")]
+pub fn obstacle(empty: Empty, image: &[u8], ledger: &[u8], wish: &Wish, roles: &mut [u8]) -> u64 {
+    // SAFETY: as in `open`.
+    unsafe {
+        raw::nutrameza_obstacle(
+            empty.read(image),
+            image.len(),
+            empty.read(ledger),
+            ledger.len(),
+            wish.user,
+            wish.session,
+            empty.read(wish.lower),
+            wish.lower.len(),
+            empty.read(wish.upper),
+            wish.upper.len(),
+            empty.write(roles),
+            roles.len(),
+        )
+    }
+}
+
 /// Makes a call; the answer buffer is the call's room long.
 pub fn play(empty: Empty, image: &[u8], ledger: &mut [u8], call: &Call, answer: &mut [u8]) -> u64 {
     match call {
@@ -318,6 +353,11 @@ pub fn play(empty: Empty, image: &[u8], ledger: &mut [u8], call: &Call, answer: 
         Call::Clauses { user, session, lower, upper, objectives, .. } => {
             let wish = Wish { user: *user, session: *session, lower, upper };
             clauses(empty, image, ledger, &wish, *objectives, answer)
+        }
+        #[cfg(feature = "asks")]
+        Call::Obstacle { user, session, lower, upper, .. } => {
+            let wish = Wish { user: *user, session: *session, lower, upper };
+            obstacle(empty, image, ledger, &wish, answer)
         }
         #[cfg(not(feature = "asks"))]
         _ => panic!(

@@ -1,5 +1,5 @@
-//! The ward examples of 01: image A and its variants, 003's three roles, a few more, image A for two users with limits, and bounds as
-//! one hex number.
+//! The ward examples of 01: image A and its variants, 003's three roles, a few more, image A for two users with limits, what stands in
+//! the way of asks, and bounds as one hex number.
 
 use crate::solver::calls::{Call, Reply};
 use crate::solver::line::LINE;
@@ -178,8 +178,8 @@ pub fn cases() -> Vec<Case> {
     cases
 }
 
-/// An example of two users: calls on a ledger and what they answer, under image A for two with limits.
-pub struct LimitCase {
+/// An example that starts from a ledger of its own: calls and what they answer.
+pub struct LedgerCase {
     pub name: &'static str,
     pub image: Vec<u8>,
     pub ledger: Vec<u8>,
@@ -226,12 +226,12 @@ pub fn doctors_in(sessions: usize) -> Vec<u8> {
 }
 
 /// What 02 says of limits, worked out by hand.
-pub fn limit_cases() -> Vec<LimitCase> {
+pub fn limit_cases() -> Vec<LedgerCase> {
     let (opened, none) = ((0, 0, 0, 0), (20, 0, 0, 0));
     let (prescribes, manages) = ((0, 0, 1, 0xf), (0, 0, 2, 0x12));
     let (zero, damaged) = (vec![0; LINE], vec![0xff; LINE]);
     let refused = |extra| (11, extra, 0, 0);
-    let case = |name, limits: &[(u32, u32)], lines: [&Vec<u8>; 2], calls: Vec<Call>, expected: Vec<Seen>| LimitCase {
+    let case = |name, limits: &[(u32, u32)], lines: [&Vec<u8>; 2], calls: Vec<Call>, expected: Vec<Seen>| LedgerCase {
         name,
         image: image_limited(limits),
         ledger: lines.map(|line| line.clone()).concat(),
@@ -333,6 +333,149 @@ pub fn limit_cases() -> Vec<LimitCase> {
             [&zero, &damaged],
             vec![open(), doctor(0), short(0, 0x12, 0x1f), of_second(doctor(0))],
             vec![opened, prescribes, manages, refused(0)],
+        ),
+    ]
+}
+
+/// What stands in the way of an ask of user 0.
+fn obstacle(session: u64, lower: u64, upper: u64) -> Call {
+    Call::Obstacle { user: 0, session, lower: bound(lower), upper: bound(upper), room: 16 }
+}
+
+/// Image A with another exclusion of its two roles behind its own.
+fn image_a_and(kind: u32, limit: u32) -> Vec<u8> {
+    let mut image = A[..12].to_vec();
+    image.extend(words::exclusion(kind, limit, &[0, 1]));
+    words::bytes(&words::closed(image))
+}
+
+/// Image A where the user is Doctor alone.
+fn doctor_alone() -> Vec<u8> {
+    words::bytes(&words::closed([&A[..2], &A[3..12]].concat()))
+}
+
+/// A ward head over Nurse beside Surgeon, each carrying one permission.
+fn ward_head() -> Vec<u8> {
+    let grants = (0..3).map(|role| words::grant(role, role));
+    let image = [words::head(1, 3, 3), words::assignment(0, 0)].into_iter().chain(grants).chain([words::senior(0, 1)]);
+    words::bytes(&words::closed(image.collect()))
+}
+
+/// What P14 says of obstacles, worked out by hand; the runs of crates/model_cases/specs/ObstacleCases.antt.
+pub fn obstacle_cases() -> Vec<LedgerCase> {
+    let (opened, none) = ((0, 0, 0, 0), (20, 0, 0, 0));
+    let (prescribes, manages) = ((0, 0, 1, 0xf), (0, 0, 2, 0x12));
+    let refused = |number| (number, 0, 0, 0);
+    let names = |kind: u64, about: u64, first, second| (0, kind + 8 * about, first, second);
+    let excludes = |kind: u64, counted: u64| names(4, kind + 4 * 2, counted, 3);
+    let of_user_1 = |lower| Call::Obstacle { user: 1, session: 0, lower: bound(lower), upper: bound(0x1f), room: 16 };
+    let wrong = |session, lower: &[u8], upper, room| Call::Obstacle {
+        user: 0,
+        session,
+        lower: lower.to_vec(),
+        upper: bound(upper),
+        room,
+    };
+    let case = |name, image: Vec<u8>, ledger: Vec<u8>, calls: Vec<Call>, expected: Vec<Seen>| LedgerCase {
+        name,
+        image,
+        ledger,
+        calls,
+        expected,
+    };
+    let zero = || vec![0; LINE];
+    vec![
+        case(
+            "Doctor of the other session bars Data_Manager until that session is closed",
+            image_a(),
+            zero(),
+            vec![open(), doctor(0), open(), obstacle(1, 0x12, 0x1f), manager(1), close(0), obstacle(1, 0x12, 0x1f), manager(1)],
+            vec![opened, prescribes, (0, 1, 0, 0), excludes(1, 1), none, opened, none, manages],
+        ),
+        case(
+            "kind 3 counts Doctor for good",
+            image_a_with(3, 2),
+            zero(),
+            vec![open(), doctor(0), close(0), open(), obstacle(0, 0x10, 0x1f)],
+            vec![opened, prescribes, opened, opened, excludes(3, 1)],
+        ),
+        case(
+            "kind 2 in this session alone; of both roles nothing is counted beforehand",
+            image_a_with(2, 2),
+            zero(),
+            vec![open(), doctor(0), obstacle(0, 0x10, 0x1f), open(), obstacle(1, 0x10, 0x1f), obstacle(1, 0x11, 0x1f)],
+            vec![opened, prescribes, excludes(2, 1), (0, 1, 0, 0), none, excludes(2, 0)],
+        ),
+        case(
+            "a role that is not the user's comes before one that carries more, about a lower permission",
+            doctor_alone(),
+            zero(),
+            vec![open(), obstacle(0, 0x12, 0x1f), obstacle(0, 0x11, 0x11), obstacle(0, 0x1, 0x11)],
+            vec![opened, names(1, 4, 2, 0), names(1, 4, 2, 0), names(2, 0, 1, 0)],
+        ),
+        case(
+            "the ward head may take Nurse and not Surgeon",
+            ward_head(),
+            zero(),
+            vec![open(), obstacle(0, 0x6, 0x7)],
+            vec![opened, names(1, 2, 4, 0)],
+        ),
+        case(
+            "Doctor carries more than the upper bound, and so does Data_Manager; nothing hinders empty bounds",
+            image_a(),
+            zero(),
+            vec![open(), obstacle(0, 0x3, 0x3), obstacle(0, 0x2, 0x2), obstacle(0, 0, 0)],
+            vec![opened, names(2, 0, 1, 0), names(2, 1, 3, 0), none],
+        ),
+        case(
+            "the other user's session holds Doctor, which one session may; Data_Manager carries permission 1 too",
+            image_limited(&[(DOCTOR, 2)]),
+            vec![0; 2 * LINE],
+            vec![open(), doctor(0), of_second(open()), of_user_1(0x6), of_user_1(0x2)],
+            vec![opened, prescribes, opened, names(3, 2, 1, 0), none],
+        ),
+        case(
+            "the order is that of the tidy image, by kind first",
+            image_a_and(0, 2),
+            zero(),
+            vec![open(), obstacle(0, 0x11, 0x1f)],
+            vec![opened, excludes(0, 0)],
+        ),
+        case(
+            "a repeated exclusion adds nothing",
+            image_a_and(1, 2),
+            zero(),
+            vec![open(), obstacle(0, 0x11, 0x1f)],
+            vec![opened, excludes(1, 0)],
+        ),
+        case(
+            "an exclusion that leaves a set is passed over",
+            image_a_and(0, 2),
+            zero(),
+            vec![open(), doctor(0), open(), obstacle(1, 0x10, 0x1f)],
+            vec![opened, prescribes, (0, 1, 0, 0), excludes(1, 1)],
+        ),
+        case(
+            "tests run in number order",
+            image_a(),
+            zero(),
+            vec![
+                wrong(8, &[0; 31], 0x20, 0),
+                obstacle(0, 0x3, 0x3),
+                open(),
+                wrong(0, &[0; 31], 0x20, 0),
+                obstacle(0, 0x3f, 0x1f),
+                wrong(0, &bound(0x3), 0x1, 0),
+                wrong(0, &bound(0), 0, 40),
+            ],
+            vec![refused(12), refused(13), opened, refused(15), refused(16), refused(17), refused(19)],
+        ),
+        case(
+            "under a limit another user's damaged line is named, as to an ask",
+            image_limited(&[(DOCTOR, 2)]),
+            [vec![0; LINE], vec![0xff; LINE]].concat(),
+            vec![open(), obstacle(0, 0x3, 0x1f)],
+            vec![opened, (11, 2, 0, 0)],
         ),
     ]
 }

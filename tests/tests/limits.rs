@@ -115,14 +115,15 @@ fn a_limit_counts_the_role_itself_and_not_the_roles_above_it() {
 }
 
 /// The calls of a user that look at all lines under a policy with limits, right and wrong ones, each on session 0.
-fn asks_of(user: u64) -> [Call; 4] {
+fn asks_of(user: u64) -> [Call; 5] {
     let (lower, upper) = (ward::bound(1), ward::bound(0xff));
     let (session, room) = (0, 40);
     [
         ask(user, session, 1),
         Call::Ask { user, session, lower: lower.clone(), upper: upper.clone(), objectives: (2, 1), room },
-        Call::Clauses { user, session, lower: lower.clone(), upper, objectives: (2, 1), room: 10_000 },
+        Call::Clauses { user, session, lower: lower.clone(), upper: upper.clone(), objectives: (2, 1), room: 10_000 },
         Call::Ask { user, session: 99, lower: vec![], upper: lower, objectives: (7, 7), room: 3 },
+        Call::Obstacle { user, session, lower: ward::bound(0x80), upper, room: 16 },
     ]
 }
 
@@ -270,6 +271,8 @@ fn see_limits(tally: &mut Tally, policy: &Policy, ledger: &[u8], call: &Call, pl
     tally.see(match (played.reply.number, without.number) {
         (20, 0) => "none for the limits",
         (0, 0) if matches!(call, Call::Clauses { .. }) && played.reply.answer != without.answer => "another text",
+        (0, 20) => "an obstacle for the limits",
+        (0, 0) if matches!(call, Call::Obstacle { .. }) => "an obstacle without them too",
         (0, 0) if played.reply.answer != without.answer => "another set",
         (0, 0) => "as without limits",
         (11, 11) if played.reply.extra == 0 => "the asker's line",
@@ -317,6 +320,7 @@ fn answers_calls_under_random_limits_as_the_solver_does() {
         500,
         &["none for the limits", "another set", "another text", "as without limits", "no barred role", "barred roles"],
     );
+    tally.expect(200, &["an obstacle for the limits", "an obstacle without them too"]);
     tally.expect(300, &["the asker's line", "a lower line", "a higher line"]);
 }
 

@@ -444,7 +444,8 @@ fn session_of(call: &Call) -> Option<u64> {
         | Call::Ask { session, .. }
         | Call::ShortAsk { session, .. }
         | Call::Explain { session, .. }
-        | Call::Clauses { session, .. } => Some(*session),
+        | Call::Clauses { session, .. }
+        | Call::Obstacle { session, .. } => Some(*session),
     }
 }
 

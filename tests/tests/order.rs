@@ -83,6 +83,7 @@ fn done(call: &Call) -> &'static str {
         Call::Ask { .. } => "ask done",
         Call::ShortAsk { .. } => "short ask done",
         Call::Clauses { .. } => "clause text done",
+        Call::Obstacle { .. } => "obstacle done",
     }
 }
 
@@ -145,7 +146,7 @@ fn every_call_leaves_the_same_bytes_whatever_the_order_of_entries_on_every_sort_
     });
     tally.expect(200, &NUMBERS);
     tally.expect(500, &["open done", "close done", "show done", "explain done", "ask done", "short ask done"]);
-    tally.expect(200, &["zero ledger", "sound ledger", "damaged ledger", "ledger of another length"]);
+    tally.expect(200, &["obstacle done", "zero ledger", "sound ledger", "damaged ledger", "ledger of another length"]);
     expect_moves(&tally, 500);
 }
 

@@ -183,8 +183,8 @@ fn a_move_tells_the_lowest_user_in_the_way() {
 }
 
 #[test]
-fn answers_every_example_of_limits_as_the_change_request_says() {
-    for case in ward::limit_cases() {
+fn answers_every_example_of_limits_and_of_obstacles_as_the_change_requests_say() {
+    for case in ward::limit_cases().into_iter().chain(ward::obstacle_cases()) {
         let (judged, mut ledger) = (judge(&case.image), case.ledger.clone());
         let seen: Vec<_> = case.calls.iter().map(|call| ward::seen(&play(&judged, &mut ledger, call))).collect();
         assert_eq!(seen, case.expected, "{}", case.name);

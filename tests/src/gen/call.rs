@@ -3,6 +3,7 @@
 use super::{wild, Rng};
 use crate::solver::calls::{Call, ANSWER};
 use crate::solver::line::{Line, LINE, SESSIONS};
+use crate::solver::obstacle::OBSTACLE;
 use crate::solver::policy::{Permissions, Policy};
 
 fn user(rng: &mut Rng, policy: &Policy) -> u64 {
@@ -180,11 +181,22 @@ pub fn clauses(rng: &mut Rng, policy: &Policy, ledger: &[u8]) -> Call {
     Call::Clauses { user, session, lower, upper, objectives: (objective(rng), objective(rng)), room }
 }
 
+/// What stands in the way of an ask, mostly on a session that is open in this ledger; its buffer is mostly of 16 bytes.
+pub fn obstacle(rng: &mut Rng, policy: &Policy, ledger: &[u8]) -> Call {
+    let user = user(rng, policy);
+    let known = if user < policy.users as u64 { user as usize } else { 0 };
+    let session = open_session(rng, ledger, known);
+    let (lower, upper) = bounds(rng, policy, known);
+    let room = if rng.one_in(24) { rng.place(49) } else { OBSTACLE };
+    Call::Obstacle { user, session, lower, upper, room }
+}
+
 /// A call of any sort but the clause text, which follows the order of the image; an ask mostly.
 pub fn any(rng: &mut Rng, policy: &Policy, ledger: &[u8]) -> Call {
-    match rng.below(24) {
+    match rng.below(26) {
         0..=6 => plain(rng, policy),
         7..=8 => explain(rng, policy, ledger),
+        9..=10 => obstacle(rng, policy, ledger),
         _ => ask(rng, policy, ledger),
     }
 }

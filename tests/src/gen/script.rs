@@ -29,8 +29,8 @@ fn decimal(rng: &mut Rng, number: u64) -> String {
     number.to_string()
 }
 
-/// A call as a line, readable unless a number has more digits than a line may give it; the program has no line for an explain or a
-/// clause text.
+/// A call as a line, readable unless a number has more digits than a line may give it; the program has no line for an explain, a
+/// clause text or an obstacle.
 fn text(rng: &mut Rng, call: &Call) -> String {
     match call {
         Call::Open { user } => format!("open {}", decimal(rng, *user)),
@@ -48,6 +48,9 @@ fn text(rng: &mut Rng, call: &Call) -> String {
         }
         Call::Clauses { user, session, lower, upper, .. } => {
             format!("clauses {} {} {} {}", decimal(rng, *user), decimal(rng, *session), hex(rng, lower), hex(rng, upper))
+        }
+        Call::Obstacle { user, session, lower, upper, .. } => {
+            format!("obstacle {} {} {} {}", decimal(rng, *user), decimal(rng, *session), hex(rng, lower), hex(rng, upper))
         }
     }
 }

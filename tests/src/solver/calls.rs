@@ -4,6 +4,7 @@ use super::choice::{choose, PermissionFlags, Request};
 use super::clauses::clauses;
 use super::image::Judged;
 use super::line::{line_bytes, role_bytes, sound, Line, RoleFlags, SESSIONS};
+use super::obstacle::{obstacle, OBSTACLE};
 use super::policy::{Policy, Roles};
 
 /// The bytes of an answer: 8 of roles, 32 of permissions.
@@ -22,6 +23,7 @@ pub enum Call {
     ShortAsk { user: u64, session: u64, lower: Vec<u8>, upper: Vec<u8>, room: usize },
     Explain { user: u64, session: u64, permission: u64 },
     Clauses { user: u64, session: u64, lower: Vec<u8>, upper: Vec<u8>, objectives: (u64, u64), room: usize },
+    Obstacle { user: u64, session: u64, lower: Vec<u8>, upper: Vec<u8>, room: usize },
 }
 
 /// What a call answers: the number, the extra and the bytes that fill the answer buffer from its start on, if any do.
@@ -59,7 +61,8 @@ impl Call {
             | Call::Ask { user, .. }
             | Call::ShortAsk { user, .. }
             | Call::Explain { user, .. }
-            | Call::Clauses { user, .. } => *user,
+            | Call::Clauses { user, .. }
+            | Call::Obstacle { user, .. } => *user,
         }
     }
 
@@ -72,20 +75,25 @@ impl Call {
             | Call::Ask { session, .. }
             | Call::ShortAsk { session, .. }
             | Call::Explain { session, .. }
-            | Call::Clauses { session, .. } => *session,
+            | Call::Clauses { session, .. }
+            | Call::Obstacle { session, .. } => *session,
         }
     }
 
-    /// An ask, of either form, or a clause text: the calls that look at other users' lines under a policy with limits.
+    /// An ask, of either form, a clause text or an obstacle: the calls that look at other users' lines under a policy with limits.
     pub fn is_ask(&self) -> bool {
-        matches!(self, Call::Ask { .. } | Call::ShortAsk { .. } | Call::Clauses { .. })
+        matches!(self, Call::Ask { .. } | Call::ShortAsk { .. } | Call::Clauses { .. } | Call::Obstacle { .. })
     }
 
     /// The length of the answer buffer, 0 for a call without one.
     pub fn room(&self) -> usize {
         match self {
-            Call::Show { room, .. } | Call::Ask { room, .. } | Call::ShortAsk { room, .. } | Call::Clauses { room, .. } => *room,
-            _ => 0,
+            Call::Show { room, .. }
+            | Call::Ask { room, .. }
+            | Call::ShortAsk { room, .. }
+            | Call::Clauses { room, .. }
+            | Call::Obstacle { room, .. } => *room,
+            Call::Open { .. } | Call::Close { .. } | Call::Explain { .. } => 0,
         }
     }
 }
@@ -170,6 +178,11 @@ fn rule(policy: &Policy, user: usize, line: &mut Line, barred: Roles, call: &Cal
             let asked = request(policy, user, line, barred, *session, (lower, upper), *objectives);
             let text = asked.and_then(|asked| write_clauses(&asked, *room));
             text.unwrap_or_else(|number| Reply::refused(number, 0))
+        }
+        Call::Obstacle { session, lower, upper, room, .. } => {
+            let asked = request(policy, user, line, barred, *session, (lower, upper), SHORT_OBJECTIVES);
+            let told = asked.and_then(|asked| tell(&asked, *room));
+            told.unwrap_or_else(|number| Reply::refused(number, 0))
         }
         Call::Explain { session, permission, .. } => match open_session(line, *session) {
             Err(number) => Reply::refused(number, 0),
@@ -289,6 +302,15 @@ fn write_clauses(request: &Request, room: usize) -> Result<Reply, u64> {
         return Err(19);
     }
     Ok(Reply::done(text.len() as u64, Some(text), 0))
+}
+
+/// What stands in the way of an ask, or 19 for another buffer size, or 20 where nothing does.
+fn tell(request: &Request, room: usize) -> Result<Reply, u64> {
+    if room != OBSTACLE {
+        return Err(19);
+    }
+    let obstacle = obstacle(request).ok_or(20u64)?;
+    Ok(Reply::done(obstacle.extra(), Some(obstacle.bytes()), 0))
 }
 
 /// A bound's 32 bytes as a set: permission p is bit p mod 8 of byte p div 8.

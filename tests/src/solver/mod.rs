@@ -1,5 +1,5 @@
-//! A separate solver of the session kit, written from the papers (01 and 02) alone in plain sets and loops, its clause text from
-//! docs/CLAUSES.md.
+//! A separate solver of the session kit, written from the papers (01, 02 and what was added to them) alone in plain sets and loops, its
+//! clause text from docs/CLAUSES.md.
 //! The tests hold the kit against it: the answer, the extra, every byte of ledger, answer, chain, text, a move's target, tidy image and
 //! table.
 
@@ -10,6 +10,7 @@ pub mod image;
 pub mod line;
 pub mod loops;
 pub mod moves;
+pub mod obstacle;
 pub mod policy;
 pub mod script;
 pub mod survey;

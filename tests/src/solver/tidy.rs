@@ -76,7 +76,7 @@ pub fn words(policy: &Policy) -> Vec<u64> {
 }
 
 /// The exclusions by kind, limit and set number, each once.
-fn in_order(exclusions: &[Exclusion]) -> Vec<&Exclusion> {
+pub fn in_order(exclusions: &[Exclusion]) -> Vec<&Exclusion> {
     let mut ordered = BTreeMap::new();
     for exclusion in exclusions {
         let number: u128 = exclusion.members.iter().map(|role| 2u128.pow(*role as u32)).sum();
