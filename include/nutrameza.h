@@ -36,6 +36,9 @@ extern "C" {
 #define NUTRAMEZA_ROLES_BYTES 8
 #define NUTRAMEZA_ANSWER_BYTES 40
 
+/* Size in bytes of what an obstacle fills: two sets of roles. */
+#define NUTRAMEZA_OBSTACLE_BYTES 16
+
 /* Sessions of a user and bytes of a line in ledgers of earlier versions, which widen carries over and narrow back. */
 #define NUTRAMEZA_OLD_SESSIONS 4
 #define NUTRAMEZA_OLD_LINE_BYTES 80
@@ -63,8 +66,8 @@ enum nutrameza_number {
     NUTRAMEZA_BALANCE = 8,     /* image: low 28 bits of the sum not zero */
     NUTRAMEZA_LEDGER = 9,      /* ledger: byte count not 144 times U; to be widened: not 80 times U */
     NUTRAMEZA_PERSON = 10,     /* user not below U */
-    NUTRAMEZA_LINE = 11,       /* this user's line not sound; of a move, and of an ask or clause text under a policy with
-                                * limits: a user's line not sound */
+    NUTRAMEZA_LINE = 11,       /* this user's line not sound; of a move, and of an ask, clause text or obstacle under a
+                                * policy with limits: a user's line not sound */
     NUTRAMEZA_SESSION = 12,    /* session above 7 */
     NUTRAMEZA_CLOSED = 13,     /* session not open */
     NUTRAMEZA_FULL = 14,       /* all eight sessions open */
@@ -73,7 +76,8 @@ enum nutrameza_number {
     NUTRAMEZA_BOUNDS = 17,     /* lower bound not within the upper */
     NUTRAMEZA_AIM = 18,        /* an aim above 2 */
     NUTRAMEZA_ROOM = 19,       /* a buffer not of the size that the call asks for; one below the tidy image or the clause text */
-    NUTRAMEZA_NONE = 20,       /* no admissible role set; no loop; no active role carries the permission */
+    NUTRAMEZA_NONE = 20,       /* no admissible role set; no loop; no active role carries the permission; nothing stands
+                                * in the way of an ask */
     NUTRAMEZA_SCRIPT = 21,     /* unreadable line, given by the script program alone, and counted by the survey */
     NUTRAMEZA_LOOP = 22,       /* image: senior words lead from a role back to it; tested after 8 and before 9 */
     NUTRAMEZA_REACH = 23,      /* image: a user may activate more than 16 roles; tested after 22 and before 9 */
@@ -92,12 +96,22 @@ enum nutrameza_exclusion_kind {
     NUTRAMEZA_MS_HMER = 3
 };
 
-/* A call returns its number plus 256 times its extra: the place of the refused word for 1 to 8 (the head is
- * place 0), the lowest role on a loop for 22, the lowest user who may activate more than 16 roles for 23, the user for
- * 24 and for 11 of a move, for 11 of an ask or clause text 1 more than the lowest user whose line is not sound where
- * that is not the asker, the session that a done open took, the length of the chain that a done loop call gave, 64
- * times a role plus its granting role of a done explain, the number of words that a done tidy wrote, the length of a
- * clause text, else 0. */
+/* What stands in the way of an ask, in the order in which they are tried: a permission that no role of the user
+ * carries; one that comes only with roles that carry something outside the upper bound; one whose roles are all
+ * barred by limits; an exclusion. */
+enum nutrameza_obstacle_kind {
+    NUTRAMEZA_OBSTACLE_OWN = 1,
+    NUTRAMEZA_OBSTACLE_UPPER = 2,
+    NUTRAMEZA_OBSTACLE_LIMIT = 3,
+    NUTRAMEZA_OBSTACLE_EXCLUSION = 4
+};
+
+/* A call returns its number plus 256 times its extra: the place of the refused word for 1 to 8 (the head is place 0),
+ * the lowest role on a loop for 22, the lowest user who may activate more than 16 roles for 23, the user for 24 and
+ * for 11 of a move, for 11 of an ask, clause text or obstacle 1 more than the lowest user whose line is not sound
+ * where that is not the asker, the session that a done open took, the length of the chain that a done loop call gave,
+ * 64 times a role plus its granting role of a done explain, the kind plus 8 times what it is about of a done
+ * obstacle, the number of words that a done tidy wrote, the length of a clause text, else 0. */
 static inline unsigned nutrameza_number_of(uint64_t returned) { return (unsigned)(returned % 256); }
 static inline uint64_t nutrameza_extra_of(uint64_t returned) { return returned / 256; }
 
@@ -111,7 +125,23 @@ static inline unsigned nutrameza_granting_role(uint64_t returned)
     return (unsigned)(nutrameza_extra_of(returned) % NUTRAMEZA_MAX_ROLES);
 }
 
-/* Whose line an ask or a clause text by a user was refused for by 11: the user's own, or another's. */
+/* What a done obstacle returned: its kind; of the kinds own, upper and limit the permission that it is about; of the
+ * kind exclusion what it counts (an enum nutrameza_exclusion_kind) and its n. */
+static inline unsigned nutrameza_obstacle_kind_of(uint64_t returned)
+{
+    return (unsigned)(nutrameza_extra_of(returned) % 8);
+}
+static inline unsigned nutrameza_obstacle_permission(uint64_t returned)
+{
+    return (unsigned)(nutrameza_extra_of(returned) / 8);
+}
+static inline unsigned nutrameza_obstacle_which(uint64_t returned)
+{
+    return (unsigned)(nutrameza_extra_of(returned) / 8 % 4);
+}
+static inline unsigned nutrameza_obstacle_n(uint64_t returned) { return (unsigned)(nutrameza_extra_of(returned) / 32); }
+
+/* Whose line an ask, a clause text or an obstacle by a user was refused for by 11: the user's own, or another's. */
 static inline uint64_t nutrameza_unsound_user(uint64_t returned, uint64_t user)
 {
     return nutrameza_extra_of(returned) == 0 ? user : nutrameza_extra_of(returned) - 1;
@@ -149,6 +179,13 @@ static inline uint64_t nutrameza_answer_roles(const uint8_t *answer)
     for (unsigned byte = NUTRAMEZA_ROLES_BYTES; byte > 0; byte--)
         roles = roles << 8 | answer[byte - 1];
     return roles;
+}
+
+/* The two sets that a done obstacle filled: role r is bit r. */
+static inline uint64_t nutrameza_obstacle_first(const uint8_t *roles) { return nutrameza_answer_roles(roles); }
+static inline uint64_t nutrameza_obstacle_second(const uint8_t *roles)
+{
+    return nutrameza_answer_roles(roles + NUTRAMEZA_ROLES_BYTES);
 }
 
 /* The permission set of a filled answer: all that its roles carry. */
@@ -298,8 +335,9 @@ uint64_t nutrameza_close(const uint8_t *image, size_t image_len, uint8_t *ledger
  * the upper, and fills the answer: 8 bytes of roles, 32 of what they carry. Permission p is bit p mod 8 of byte
  * p div 8. Refusals 1 to 8, 22, 23, 9 to 13 and 15 to 20.
  *
- * Under a policy with limits it looks at all lines, and so does a clause text: a role is barred where t - 1 or more
- * sessions other than this one hold it, over all users, and 11 refuses the call if any line is not sound. */
+ * Under a policy with limits it looks at all lines, and so do a clause text and an obstacle: a role is barred where
+ * t - 1 or more sessions other than this one hold it, over all users, and 11 refuses the call if any line is not
+ * sound. */
 uint64_t nutrameza_ask(const uint8_t *image, size_t image_len, uint8_t *ledger, size_t ledger_len, uint64_t user,
                        uint64_t session, const uint8_t *lower, size_t lower_len, const uint8_t *upper, size_t upper_len,
                        uint64_t permission_aim, uint64_t role_aim, uint8_t *answer, size_t answer_len);
@@ -320,6 +358,25 @@ uint64_t nutrameza_show(const uint8_t *image, size_t image_len, const uint8_t *l
  * changes no byte. Refusals 1 to 8, 22, 23, 9 to 13, 16, and 20 if no active role carries the permission. */
 uint64_t nutrameza_explain(const uint8_t *image, size_t image_len, const uint8_t *ledger, size_t ledger_len,
                            uint64_t user, uint64_t session, uint64_t permission);
+
+/* Obstacle says what stands in the way of an ask with these bounds, the first of these that holds: the extra is the
+ * kind plus 8 times what it is about, and the buffer, 16 bytes, is filled with two sets of roles, 8 bytes each.
+ *
+ * 1 own: the lowest permission of the lower bound that no role which the user may activate carries. First set: the
+ *   roles of the policy that carry it.
+ * 2 upper: the lowest permission of the lower bound for which every role that the user may activate and that carries
+ *   it carries something outside the upper bound too. First set: those roles.
+ * 3 limit: the lowest permission of the lower bound for which every role that the user may activate and that carries
+ *   it and nothing outside the upper bound is barred by a limit. First set: those roles.
+ * 4 exclusion: the first exclusion in the order of the tidy image with which no role set is left. It is about its
+ *   kind (0 to 3) plus 4 times n. First set: its members that are counted already, whatever is made active in this
+ *   session; second set: its members.
+ *
+ * The second set of the kinds 1 to 3 is empty. It changes no ledger byte. Refusals 1 to 8, 22, 23, 9 to 13, 15 to 17,
+ * 19 for another buffer size, and 20 exactly if nothing stands in the way. */
+uint64_t nutrameza_obstacle(const uint8_t *image, size_t image_len, const uint8_t *ledger, size_t ledger_len,
+                            uint64_t user, uint64_t session, const uint8_t *lower, size_t lower_len,
+                            const uint8_t *upper, size_t upper_len, uint8_t *roles, size_t roles_len);
 
 /* Widen carries a ledger of four sessions a user, 80 bytes a line, over into one of eight, 144 bytes a line: each
  * user's history and each session's bytes stand under their numbers, the new sessions are closed. It reads the old

@@ -1,6 +1,7 @@
-/* Long and deep asks, their clause texts, the longest moves and the calls over the image alone, on a thread whose stack is 64 KiB: users
-   of 16 roles, 64 roles in 16 chains of seniors, 256 permissions, 32 exclusions, a limit for each role; asks and their texts in every window
-   under each pair of aims, and the ledger of all 64 users carried back and over. Prints 'done' if every call is answered as it should be. */
+/* Long and deep asks, their clause texts, their obstacles, the longest moves and the calls over the image alone, on a thread whose stack is
+   64 KiB: users of 16 roles, 64 roles in 16 chains of seniors, 256 permissions, 32 exclusions, a limit for each role; asks, their texts and
+   obstacles in every window under each pair of aims, and the ledger of all 64 users carried back and over. Prints 'done' if every call is
+   answered as it should be. */
 #define _POSIX_C_SOURCE 200809L
 #include <pthread.h>
 #include <stdio.h>
@@ -19,8 +20,9 @@ static uint8_t *text;
 static int answered;
 
 /* The roles from 4k up to 4k + 3 form a chain. A user has the first roles of four chains, and so may activate the roles below
-   16; role k of them is granted the permissions k, k + 16, .., up to 255. */
-static void make_image(void) {
+   16; role k of them is granted the permissions k, k + 16, .., up to 255, the first one twice. No two of the exclusions are the same;
+   the last one of the tidy image has this n, and the others allow all that a user may activate. */
+static void make_image(uint32_t last_n) {
     static uint32_t words[NUTRAMEZA_MAX_WORDS];
     size_t n = 0;
     words[n++] = nutrameza_head_word(USERS, 64, 256);
@@ -35,8 +37,9 @@ static void make_image(void) {
     for (uint32_t permission = 0; permission < 256; permission++) {
         words[n++] = nutrameza_grant_word(permission % OWN, permission);
     }
+    words[n++] = nutrameza_grant_word(0, 0);
     for (uint32_t k = 0; k < NUTRAMEZA_MAX_EXCLUSIONS; k++) {
-        words[n++] = nutrameza_exclusion_word(k % 4, 64, 64);
+        words[n++] = k == 0 ? nutrameza_exclusion_word(NUTRAMEZA_MS_HMER, last_n, 64) : nutrameza_exclusion_word(k % 3, 64 - k, 64);
         for (uint32_t role = 0; role < 64; role++) {
             words[n++] = nutrameza_member_word(role);
         }
@@ -57,6 +60,14 @@ static int write_clauses(uint64_t session, const uint8_t *lower, const uint8_t *
     return nutrameza_number_of(returned) == NUTRAMEZA_DONE && text[nutrameza_extra_of(returned) - 1] == '\n';
 }
 
+/* What stands in the way of such an ask; 1 if that is something exactly if the ask is told that there is no set. */
+static int obstructed(uint64_t session, const uint8_t *lower, const uint8_t *upper, unsigned asked) {
+    uint8_t roles[NUTRAMEZA_OBSTACLE_BYTES];
+    uint64_t returned = nutrameza_obstacle(image, image_len, ledger, sizeof ledger, LAST, session, lower, NUTRAMEZA_SET_BYTES, upper,
+                                           NUTRAMEZA_SET_BYTES, roles, sizeof roles);
+    return nutrameza_number_of(returned) == (asked == NUTRAMEZA_DONE ? NUTRAMEZA_NONE : NUTRAMEZA_DONE);
+}
+
 /* An ask of the last user for the permissions below `needed` with these aims, and its clause text; 1 if its number is the expected one. */
 static int ask(uint32_t needed, uint32_t allowed, uint64_t first, uint64_t second, unsigned expected) {
     uint64_t session = (3 * first + second) % NUTRAMEZA_SESSIONS;
@@ -71,6 +82,10 @@ static int ask(uint32_t needed, uint32_t allowed, uint64_t first, uint64_t secon
     }
     if (!write_clauses(session, lower, upper, first, second)) {
         printf("clauses %u %u %u %u\n", needed, allowed, (unsigned)first, (unsigned)second);
+        return 0;
+    }
+    if (!obstructed(session, lower, upper, expected)) {
+        printf("obstacle %u %u\n", needed, allowed);
         return 0;
     }
     uint64_t returned = nutrameza_ask(image, image_len, ledger, sizeof ledger, LAST, session, lower, sizeof lower, upper,
@@ -111,6 +126,28 @@ static int turned(void) {
     return done && memcmp(table, back, sizeof table) == 0 && nutrameza_table_has(table, 0, 3) && nutrameza_turned_roles(by_permission, 3) == 15;
 }
 
+/* Under an image whose last exclusion is in the way: every permission, which takes four roles, and four that come in 256 ways by four
+   roles each, so that each search goes through all of them; 1 if that exclusion is named with its members, of which none is counted. */
+static int hindered(void) {
+    static uint8_t fresh[USERS * NUTRAMEZA_LINE_BYTES];
+    uint8_t all[NUTRAMEZA_SET_BYTES], four[NUTRAMEZA_SET_BYTES] = {0}, roles[NUTRAMEZA_OBSTACLE_BYTES];
+    int good = 1;
+    make_image(4);
+    memset(all, 255, sizeof all);
+    for (uint32_t chain = 0; chain < 4; chain++) {
+        nutrameza_add_permission(four, 4 * chain + 3);
+    }
+    good &= nutrameza_open(image, image_len, fresh, sizeof fresh, LAST) == NUTRAMEZA_DONE;
+    for (int narrow = 0; narrow < 2; narrow++) {
+        uint64_t returned = nutrameza_obstacle(image, image_len, fresh, sizeof fresh, LAST, 0, narrow ? four : all, sizeof all, all,
+                                               sizeof all, roles, sizeof roles);
+        good &= nutrameza_number_of(returned) == NUTRAMEZA_DONE && nutrameza_obstacle_kind_of(returned) == NUTRAMEZA_OBSTACLE_EXCLUSION;
+        good &= nutrameza_obstacle_which(returned) == NUTRAMEZA_MS_HMER && nutrameza_obstacle_n(returned) == 4;
+        good &= nutrameza_obstacle_first(roles) == 0 && nutrameza_obstacle_second(roles) == UINT64_MAX;
+    }
+    return good;
+}
+
 static void *work(void *unused) {
     (void)unused;
     answered = 1;
@@ -126,13 +163,14 @@ static void *work(void *unused) {
     answered &= moves();
     answered &= tidied();
     answered &= turned();
+    answered &= hindered();
     return NULL;
 }
 
 int main(void) {
     pthread_attr_t attributes;
     pthread_t thread;
-    make_image();
+    make_image(64);
     text = malloc(NUTRAMEZA_MAX_CLAUSES_BYTES);
     if (text == NULL || pthread_attr_init(&attributes) != 0 || pthread_attr_setstacksize(&attributes, STACK_BYTES) != 0 ||
         pthread_create(&thread, &attributes, work, NULL) != 0 || pthread_join(thread, NULL) != 0) {

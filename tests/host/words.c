@@ -55,6 +55,14 @@ static void test_returned_values(void) {
     same("granting role", nutrameza_granting_role(256u * (64u * 5u + 9u)), 9);
     same("explained role, largest", nutrameza_explained_role(256u * 4095u), 63);
     same("granting role, largest", nutrameza_granting_role(256u * 4095u), 63);
+    same("obstacle's kind", nutrameza_obstacle_kind_of(256u * (NUTRAMEZA_OBSTACLE_OWN + 8u * 4u)), NUTRAMEZA_OBSTACLE_OWN);
+    same("obstacle's permission", nutrameza_obstacle_permission(256u * (NUTRAMEZA_OBSTACLE_UPPER + 8u * 4u)), 4);
+    same("obstacle's permission, largest", nutrameza_obstacle_permission(256u * (NUTRAMEZA_OBSTACLE_LIMIT + 8u * 255u)), 255);
+    same("obstacle's exclusion", nutrameza_obstacle_kind_of(256u * (4u + 8u * (1u + 4u * 2u))), NUTRAMEZA_OBSTACLE_EXCLUSION);
+    same("obstacle's which", nutrameza_obstacle_which(256u * (4u + 8u * (1u + 4u * 2u))), NUTRAMEZA_MS_DMER);
+    same("obstacle's n", nutrameza_obstacle_n(256u * (4u + 8u * (1u + 4u * 2u))), 2);
+    same("obstacle's which, largest", nutrameza_obstacle_which(256u * (4u + 8u * (3u + 4u * 64u))), NUTRAMEZA_MS_HMER);
+    same("obstacle's n, largest", nutrameza_obstacle_n(256u * (4u + 8u * (3u + 4u * 64u))), 64);
     same("word of 0", (uint64_t)strcmp(nutrameza_word_of(NUTRAMEZA_DONE), "done"), 0);
     same("word of 8", (uint64_t)strcmp(nutrameza_word_of(NUTRAMEZA_BALANCE), "balance"), 0);
     same("word of 14", (uint64_t)strcmp(nutrameza_word_of(NUTRAMEZA_FULL), "full"), 0);
@@ -93,6 +101,20 @@ static void test_sets(void) {
     answer[0] = 1;
     answer[7] = 0x80;
     same("roles 0 and 63", nutrameza_answer_roles(answer), 0x8000000000000001u);
+}
+
+/* The two sets of an obstacle, each in its half. */
+static void test_obstacle_sets(void) {
+    uint8_t roles[NUTRAMEZA_OBSTACLE_BYTES] = {0};
+    same("bytes of an obstacle", NUTRAMEZA_OBSTACLE_BYTES, 2 * NUTRAMEZA_ROLES_BYTES);
+    roles[0] = 1;
+    roles[7] = 0x80;
+    same("first set", nutrameza_obstacle_first(roles), 0x8000000000000001u);
+    same("second set, still empty", nutrameza_obstacle_second(roles), 0);
+    roles[8] = 2;
+    roles[15] = 0x40;
+    same("second set", nutrameza_obstacle_second(roles), 0x4000000000000002u);
+    same("first set as before", nutrameza_obstacle_first(roles), 0x8000000000000001u);
 }
 
 /* One bit of a table and of a turned one, and none for numbers beyond. */
@@ -145,6 +167,7 @@ int main(int count, char **arguments) {
     test_returned_values();
     test_lines();
     test_sets();
+    test_obstacle_sets();
     test_tables();
     if (count != 2 || write_ward(arguments[1]) != 0) {
         printf("no image written\n");
