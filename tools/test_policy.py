@@ -2,12 +2,14 @@
 """Tests of tools/policy. The last line is 'N passed, M failed'."""
 
 import contextlib
+import ctypes
 import importlib.machinery
 import importlib.util
 import io
 import itertools
 import os
 import random
+import struct
 import subprocess
 import sys
 import tempfile
@@ -17,6 +19,8 @@ sys.dont_write_bytecode = True
 ROOT = os.path.dirname(os.path.dirname(os.path.abspath(__file__)))
 TOOL = os.path.join(ROOT, "tools", "policy")
 WARD = os.path.join(ROOT, "examples", "ward.policy")
+CLINIC = os.path.join(ROOT, "examples", "clinic.policy")
+LIBRARY = os.path.join(ROOT, os.environ.get("NUTRAMEZA_LIB") or os.path.join("target", "staticlib"))
 LOADER = importlib.machinery.SourceFileLoader("policy", TOOL)
 policy = importlib.util.module_from_spec(importlib.util.spec_from_loader("policy", LOADER))
 LOADER.exec_module(policy)
@@ -545,7 +549,9 @@ class Order(unittest.TestCase):
             self.assertEqual(refusal_of(policy.to_bytes(words)), refusal)
 
 
-class Commands(unittest.TestCase):
+class Folder(unittest.TestCase):
+    """A folder of its own, and the tool run in it."""
+
     def setUp(self):
         self.folder = tempfile.TemporaryDirectory()
         self.addCleanup(self.folder.cleanup)
@@ -557,10 +563,13 @@ class Commands(unittest.TestCase):
                 file.write(content)
         return path
 
-    def run_tool(self, *words):
-        done = subprocess.run([sys.executable, TOOL, *words], cwd=self.folder.name, capture_output=True, text=True, check=False)
+    def run_tool(self, *words, **environment):
+        here = {**os.environ, **environment}
+        done = subprocess.run([sys.executable, TOOL, *words], cwd=self.folder.name, env=here, capture_output=True, text=True, check=False)
         return done.returncode, done.stdout, done.stderr
 
+
+class Commands(Folder):
     def test_build_writes_policy_img_in_the_working_directory(self):
         status, out, err = self.run_tool("build", WARD)
         self.assertEqual((status, err), (0, ""))
@@ -724,6 +733,187 @@ class Commands(unittest.TestCase):
             policy.main(["--help"])
         for word in [*policy.SORTS, *policy.ENTRIES, *policy.EXCLUSION_KINDS, "loop", "22", "reach", "23"]:
             self.assertIn(word, out.getvalue())
+
+
+def line(past=(), **windows):
+    """A user's line: w0=(active, past of the window) and so on, each window's past and these roles in the user's."""
+    words, whole = [0] * 18, set(past)
+    for window, (active, had) in windows.items():
+        number = int(window[1:])
+        words[0] |= 1 << number
+        words[2 + 2 * number], words[3 + 2 * number] = number_of(active), number_of({*active, *had})
+        whole |= {*active, *had}
+    words[1] = number_of(whole)
+    return struct.pack("<18Q", *words)
+
+
+def number_of(numbers):
+    """A set's number."""
+    return sum(1 << number for number in numbers)
+
+
+FRESH = ((), ())
+
+
+class Why(Folder):
+    """Each sentence as its reader gets it: from the library in NUTRAMEZA_LIB, else in target/staticlib."""
+
+    def ask(self, image, ledger, names, *words):
+        """What `why` prints of an ask, and that it left the files as they were."""
+        paths = [self.path("image", image), self.path("ledger", ledger), names]
+        said = self.run_tool("why", *paths, *words, NUTRAMEZA_LIB=LIBRARY)
+        for path, before in zip(paths, (image, ledger)):
+            with open(path, "rb") as file:
+                self.assertEqual(file.read(), before)
+        return said
+
+    def clinic(self, ledger, *words):
+        """An ask of the clinic."""
+        with open(CLINIC, encoding="utf-8") as file:
+            image_of_clinic = policy.to_bytes(policy.parse(file.read(), CLINIC)[0].words())
+        return self.ask(image_of_clinic, ledger, CLINIC, *words)
+
+    def of_text(self, text, ledger, *words):
+        """An ask under a policy text."""
+        return self.ask(policy.to_bytes(policy.parse(text, "t")[0].words()), ledger, self.path("t", text.encode()), *words)
+
+    def says(self, said, sentence):
+        self.assertEqual(said, (0, sentence + "\n", ""))
+
+    def test_the_ward_the_window_that_holds_doctor_bars_data_manager(self):
+        ledger = line(w0=((0,), ()), w1=FRESH)
+        self.says(self.ask(policy.to_bytes(A), ledger, WARD, "ANNA", "1", "Read_health_records", "Send_data"),
+                  "Send_data (4) needs Data_Manager (1), which ms-dmer 2 of Doctor (0), Data_Manager (1) bars while window 0 holds Doctor (0)")
+
+    def test_numbers_stand_for_names_and_an_image_without_names_is_told_by_numbers(self):
+        ledger, nameless = line(w0=((0,), ()), w1=FRESH), self.path("nameless", b"")
+        self.says(self.ask(policy.to_bytes(A), ledger, nameless, "0", "1", "1", "4"),
+                  "permission4 (4) needs role1 (1), which ms-dmer 2 of role0 (0), role1 (1) bars while window 0 holds role0 (0)")
+        self.says(self.ask(policy.to_bytes(A), ledger, WARD, "0", "0", "4", "1"), "nothing stands in the way")
+
+    def test_a_permission_of_no_role_of_the_user(self):
+        self.says(self.clinic(line() + line(w0=FRESH), "BERT", "0", "Read_id", "Prescribe"),
+                  "Prescribe (2) needs Doctor (0), which BERT (1) may not switch on")
+        self.says(self.of_text(START + "assign ANNA Clerk\ngrant Doctor Read\ngrant Nurse Read\nsenior Doctor Nurse\n",
+                               line(w0=FRESH) + line(), "ANNA", "0", "Read"),
+                  "Read (0) needs Doctor (0) or Nurse (1), which ANNA (0) may not switch on")
+
+    def test_a_permission_of_no_role_at_all(self):
+        self.says(self.of_text(START, line(w0=FRESH) + line(), "ANNA", "0", "Print"), "no role carries Print (3)")
+
+    def test_roles_that_carry_more_than_the_upper_bound(self):
+        text = START + "assign ANNA Doctor Nurse\ngrant Doctor Read Write Send\ngrant Nurse Read Print\n"
+        ledger = line(w0=FRESH) + line()
+        self.says(self.of_text(text, ledger, "ANNA", "0", "Read", "--upper", "Write"),
+                  "Read (0) needs Doctor (0) or Nurse (1), and outside the upper bound Doctor (0) carries Send (2) and Nurse (1) carries "
+                  "Print (3)")
+        self.says(self.of_text(text, ledger, "ANNA", "0", "Read", "--upper", "Read", "Print"), "nothing stands in the way")
+
+    def test_a_limit_with_the_windows_that_hold_the_role_the_users_own_and_others(self):
+        self.says(self.clinic(line(w0=FRESH, w1=((3,), ())) + line(w0=FRESH), "BERT", "0", "Answer_alarm"),
+                  "Answer_alarm (6) needs On_Call (3), and limit 2 bars On_Call (3) while window 1 of ANNA (0) holds On_Call (3)")
+        text = START + "assign ANNA Doctor\nassign BERT Doctor\ngrant Doctor Read\nlimit Doctor 9\nlimit Doctor 3\n"
+        self.says(self.of_text(text, line(w2=((0,), ()), w5=FRESH) + line(w7=((0,), ())), "ANNA", "5", "Read"),
+                  "Read (0) needs Doctor (0), and limit 3 bars Doctor (0) while window 2 holds Doctor (0) and window 7 of BERT (1) holds "
+                  "Doctor (0)")
+
+    def test_an_exclusion_over_the_window_names_what_does_not_go_together(self):
+        self.says(self.clinic(line() + line(w0=FRESH), "BERT", "0", "Order_drugs", "Give_drugs", "Answer_alarm"),
+                  "Give_drugs (5) and Answer_alarm (6) together need more than ss-dmer 2 of Nurse (2), On_Call (3) allows")
+
+    def test_an_exclusion_over_the_windows_names_each_that_holds_a_counted_role(self):
+        text = START + "assign ANNA Doctor Nurse Clerk\ngrant Doctor Read\ngrant Nurse Write\ngrant Clerk Send\nexclude ms-dmer 3 Doctor Nurse Clerk\n"
+        ledger = line(w0=FRESH, w3=((0,), ()), w4=((0, 1), ()), w6=((2,), ()))
+        self.assertEqual(self.of_text(text, ledger + line(), "ANNA", "0", "Send")[::2], (1, "refused: 11 line: the line of ANNA (0) is not sound\n"))
+        ledger = line(w0=FRESH, w3=((0,), ()), w4=((0, 1), ()))
+        self.says(self.of_text(text, ledger + line(), "ANNA", "0", "Read", "Send"),
+                  "Send (2) needs Clerk (2), which ms-dmer 3 of Doctor (0), Nurse (1), Clerk (2) bars while window 3 holds Doctor (0) and "
+                  "window 4 holds Doctor (0) and Nurse (1)")
+
+    def test_an_exclusion_over_the_past_of_a_window_or_of_the_user(self):
+        self.says(self.clinic(line(w0=((), (0,))) + line(), "ANNA", "0", "Order_drugs"),
+                  "Order_drugs (7) needs Buyer (4), which ss-hmer 2 of Doctor (0), Buyer (4) bars since window 0 has had Doctor (0)")
+        self.says(self.clinic(line() + line(past=(4,), w2=FRESH), "BERT", "2", "Approve_order"),
+                  "Approve_order (8) needs Approver (5), which ms-hmer 2 of Buyer (4), Approver (5) bars since BERT (1) has had Buyer (4)")
+
+    def test_another_role_that_carries_it_and_is_out_for_another_reason(self):
+        text = START + "assign ANNA Doctor Nurse Clerk\ngrant Doctor Read\ngrant Nurse Read Print\ngrant Clerk Send\nexclude ms-hmer 2 Doctor Clerk\n"
+        self.says(self.of_text(text, line(past=(2,), w0=FRESH) + line(), "ANNA", "0", "Read", "--upper", "Send"),
+                  "Read (0) needs Doctor (0), which ms-hmer 2 of Doctor (0), Clerk (2) bars since ANNA (0) has had Clerk (2); Nurse (1) would "
+                  "do, but for another rule or the upper bound")
+
+    def test_nothing_stands_in_the_way(self):
+        self.says(self.clinic(line(w0=FRESH) + line(), "ANNA", "0", "Read_id", "Prescribe"), "nothing stands in the way")
+
+    def test_a_refused_call_is_told_by_number_word_and_reason(self):
+        good = line(w0=FRESH) + line()
+        for ledger, words, told in [
+                (good[1:], ("ANNA", "0"), "9 ledger: 287 bytes are no ledger of 2 users"),
+                (good, ("2", "0"), "10 person: there is no user 2"),
+                (good, (str(2 ** 64 - 1), "0"), f"10 person: there is no user {2 ** 64 - 1}"),
+                (b"\xff" * 144 + line(w0=FRESH), ("BERT", "0"), "11 line: the line of ANNA (0) is not sound"),
+                (good[:144] + b"\xff" * 144, ("BERT", "0"), "11 line: the line of BERT (1) is not sound"),
+                (good, ("ANNA", "8"), "12 session: there is no window 8"),
+                (good, ("ANNA", str(2 ** 64 - 1)), f"12 session: there is no window {2 ** 64 - 1}"),
+                (good, ("ANNA", "1"), "13 closed: window 1 is not open")]:
+            self.assertEqual(self.clinic(ledger, *words, "Read_id"), (1, "", f"refused: {told}\n"))
+        self.assertEqual(self.clinic(good, "ANNA", "0", "9"), (1, "", "refused: 16 permission (0)\n"))
+
+    def test_a_refused_image_is_told_by_number_word_and_extra(self):
+        self.assertEqual(self.ask(b"1234", line(), WARD, "ANNA", "0", "Send_data"), (1, "", "refused: 1 length (0)\n"))
+        self.assertEqual(self.ask(policy.to_bytes([*A[:12], A[12] ^ 1]), line(), WARD, "ANNA", "0", "Send_data"),
+                         (1, "", "refused: 8 balance (12)\n"))
+
+    def test_unknown_names_and_numbers_beyond_give_status_2(self):
+        good = line(w0=FRESH)
+        for words, told in [(("ANN", "0", "Send_data"), "unknown user ANN (did you mean ANNA?)\n"),
+                            (("ANNA", "0", "Sent_data"), "unknown permission Sent_data (did you mean Send_data?)\n"),
+                            (("ANNA", "0", "256"), "unknown permission 256\n"), ((str(2 ** 64), "0", "1"), f"unknown user {2 ** 64}\n")]:
+            self.assertEqual(self.ask(policy.to_bytes(A), good, WARD, *words), (2, "", told))
+        for words in [("ANNA", "-1", "Send_data"), ("ANNA", "x", "Send_data"), ("ANNA", str(2 ** 64), "Send_data"), ("ANNA", "0")]:
+            status, out, err = self.ask(policy.to_bytes(A), good, WARD, *words)
+            self.assertEqual((status, out), (2, ""), words)
+            self.assertNotIn("Traceback", err)
+
+    def test_without_a_library_or_a_compiler_it_says_so(self):
+        image_a, ledger = self.path("image", policy.to_bytes(A)), self.path("ledger", line(w0=FRESH))
+        words = ("why", image_a, ledger, WARD, "ANNA", "0", "Send_data")
+        nothing = os.path.join(self.folder.name, "libnutrameza.a")
+        self.assertEqual(self.run_tool(*words, NUTRAMEZA_LIB=self.folder.name), (2, "", f"{nothing} is missing: make it with 'make lib'\n"))
+        self.path("libnutrameza.a", os.urandom(64))
+        self.assertEqual(self.run_tool(*words, NUTRAMEZA_LIB=self.folder.name, CC="no-such-compiler"),
+                         (2, "", "no-such-compiler: No such file or directory\n"))
+        status, out, err = self.run_tool(*words, NUTRAMEZA_LIB=self.folder.name)
+        self.assertEqual((status, out), (2, ""))
+        self.assertTrue(err.startswith(f"{nothing} can't be linked: "), err)
+
+    def test_something_is_said_exactly_if_the_ask_is_told_20(self):
+        seen = {"given": 0, "told": 0}
+        for seed in range(400):
+            dice = random.Random(seed)
+            said = random_policy(dice)
+            kit = policy.Kit(policy.to_bytes(said.words()), None)
+            if kit.call("check", kit.image) != (0, 0):
+                continue
+            ledger, answer = ctypes.create_string_buffer(144 * said.counts[0]), ctypes.create_string_buffer(40)
+            everything = set(range(said.counts[2]))
+            for _ in range(12):
+                user, session = dice.randrange(said.counts[0]), dice.randrange(2)
+                kit.call("open", kit.image, ledger, user)
+                lower = set(dice.choices(sorted(everything), k=dice.randrange(1, 4)))
+                upper = lower | set(dice.choices(sorted(everything), k=9)) if dice.randrange(3) == 0 else everything
+                kit.ledger = ledger.raw
+                ask = policy.Ask(kit, said, {sort: [] for sort in policy.SORTS}, user, session)
+                try:
+                    sentence = ask.why(lower, upper)
+                except policy.CallRefused as refused:
+                    self.assertIn("13 closed", str(refused))
+                    continue
+                number, _ = kit.call("short_ask", kit.image, ledger, user, session, policy.set_bytes(lower), policy.set_bytes(upper), answer)
+                self.assertEqual((sentence is None, sentence is not None), (number == 0, number == 20), f"seed {seed}")
+                seen["told" if sentence else "given"] += 1
+                self.assertTrue(sentence is None or any(f"permission{p} ({p})" in sentence for p in lower), sentence)
+        self.assertTrue(all(count > 300 for count in seen.values()), seen)
 
 
 def main():
