@@ -99,6 +99,31 @@ worked_example() {
     host example "$work/example.c" && ./host > said && diff said "$work/example.out"
 }
 
+# Each kind of obstacle, told by the example under the policy beside it; what the page shows of it stands in it.
+why_not() {
+  host why_not "$root/examples/why_not.c" && "$root/tools/policy" build "$root/examples/clinic.policy" -o policy.img &&
+    block 'text why_not' 1 > page && test -s page && ./host policy.img > said && diff said page &&
+    block 'c why_not' 1 > part && test -s part && python3 -c 'import sys; sys.exit(open(sys.argv[1]).read() not in open(sys.argv[2]).read())' \
+    part "$root/examples/why_not.c"
+}
+
+why_not_cxx() {
+  g++ -x c++ -std=c++17 $strict $(flags --cflags) "$root/examples/why_not.c" $(flags --libs) -o "$work/why_not_cxx" &&
+    cd "$work/why_not" && "$work/why_not_cxx" policy.img | diff - page
+}
+
+why_not_sanitized() {
+  cc -std=c99 $strict -g -fsanitize=address,undefined -fno-sanitize-recover=all $(flags --cflags) "$root/examples/why_not.c" $(flags --libs) \
+    -o "$work/why_not_sanitized" && cd "$work/why_not" && "$work/why_not_sanitized" policy.img | diff - page
+}
+
+# The help desk's command of the page, on a ledger in which ANNA's window 0 holds Doctor and her window 1 is open.
+why_at_the_desk() {
+  mkdir -p "$work/desk" && cd "$work/desk" && ln -s "$root/tools" "$root/examples" . && block 'text why' 1 > page && test -s page &&
+    numbers 3 1 1 1 0 0 0 0 0 0 0 0 0 0 0 0 0 0 0 0 0 0 0 0 0 0 0 0 0 0 0 0 0 0 0 0 > ledger &&
+    NUTRAMEZA_LIB=$lib replayed < page > said && diff said page
+}
+
 # After the example the ledger has the second window open and both roles in the user's history.
 example_ledger() {
   [ "$(od -An -v -tx8 "$work/example/ledger" | xargs)" = "$(printf '%016x ' 2 3 0 0 2 2 0 0 0 0 0 0 0 0 0 0 0 0 | xargs)" ]
@@ -216,13 +241,17 @@ it 'pkg-config says where the header and the library are' same_flags
 it 'the example of docs/HOST.md is built from pkg-config alone and prints what is written there' worked_example
 it 'the example leaves the ledger on disk' example_ledger
 it 'the example is a C++ program too' example_cxx
+it 'the example of obstacles tells of each kind what docs/HOST.md writes, and the page shows a part of it' why_not
+it 'the example of obstacles is a C++ program too' why_not_cxx
+it 'the example of obstacles runs with sanitizers' why_not_sanitized
+it 'the policy tool explains a refused ask as docs/HOST.md writes it' why_at_the_desk
 it 'the survey of docs/SURVEY.md is what the installed program prints' surveyed
 it 'the program of docs/HOST.md that carries ledgers does what is written there' carrying
 it 'a ledger carried over and back comes out byte for byte' carried
 it 'the program that carries ledgers is a C++ program too' carrying_cxx
 it 'the check and the policy tool judge 3,000 images alike, each number from 0 to 8, 22 and 23 among them' judged
 it 'the kit and the policy tool write the same tidy images of those that are accepted' tidied
-it 'long and deep asks, their clause texts, the longest moves and the calls over the image fit a stack of 64 KiB' small_stack
+it 'long and deep asks, their clause texts and obstacles, the longest moves and the calls over the image fit a stack of 64 KiB' small_stack
 it 'the clauses of an ask are solved and the roles read back, from literals and from a row of digits' clauses_solved
 it 'the text of the example is that of docs/CLAUSES.md' clauses_listed
 it 'an ask without a role set has a text without a model' clauses_without_a_set
