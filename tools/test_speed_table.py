@@ -42,6 +42,10 @@ text, image A 1 1                                     666          669    0.99  
 text, Plb 2 0                                       54179        28402    1.91        32753       605
 text, the longest                                 7959009      4977342    1.53      6303153       792
 text, the longest, a buffer of its length        13863950      6356371    2.11      6303153       455
+obstacle, 13 words, 1 of 1 hindered                   250          200    1.25            300    0.83
+obstacle, the last of 32, 1 of 1 hindered            9000         8000    1.12           3000    3.00
+obstacle, Plb_bigR, 0 of 10 hindered                12000        11000    1.09          10000    1.20
+obstacle, that, 3 of 8 hindered                     30000        25000    1.20          10000    2.95
 """
 LIMITS = "limit, 4,096 words, grants                         245      8184      4347        17.71         0.55\n"
 HEAD = "machine: A processor, 2 cores; 2026-11-17\n\njob       kit ns     plain ns   ratio\n"
@@ -58,6 +62,8 @@ HAS = [
     ("limits of asks kept apart", "| ask, 64 users, 161 words: no limit | 1.1 µs | 1.26 |"),
     ("turned and turned back", "| turn, unturn | 1.4 µs | 1.80 to 1.84 |"),
     ("beside all subsets", "| the same asks beside plain all-subsets | | 0.018 to 0.39 |"),
+    ("obstacles", "| obstacles of 24 families | 12 to 30 µs | 1.09 to 1.20 |"),
+    ("beside a short ask", "| the same beside a short ask with the same bounds | | 1.20 to 2.95 times as long |"),
     ("a program", "| `nutrameza_script`, short lines on 13 words | 6.01 million lines a second | |"),
     ("the limit", "| 4,096 words, grants | 245 ns | 8.2 µs | 4.3 µs |"),
 ]

@@ -1,12 +1,13 @@
 //! The kit beside the same jobs in plain Rust, in one process: times as medians, ratios as medians of rounds. Before
 //! a job is timed, both are held to the same answers, ledgers and answer bytes. Arguments name rows, by a part of the
 //! name; without any, all are timed. The last line is the worst ratio, and the exit status is 1 where it is over the
-//! bar.
+//! bar or where an obstacle takes too long beside a short ask.
 
 mod families;
 mod images;
 mod jobs;
 mod limit;
+mod obstacles;
 mod plain;
 #[cfg(feature = "programs")]
 mod program;
@@ -46,11 +47,12 @@ fn main() -> ExitCode {
     jobs::all(&mut report);
     families::asks(&mut report);
     texts::texts(&mut report);
+    let in_time = obstacles::rows(&mut report);
     limit::rows(&report);
     #[cfg(feature = "programs")]
     program::lines(&report);
     let (line, held) = report.verdict();
     println!();
     println!("{line}");
-    ExitCode::from(u8::from(!held))
+    ExitCode::from(u8::from(!(held && in_time)))
 }

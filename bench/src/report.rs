@@ -70,7 +70,7 @@ impl Report {
 }
 
 /// The measure with the least ratio, of those made until one is not over the bar.
-fn least(bar: f64, mut measure: impl FnMut() -> Times) -> Times {
+pub fn least(bar: f64, mut measure: impl FnMut() -> Times) -> Times {
     let mut least = measure();
     for _ in 1..MOST_MEASURES {
         if least.ratio <= bar {
