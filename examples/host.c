@@ -101,6 +101,16 @@ static uint64_t show(uint64_t session, uint8_t *answer, size_t answer_len)
     return nutrameza_show(image, sizeof image, ledger, NUTRAMEZA_LINE_BYTES, USER, session, answer, answer_len);
 }
 
+/* What stands in the way of such an ask, and of which roles. */
+static uint64_t obstacle(uint64_t session, uint8_t permissions, uint8_t *roles)
+{
+    uint8_t lower[NUTRAMEZA_SET_BYTES] = {0}, upper[NUTRAMEZA_SET_BYTES] = {0};
+    lower[0] = permissions;
+    upper[0] = EVERYTHING;
+    return nutrameza_obstacle(image, sizeof image, ledger, NUTRAMEZA_LINE_BYTES, USER, session, lower, sizeof lower, upper,
+                              sizeof upper, roles, NUTRAMEZA_OBSTACLE_BYTES);
+}
+
 static uint64_t explain(uint64_t session, uint64_t permission)
 {
     return nutrameza_explain(image, sizeof image, ledger, NUTRAMEZA_LINE_BYTES, USER, session, permission);
@@ -109,7 +119,7 @@ static uint64_t explain(uint64_t session, uint64_t permission)
 /* Two windows: treating a patient in the first keeps the disclosure out of the second until the first is closed. */
 static void day(void)
 {
-    uint8_t answer[NUTRAMEZA_ANSWER_BYTES] = {0}, before[NUTRAMEZA_ANSWER_BYTES];
+    uint8_t answer[NUTRAMEZA_ANSWER_BYTES] = {0}, before[NUTRAMEZA_ANSWER_BYTES], roles[NUTRAMEZA_OBSTACLE_BYTES] = {0};
 
     answered("open a window", nutrameza_open(image, sizeof image, ledger, NUTRAMEZA_LINE_BYTES, USER), NUTRAMEZA_DONE, 0);
     if (answered("  read id and health records there", ask(0, READ_ID | READ_HEALTH_RECORDS, answer), NUTRAMEZA_DONE, 0))
@@ -117,10 +127,16 @@ static void day(void)
     answered("open a second window", nutrameza_open(image, sizeof image, ledger, NUTRAMEZA_LINE_BYTES, USER), NUTRAMEZA_DONE, 1);
 
     memcpy(before, answer, sizeof before);
-    if (!answered("  send health records from there", ask(1, READ_HEALTH_RECORDS | SEND_DATA, answer), NUTRAMEZA_NONE, 0))
-        printf("    no role set: the first window holds Doctor, which excludes Data_Manager\n");
+    answered("  send health records from there", ask(1, READ_HEALTH_RECORDS | SEND_DATA, answer), NUTRAMEZA_NONE, 0);
     if (memcmp(before, answer, sizeof before) != 0) {
         printf("    the refused ask touched the answer\n");
+        wrong = 1;
+    }
+    if (answered("  what stands in the way", obstacle(1, READ_HEALTH_RECORDS | SEND_DATA, roles), NUTRAMEZA_DONE,
+                 NUTRAMEZA_OBSTACLE_EXCLUSION + 8 * (NUTRAMEZA_MS_DMER + 4 * 2)))
+        printf("    no 2 of Doctor and Data_Manager over the open windows: another one holds Doctor\n");
+    if (nutrameza_obstacle_first(roles) != 1 << DOCTOR || nutrameza_obstacle_second(roles) != (1 << DOCTOR | 1 << DATA_MANAGER)) {
+        printf("    the paper counts Doctor, of Doctor and Data_Manager\n");
         wrong = 1;
     }
     if (answered("  what is on in the first window", show(0, answer, sizeof answer), NUTRAMEZA_DONE, 0))
@@ -130,6 +146,7 @@ static void day(void)
 
     answered("close the first window", nutrameza_close(image, sizeof image, ledger, NUTRAMEZA_LINE_BYTES, USER, 0),
              NUTRAMEZA_DONE, 0);
+    answered("  what stands in the way now", obstacle(1, READ_HEALTH_RECORDS | SEND_DATA, roles), NUTRAMEZA_NONE, 0);
     if (answered("  send health records from the second", ask(1, READ_HEALTH_RECORDS | SEND_DATA, answer), NUTRAMEZA_DONE, 0))
         shown(answer, 2, 0x12);
     uint64_t told = explain(1, 4);

@@ -731,7 +731,7 @@ class Commands(Folder):
     def test_help_describes_the_text_form(self):
         with contextlib.redirect_stdout(io.StringIO()) as out, self.assertRaises(SystemExit):
             policy.main(["--help"])
-        for word in [*policy.SORTS, *policy.ENTRIES, *policy.EXCLUSION_KINDS, "loop", "22", "reach", "23"]:
+        for word in [*policy.SORTS, *policy.ENTRIES, *policy.EXCLUSION_KINDS, "loop", "22", "reach", "23", "why"]:
             self.assertIn(word, out.getvalue())
 
 
@@ -857,7 +857,7 @@ class Why(Folder):
                 (good, ("ANNA", str(2 ** 64 - 1)), f"12 session: there is no window {2 ** 64 - 1}"),
                 (good, ("ANNA", "1"), "13 closed: window 1 is not open")]:
             self.assertEqual(self.clinic(ledger, *words, "Read_id"), (1, "", f"refused: {told}\n"))
-        self.assertEqual(self.clinic(good, "ANNA", "0", "9"), (1, "", "refused: 16 permission (0)\n"))
+        self.assertEqual(self.clinic(good, "ANNA", "0", "9"), (1, "", "refused: 16 permission: permissions are numbered below 9\n"))
 
     def test_a_refused_image_is_told_by_number_word_and_extra(self):
         self.assertEqual(self.ask(b"1234", line(), WARD, "ANNA", "0", "Send_data"), (1, "", "refused: 1 length (0)\n"))

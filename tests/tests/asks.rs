@@ -193,10 +193,13 @@ fn see_search(tally: &mut Tally, policy: &Policy, call: &Call, played: &Played) 
     }
 }
 
-/// Sees an explain.
-fn see_explain(tally: &mut Tally, call: &Call, played: &Played) {
-    if matches!(call, Call::Explain { .. }) {
-        tally.see(if played.reply.number == 0 { "explains done" } else { "explains refused" });
+/// Sees an explain or an obstacle.
+fn see_why(tally: &mut Tally, call: &Call, played: &Played) {
+    let done = played.reply.number == 0;
+    match call {
+        Call::Explain { .. } => tally.see(if done { "explains done" } else { "explains refused" }),
+        Call::Obstacle { .. } => tally.see(if done { "obstacles done" } else { "obstacles refused" }),
+        _ => {}
     }
 }
 
@@ -226,7 +229,7 @@ fn answers_a_hundred_thousand_asks_as_the_solver_does() {
             if matches!(call, Call::Ask { .. } | Call::ShortAsk { .. }) {
                 tally.see_number(played.reply.number);
             }
-            see_explain(tally, call, &played);
+            see_why(tally, call, &played);
             assert!(played.reply.number != 18 || !matches!(call, Call::ShortAsk { .. }));
             if (call.user() as usize) < policy.users {
                 see_search(tally, &policy, call, &played);
@@ -237,6 +240,7 @@ fn answers_a_hundred_thousand_asks_as_the_solver_does() {
     tally.expect(5_000, &["0", "20", "ties", "empty lower bounds", "roles cut", "several roles"]);
     tally.expect(1_000, &["empty upper bounds", "limits of 2"]);
     tally.expect(2_500, &["explains done", "explains refused"]);
+    tally.expect(1_000, &["obstacles done", "obstacles refused"]);
     tally.expect(150, &NUMBERS);
     for first in 0..3 {
         for second in 0..3 {
@@ -355,10 +359,11 @@ fn each_user_is_told_the_same_whatever_the_others_do() {
                 calls.iter().zip(&together).filter(|(call, _)| of_user(call)).map(|(_, told)| told.clone()).collect();
             assert_eq!(alone, told, "user {user} of {run:?}");
             told.iter().for_each(|played| tally.see_number(played.reply.number));
-            run.calls.iter().zip(&told).for_each(|(call, played)| see_explain(tally, call, played));
+            run.calls.iter().zip(&told).for_each(|(call, played)| see_why(tally, call, played));
         }
     });
     tally.expect(500, &["explains done", "explains refused"]);
+    tally.expect(200, &["obstacles done", "obstacles refused"]);
     tally.expect(150, &["0", "11", "12", "13", "14", "15", "16", "17", "18", "19", "20"]);
 }
 
