@@ -43,6 +43,7 @@ text, Plb 2 0                                       54179        28402    1.91  
 text, the longest                                 7959009      4977342    1.53      6303153       792
 text, the longest, a buffer of its length        13863950      6356371    2.11      6303153       455
 obstacle, 13 words, 1 of 1 hindered                   250          200    1.25            300    0.83
+obstacle, 4,096 words, grants, 1 of 1 hindered        5100         5000    1.02           5000    1.02
 obstacle, the last of 32, 1 of 1 hindered            9000         8000    1.12           3000    3.00
 obstacle, Plb_bigR, 0 of 10 hindered                12000        11000    1.09          10000    1.20
 obstacle, that, 3 of 8 hindered                     30000        25000    1.20          10000    2.95
