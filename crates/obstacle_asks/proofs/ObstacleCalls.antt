@@ -7,18 +7,17 @@ use mathlib.Core.List.{List, [], _∷_}
 use Prim.Native.Nat.{ℕ, _+_, _*_}
 use lib.ListN.{length}
 use borrow.Author.Tests.{lt-leb, eq-eqb, ne-eqb}
-use Rattle.model.specs.declared.Line.{Line}
 use Rattle.model.specs.Tests.{pick, first}
 use Rattle.model.specs.Bytes.{number}
 use Rattle.model.specs.Policy.{Policy, meaning}
 use Rattle.model.specs.Line.{SESSIONS, lineSize}
 use Rattle.model.specs.Limits.{Others}
 use Rattle.model.specs.Obstacle.{Obstacle, obstacleOf}
-use Rattle.model.specs.Session.{Reply, Refusal, bad-session, is-closed, bad-set, bad-permission, bad-bounds, bad-pair, no-obstacle, refuse, refusalNumber, refusalExtra, isAsk, canGive, obstacleFor, isNone, applies, obstructed, perform, sessionOf, queryOf}
+use Rattle.model.specs.Session.{Refusal, bad-session, is-closed, bad-set, bad-permission, bad-bounds, bad-pair, no-obstacle, refuse, refusalNumber, refusalExtra, isAsk, canGive, obstacleFor, isNone, applies, obstructed, perform, sessionOf, queryOf}
 use Rattle.model.specs.Session as rules
 use Rattle.model.specs.Run.{Call, Event, lineAt, stepOn, obstacleBy, returned, filledWith, answered, lineOf, told}
 use Rattle.calls.specs.Calls.{Shows}
-use Rattle.calls.proofs.FirstSteps.{refusedBy, shows-refusal, refuses, performs, holds, fails, ends}
+use Rattle.calls.proofs.FirstSteps.{shows-refusal, refuses, performs, holds, fails, ends}
 use Rattle.asks_request.specs.Refusals.{queryRefusal, boundsRefusal, limitedRefusal}
 use Rattle.asks_request.proofs.Requests.{AskReady}
 use Rattle.asks_request.proofs.Refused.{numberOf, extras, or-session, test, own-tests, refused}

@@ -12,7 +12,7 @@ use Rattle.model.specs.declared.Line.{Line}
 use Rattle.model.specs.Sets.{has, inter}
 use Rattle.model.specs.Policy.{kindNumber}
 use Rattle.model.specs.Reduced.{stays, maskOf}
-use Rattle.model.specs.Obstacle.{Obstacle, blocks}
+use Rattle.model.specs.Obstacle.{blocks}
 use Rattle.model_laws.proofs.SetLaws.{has-inter}
 use Rattle.model_laws.proofs.AnyWidth.{same-sets}
 use Rattle.sets.proofs.Taken.{apart, has-xor, has-lacking}

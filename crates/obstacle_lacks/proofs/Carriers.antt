@@ -11,7 +11,7 @@ use borrow.Author.Tests.{lt-ltb, le-ltb}
 use Rattle.model.specs.Tests.{ifBelow}
 use Rattle.model.specs.Sets.{has, inter, setOf, within}
 use Rattle.model.specs.Policy.{Policy, Meaning, belowTable, meaning}
-use Rattle.model.specs.Obstacle.{Obstacle, carriersOf, fitting, lacks}
+use Rattle.model.specs.Obstacle.{carriersOf, fitting, lacks}
 use Rattle.model_laws.proofs.Bools.{and-l, and-r, both, bool-ext}
 use Rattle.model_laws.proofs.SetLaws.{has-inter, within-has}
 use Rattle.model_laws.proofs.UnionLaws.{has-below}

@@ -12,7 +12,7 @@ use Rattle.model.specs.Sets.{has}
 use Rattle.model.specs.Policy.{Policy, Meaning, authorized, belowTable, reached, carriedTable, granter, sorted, meaning}
 use Rattle.model.specs.Line.{exclusionsMet}
 use Rattle.model.specs.Limits.{Others, barred, unbarred}
-use Rattle.model.specs.Obstacle.{Obstacle, lacks, excludingOnly, left, blocking, blocks, obstacleOf}
+use Rattle.model.specs.Obstacle.{Obstacle, excludingOnly, left, blocking, blocks, obstacleOf}
 use Rattle.model.specs.Obstacles.{excludingJust}
 use Rattle.model_laws.proofs.AnyWidth.{within-iff}
 use Rattle.model_laws.proofs.Barred.{left-own}
