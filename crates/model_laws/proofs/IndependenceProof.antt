@@ -97,7 +97,7 @@ module _ (W u : ℕ) (r : Run W) (hu : u < r .head .users) where
   fits-policy = r .fits ∙ ap (λ (h : Head). lineSize W * h .users) (sym head-is)
 
   -- what the user sees goes by the session rules
-  view-by-rules : viewOf W u r ≡ rules W (meaning (policyOf (r .image)) u) (firstLine W u r) (toldOf W u r) (callsOf u (r .calls))
+  pub view-by-rules : viewOf W u r ≡ rules W (meaning (policyOf (r .image)) u) (firstLine W u r) (toldOf W u r) (callsOf u (r .calls))
   unfolding viewOf eventsOf firstLine toldOf
   view-by-rules =
       let p = policyOf (r .image) in

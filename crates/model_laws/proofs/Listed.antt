@@ -186,8 +186,8 @@ module _ (k : ℕ) (q : Query) (x : Others) (bs : List ℕ) where
       go false true p ih = absurd (true≢false (sym p))
       go false false p ih = ih
 
--- a text's line is kept as it is
-beside-line : (o : Operation) (r : Result) → besideText o r .line ≡ r .line
+-- the line is left as it is
+pub beside-line : (o : Operation) (r : Result) → besideText o r .line ≡ r .line
 unfolding besideText pick
 beside-line o r = go (isText o && (eqb (r .reply .number) 0 || eqb (r .reply .number) 19))
   where
