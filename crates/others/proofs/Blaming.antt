@@ -13,7 +13,6 @@ use lib.Dec.{eqb, ltb}
 use lib.ListN.{length}
 use borrow.Author.Tests.{eqb-true, ltb-true, eq-eqb, ne-eqb, lt-ltb, le-ltb, not-true, not-false}
 use borrow.Table.Steps.{cases}
-use Rattle.model.specs.declared.Line.{Line}
 use Rattle.model.specs.Tests.{pick, any}
 use Rattle.model.specs.Policy.{Policy, hasLimits, meaning}
 use Rattle.model.specs.Line.{lineSize, sound}
@@ -45,18 +44,15 @@ module _ (W : ℕ) (p : Policy) (ledger : List ℕ) (u : ℕ) where
   unfolding linesRefusal
   first-line v d b e = ap (tried v d) e
 
-  -- by a test b of the line of v, as read
-  module _ {b : Bool} {x : Line} (v n : ℕ) (l : v < n) (read : x ≡ lineOf W ledger v) (t : b ≡ sound W (meaning p v) x) where
-    tested : sound W (meaning p v) (lineOf W ledger v) ≡ b
-    tested = sym (t ∙ ap (sound W (meaning p v)) read)
-
+  -- by a test b of the line of v
+  module _ {b : Bool} (v n : ℕ) (l : v < n) (t : b ≡ sound W (meaning p v) (lineOf W ledger v)) where
     pub lines-next : not b ≡ false → linesRefusal W p ledger u (v + 1) (n - (v + 1)) ≡ linesRefusal W p ledger u v (n - v)
     lines-next e =
-        ap (λ (i : ℕ). linesRefusal W p ledger u i (n - (v + 1))) (add-one v) ∙ sym (first-line v (n - (v + 1)) true (tested ∙ not-false _ e))
+        ap (λ (i : ℕ). linesRefusal W p ledger u i (n - (v + 1))) (add-one v) ∙ sym (first-line v (n - (v + 1)) true (sym t ∙ not-false _ e))
         ∙ ap (linesRefusal W p ledger u v) (omega arith)
 
     pub lines-stop : not b ≡ true → blamed u v ≡ linesRefusal W p ledger u v (n - v)
-    lines-stop e = sym (first-line v (n - (v + 1)) false (tested ∙ not-true _ e)) ∙ ap (linesRefusal W p ledger u v) (omega arith)
+    lines-stop e = sym (first-line v (n - (v + 1)) false (sym t ∙ not-true _ e)) ∙ ap (linesRefusal W p ledger u v) (omega arith)
 
   pub lines-end : (v n : ℕ) → n ≤ v → 0 ≡ linesRefusal W p ledger u v (n - v)
   unfolding linesRefusal

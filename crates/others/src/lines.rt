@@ -2,8 +2,9 @@
 ghost use mathlib.Core.Path.{_≡_};
 ghost use Prim.Native.Nat.{_*_, _≤_, _<_};
 ghost use lib.ListN.{length};
-ghost use Rattle.model.specs.Policy.{Policy};
-ghost use Rattle.model.specs.Line.{SESSIONS, lineSize};
+ghost use Rattle.model.specs.Policy.{Policy, meaning};
+ghost use Rattle.model.specs.Line.{SESSIONS, lineSize, sound as soundBy};
+ghost use Rattle.model.specs.Run.{lineOf};
 ghost use Rattle.rows.specs.Rows.{exclusionsIn};
 ghost use Rattle.calls.specs.Calls.{Known};
 ghost use Rattle.others.specs.Lines.{blamed as blamedFor, linesRefusal, othersRefusal};
@@ -13,6 +14,24 @@ use ledger::bytes::LINE;
 use ledger::bytes::line_of;
 use ledger::sound::sound;
 use limits_left::has_limits;
+
+// The line of user v is sound.
+pub fn line_sound(
+    ledger: &[u8],
+    rules: Rules,
+    authorized: &[u64; 64],
+    xs: &[[u64; 2]; 32],
+    v: usize,
+) -> bool
+    requires { ⌜ (rules .head .users ≤ 64) × (rules .count ≤ 32) × (length (now xs) ≡ 32) × (length (now ledger) ≡ lineSize SESSIONS * rules .head .users)
+        × (v < rules .head .users) ⌝ }
+    ensures { λ r. ⌜ ((p : Policy) → Known (rules .head) (now (authorized .entry)) (exclusionsIn (now (xs .entry)) (rules .count)) p
+        → r ≡ soundBy SESSIONS (meaning p v) (lineOf SESSIONS (now (ledger .entry)) v)) ⌝ }
+{
+    let l = line_of(ledger, v);
+    let own = roles_of(authorized, v);
+    sound(l, rules.head.roles, own, xs, rules.count)
+}
 
 // 11 for the line of user v; the extra is that user plus 1, where it is not the asker.
 fn blamed(user: u64, v: usize) -> u64
@@ -37,12 +56,9 @@ fn lines_refusal(
     ensures { λ r. ⌜ ((p : Policy) → Known (rules .head) (now (authorized .entry)) (exclusionsIn (now (xs .entry)) (rules .count)) p
         → r ≡ linesRefusal SESSIONS p (now (ledger .entry)) user 0 (rules .head .users)) ⌝ }
 {
-    let head = rules.head;
-    let users = head.users as usize;
+    let users = rules.head.users as usize;
     for v in 0..users {
-        let l = line_of(ledger, v);
-        let own = roles_of(authorized, v);
-        if !sound(l, head.roles, own, xs, rules.count) {
+        if !line_sound(ledger, rules, authorized, xs, v) {
             return blamed(user, v);
         }
     }

@@ -4,75 +4,54 @@ use mathlib.Core.Path.{_≡_, ap, _∙_}
 use Prim.Native.Nat.{_-_, _≤_}
 use native.Mathlib.Omega.{arith}
 use borrow.Author.Needs.{needs}
-use Rattle.model.specs.declared.Head.{Head}
-use Rattle.model.specs.Policy.{Policy, meaning}
-use Rattle.model.specs.Line.{SESSIONS, lineSize}
-use Rattle.model.specs.Run.{lineOf}
+use Rattle.model.specs.Policy.{Policy}
+use Rattle.model.specs.Line.{SESSIONS}
 use Rattle.rows.specs.Rows.{exclusionsIn}
 use Rattle.calls.specs.Calls.{Known}
-use Rattle.calls.proofs.FirstSteps.{held}
 use Rattle.others.specs.Lines.{linesRefusal}
 use Rattle.others.proofs.Blaming.{lines-next, lines-stop, lines-end}
 use Rattle.others.proofs.lines.lines_refusal.Statement.{statement}
 use Rattle.others.proofs.lines.lines_refusal.Tie as tie
 
 abbrev Inv-loop : tie.InvT-loop
-Inv-loop ledger rules authorized xs user head users v₀ v =
+Inv-loop ledger rules authorized xs user users v₀ v =
     (v ≤ users)
     × ((p : Policy) → Known (rules .head) authorized (exclusionsIn xs (rules .count)) p
     → linesRefusal SESSIONS p ledger user v (users - v) ≡ linesRefusal SESSIONS p ledger user 0 users)
 
 abbrev μ-loop : tie.MeasureT-loop
-μ-loop ledger rules authorized xs user head users v₀ v = users - v
+μ-loop ledger rules authorized xs user users v₀ v = users - v
 
 loop-holds : tie.Need-loop-holds Inv-loop μ-loop
 loop-holds c = (omega arith, λ p h. ap (linesRefusal SESSIONS p _ _ 0) (omega arith))
 
-line-of-requires : tie.Need-line-of-requires Inv-loop μ-loop
-unfolding lineSize
-line-of-requires c κs = omega (arith, c .before .before .before .before .before .pre .3)
-
-roles-of-requires : tie.Need-roles-of-requires Inv-loop μ-loop
-roles-of-requires c κs = omega (arith, c .before .before .before .before .before .before .pre .0)
-
 returns : tie.Need-returns Inv-loop μ-loop
-unfolding lineOf
 returns c p h =
     let t = c .before .before in
-    let l = t .before .before .before .before in
-    let a = l .before .before .before .before .args in
-    let v = l .loop .v in
-    let e = ap (λ (x : Head). x .users) (h .head-is) in
-    let k = held (a .rules .head) (a .authorized .now) _ p v _ h (omega arith) (t .before .roles-of .ensures) in
+    let l = t .before .before in
+    let a = l .before .before .before .args in
     c .blamed .ensures
-    ∙ lines-stop SESSIONS p (a .ledger .now) (a .user) v _ (omega arith) (t .before .before .line-of .ensures) (t .sound .ensures (meaning p v) k)
-    (c .before .if1 .taken)
+    ∙ lines-stop SESSIONS p (a .ledger .now) (a .user) (l .loop .v) _ (omega arith) (t .line-sound .ensures p h) (c .before .if1 .taken)
     ∙ l .loop .inv .1 p h
 
 loop-again : tie.Need-loop-again Inv-loop μ-loop
-unfolding lineOf
 loop-again c =
     let t = c .before in
-    let l = t .before .before .before .before in
-    let a = l .before .before .before .before .args in
-    let v = l .loop .v in (
+    let l = t .before .before in
+    let a = l .before .before .before .args in (
       omega arith,
-      λ p h.
-          let e = ap (λ (x : Head). x .users) (h .head-is) in
-          let k = held (a .rules .head) (a .authorized .now) _ p v _ h (omega arith) (t .before .roles-of .ensures) in
-          lines-next SESSIONS p (a .ledger .now) (a .user) v _ (omega arith) (t .before .before .line-of .ensures) (t .sound .ensures (meaning p v) k)
-          (c .if1 .left)
+      λ p h. lines-next SESSIONS p (a .ledger .now) (a .user) (l .loop .v) _ (omega arith) (t .line-sound .ensures p h) (c .if1 .left)
           ∙ l .loop .inv .1 p h,
     )
 
 returns-2 : tie.Need-returns-2 Inv-loop μ-loop
 returns-2 c p h =
     let l = c .before in
-    let a = l .before .before .before .before .args in
+    let a = l .before .before .before .args in
     lines-end SESSIONS p (a .ledger .now) (a .user) (l .loop .v) _ (omega arith) ∙ l .loop .inv .1 p h
 
 pub lines-refusal-spec : {M : Type 1} → statement M
 lines-refusal-spec =
     tie.close
-    (tie.spec Inv-loop μ-loop (λ c. search needs) loop-holds line-of-requires roles-of-requires (λ c κs. search needs) (λ c κs. search needs)
+    (tie.spec Inv-loop μ-loop (λ c. search needs) loop-holds (λ c κs. search needs) (λ c κs. search needs)
     returns (λ c. search needs) (λ c. search needs) loop-again returns-2)
