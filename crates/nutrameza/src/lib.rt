@@ -9,6 +9,7 @@ ghost use Rattle.model.specs.Judgement.{judge};
 ghost use Rattle.model.specs.Loop.{loopCall};
 ghost use Rattle.model.specs.Moves.{widened, narrowed};
 ghost use Rattle.model.specs.Run.{step, openBy, closeBy, showBy, askBy, shortAskBy, explainBy, returned, answered};
+ghost use Rattle.stopped.specs.Stopped.{stoppedCall};
 ghost use Rattle.tidying.specs.Tidy.{tidyCall};
 ghost use Rattle.turned_table.specs.TableCalls.{tableCall};
 ghost use Rattle.turned.specs.Calls.{turnCall, unturnCall};
@@ -44,6 +45,17 @@ pub extern "C" fn nutrameza_tidy(image: &[u8], out: &mut [u8]) -> u64
         × (now (out .exit) ≡ tidyCall (now (image .entry)) (now (out .entry)) .out) ⌝ }
 {
     image_calls::write_tidy(image, out)
+}
+
+// Tells whom the image stops: the users whose line of the ledger is not sound under it, user u as bit u of 8 bytes. The extra is how many
+// they are.
+#[no_mangle]
+pub extern "C" fn nutrameza_stopped(image: &[u8], ledger: &[u8], users: &mut [u8]) -> u64
+    ensures { λ r. ⌜ (r ≡ returned (stoppedCall SESSIONS (now (image .entry)) (now (ledger .entry)) (length (now (users .entry)))))
+        × (now (users .exit) ≡ answered (now (users .entry))
+        (stoppedCall SESSIONS (now (image .entry)) (now (ledger .entry)) (length (now (users .entry))))) ⌝ }
+{
+    stopped_calls::tell_stopped(image, ledger, users)
 }
 
 // Opens the user's lowest closed session, and returns it as the extra.
