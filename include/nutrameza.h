@@ -39,6 +39,9 @@ extern "C" {
 /* Size in bytes of what an obstacle fills: two sets of roles. */
 #define NUTRAMEZA_OBSTACLE_BYTES 16
 
+/* Size in bytes of a set of users: user u is bit u mod 8 of byte u div 8. */
+#define NUTRAMEZA_USERS_BYTES 8
+
 /* Sessions of a user and bytes of a line in ledgers of earlier versions, which widen carries over and narrow back. */
 #define NUTRAMEZA_OLD_SESSIONS 4
 #define NUTRAMEZA_OLD_LINE_BYTES 80
@@ -111,7 +114,8 @@ enum nutrameza_obstacle_kind {
  * for 11 of a move, for 11 of an ask, clause text or obstacle 1 more than the lowest user whose line is not sound
  * where that is not the asker, the session that a done open took, the length of the chain that a done loop call gave,
  * 64 times a role plus its granting role of a done explain, the kind plus 8 times what it is about of a done
- * obstacle, the number of words that a done tidy wrote, the length of a clause text, else 0. */
+ * obstacle, the number of words that a done tidy wrote, how many users a done stopped call told, the length of a
+ * clause text, else 0. */
 static inline unsigned nutrameza_number_of(uint64_t returned) { return (unsigned)(returned % 256); }
 static inline uint64_t nutrameza_extra_of(uint64_t returned) { return returned / 256; }
 
@@ -377,6 +381,20 @@ uint64_t nutrameza_explain(const uint8_t *image, size_t image_len, const uint8_t
 uint64_t nutrameza_obstacle(const uint8_t *image, size_t image_len, const uint8_t *ledger, size_t ledger_len,
                             uint64_t user, uint64_t session, const uint8_t *lower, size_t lower_len,
                             const uint8_t *upper, size_t upper_len, uint8_t *roles, size_t roles_len);
+
+/* Stopped tells, before a site puts an image in place, whom it would stop: it fills 8 bytes with the set of users whose
+ * line of the ledger is not sound under the image, user u as bit u, and the extra is how many they are. A user is in the
+ * set exactly if that user's open on this ledger is refused by 11, and every other call of that user is too. It reads
+ * the ledger, which has a zero line for each user that the image adds, and changes no byte of it. Refusals 1 to 8, 22,
+ * 23, 9, and 19 for another buffer size. docs/CHANGING.md says how a site changes a policy with windows open. */
+uint64_t nutrameza_stopped(const uint8_t *image, size_t image_len, const uint8_t *ledger, size_t ledger_len,
+                           uint8_t *users, size_t users_len);
+
+/* 1 if the set of users has the user, else 0. */
+static inline int nutrameza_has_user(const uint8_t *users, uint64_t user)
+{
+    return user < NUTRAMEZA_MAX_USERS && (users[user / 8] & 1u << user % 8) != 0;
+}
 
 /* Widen carries a ledger of four sessions a user, 80 bytes a line, over into one of eight, 144 bytes a line: each
  * user's history and each session's bytes stand under their numbers, the new sessions are closed. It reads the old

@@ -15,7 +15,8 @@ rt=${RT:-rt}
 
 # The exported calls, in the order of their names.
 calls='nutrameza_ask nutrameza_check nutrameza_clauses nutrameza_close nutrameza_explain nutrameza_loop nutrameza_narrow nutrameza_obstacle
-  nutrameza_open nutrameza_short_ask nutrameza_show nutrameza_table nutrameza_tidy nutrameza_turn nutrameza_unturn nutrameza_widen'
+  nutrameza_open nutrameza_short_ask nutrameza_show nutrameza_stopped nutrameza_table nutrameza_tidy nutrameza_turn nutrameza_unturn
+  nutrameza_widen'
 
 # symbols OPTION..: the names that nm lists of the archive's members
 symbols() {

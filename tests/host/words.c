@@ -101,6 +101,11 @@ static void test_sets(void) {
     answer[0] = 1;
     answer[7] = 0x80;
     same("roles 0 and 63", nutrameza_answer_roles(answer), 0x8000000000000001u);
+    for (p = 0; p < 80; p++) {
+        same("user of a set", (uint64_t)nutrameza_has_user(answer, p), p == 0 || p == 63);
+    }
+    same("a user far beyond", (uint64_t)nutrameza_has_user(answer, UINT64_C(1) << 32), 0);
+    same("bytes of a set of users", NUTRAMEZA_USERS_BYTES, NUTRAMEZA_MAX_USERS / 8);
 }
 
 /* The two sets of an obstacle, each in its half. */

@@ -9,6 +9,8 @@ use crate::solver::line::LINE;
 use crate::solver::loops::{self, Found};
 #[cfg(feature = "calls")]
 use crate::solver::moves::{self, Carried, Move};
+#[cfg(feature = "calls")]
+use crate::solver::stopped::{self, Told};
 use crate::solver::tidy::{self, Written};
 use crate::solver::turned::{self, Filled, Way};
 use crate::words;
@@ -290,6 +292,35 @@ pub fn carry(way: Move, image: &[u8], old: &[u8], new: &[u8], empty: Empty, guar
         let lines = nonzero_lines(&less, way.lines().0);
         let (seed, image, from, to) = (seed(), image_text(&small), less.len(), new.len());
         panic!("seed {seed}: {way:?}: {text}\nimage: {image}\nfrom {from} bytes to {to}, the old ledger zero but for\n{lines}");
+    })
+}
+
+/// The stopped call by both on a buffer of this length: what it told, or what differs.
+#[cfg(feature = "calls")]
+fn told(image: &[u8], ledger: &[u8], room: usize, empty: Empty, guard: u8) -> Result<Told, String> {
+    let told = stopped::stopped(&judge(image), ledger, room);
+    let mut kept = Guarded::new(ledger, !guard);
+    let expected = (told.returned(), told.users.as_ref().map(|users| &users[..]));
+    filled(image, room, guard, expected, |image, users| kit::stopped(empty, image, kept.inner(), users))?;
+    if kept.inner() != ledger || !kept.guards_stand() {
+        return Err(format!("after answer {} the ledger changed", told.number));
+    }
+    Ok(told)
+}
+
+/// The stopped call by both; panics with a shrunk image and ledger if they differ.
+#[cfg(feature = "calls")]
+pub fn stopped(image: &[u8], ledger: &[u8], room: usize, empty: Empty, guard: u8) -> Told {
+    told(image, ledger, room, empty, guard).unwrap_or_else(|_| {
+        let (mut small, mut less) = (image.to_vec(), ledger.to_vec());
+        shrink_image(&mut small, |image| told(image, ledger, room, empty, guard).is_err());
+        zero_bytes(&mut less, |less| told(&small, less, room, empty, guard).is_err());
+        let text = told(&small, &less, room, empty, guard).expect_err("the shrunk call still fails");
+        let (seed, image, lines) = (seed(), image_text(&small), nonzero_lines(&less, LINE));
+        panic!(
+            "seed {seed}: stopped on {room} bytes: {text}\nimage: {image}\nledger of {} bytes, zero but for\n{lines}",
+            less.len()
+        );
     })
 }
 

@@ -45,6 +45,14 @@ mod raw {
             session: u64,
             permission: u64,
         ) -> u64;
+        pub fn nutrameza_stopped(
+            image: *const u8,
+            image_len: usize,
+            ledger: *const u8,
+            ledger_len: usize,
+            users: *mut u8,
+            users_len: usize,
+        ) -> u64;
         pub fn nutrameza_widen(
             image: *const u8,
             image_len: usize,
@@ -218,6 +226,15 @@ pub fn show(empty: Empty, image: &[u8], ledger: &[u8], user: u64, session: u64, 
 pub fn explain(empty: Empty, image: &[u8], ledger: &[u8], user: u64, session: u64, permission: u64) -> u64 {
     // SAFETY: as in `open`.
     unsafe { raw::nutrameza_explain(empty.read(image), image.len(), empty.read(ledger), ledger.len(), user, session, permission) }
+}
+
+/// The stopped call: the ledger is read, the set of users written.
+#[cfg(feature = "calls")]
+pub fn stopped(empty: Empty, image: &[u8], ledger: &[u8], users: &mut [u8]) -> u64 {
+    // SAFETY: as in `open`.
+    unsafe {
+        raw::nutrameza_stopped(empty.read(image), image.len(), empty.read(ledger), ledger.len(), empty.write(users), users.len())
+    }
 }
 
 /// A move: the old ledger is read, the new one written.

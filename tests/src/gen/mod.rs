@@ -1,6 +1,7 @@
 //! Inputs for the tests, made by a fixed random sequence: the same seed makes the same inputs.
 
 pub mod call;
+pub mod change;
 pub mod damage;
 pub mod hierarchy;
 pub mod ledger;
