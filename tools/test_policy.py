@@ -50,6 +50,16 @@ def words_of(text):
     return policy.parse(text, "t")[0].words()[1:-1]
 
 
+def line_of(active, past):
+    """A line whose open sessions have these role sets active and in their past, with the user's past."""
+    numbers = [sum(1 << session for session in active), past] + [active.get(session, 0) for session in range(8) for _ in range(2)]
+    return b"".join(number.to_bytes(8, "little") for number in numbers)
+
+
+def ledger_of(*lines):
+    return b"".join(lines)
+
+
 def errors_of(text):
     """The errors of a text, one to a line."""
     try:
@@ -719,11 +729,107 @@ class Commands(Folder):
             told = f"{bad}: refused: 1 length at place 0: 4 bytes; an image has 8 to 16384\n"
             self.assertEqual(self.run_tool("same", *pair), (2, "", told))
 
+    def test_same_says_of_texts_whether_every_number_is_kept(self):
+        kept = self.path("kept", b"user ANNA BERT CARL\nrole Doctor Nurse Clerk Porter\npermission Read Write Send Print\n")
+        start = self.path("start", START.encode())
+        self.assertEqual(self.run_tool("same", start, start), (0, "the same\nevery number is kept\n", ""))
+        told = "- 2 users, 3 roles, 4 permissions\n+ 3 users, 4 roles, 4 permissions\nevery number is kept\n"
+        self.assertEqual(self.run_tool("same", start, kept), (1, told, ""))
+
+    def test_same_tells_each_name_that_has_another_number_or_is_gone(self):
+        start = self.path("start", START.encode())
+        turned = self.path("turned", b"user BERT ANNA\nrole Doctor Clerk\npermission Read Write Copy Print\n")
+        told = ("- 2 users, 3 roles, 4 permissions\n+ 2 users, 2 roles, 4 permissions\nuser ANNA had number 0 and has 1 now\n"
+                "user BERT had number 1 and has 0 now\nrole Nurse had number 1 and is gone\nrole Clerk had number 2 and has 1 now\n"
+                "permission Send had number 2 and is gone\n")
+        self.assertEqual(self.run_tool("same", start, turned), (3, told, ""))
+
+    def test_same_gives_status_2_for_a_text_with_an_error(self):
+        start, bad = self.path("start", START.encode()), self.path("bad", b"user ANNA\nassign ANNA Doctor\n")
+        status, out, err = self.run_tool("same", start, bad)
+        self.assertEqual((status, out), (2, ""))
+        self.assertIn("unknown role Doctor", err)
+
+    def test_stopped_tells_a_role_that_is_no_longer_the_users(self):
+        text = self.path("new", (START + "assign ANNA Nurse\nassign BERT Doctor\nsenior Doctor Clerk\n").encode())
+        ledger = self.path("ledger", ledger_of(line_of({0: 1}, past=1), line_of({1: 5}, past=5)))
+        told = "ANNA (0) is stopped:\n  window 0 has Doctor, which is not ANNA's\n"
+        self.assertEqual(self.run_tool("stopped", text, ledger), (1, told, ""))
+
+    def test_stopped_tells_the_exclusions_that_are_not_met(self):
+        entries = "assign ANNA Doctor Nurse Clerk\nexclude ms-hmer 2 Doctor Nurse\nexclude ss-dmer 2 Nurse Clerk\nexclude ms-dmer 3 Doctor Nurse Clerk\n"
+        text = self.path("new", (START + entries).encode())
+        ledger = self.path("ledger", ledger_of(line_of({0: 6}, past=7), bytes(144)))
+        told = "ANNA (0) is stopped:\n  exclude ss-dmer 2 Nurse Clerk\n  exclude ms-hmer 2 Doctor Nurse\n"
+        self.assertEqual(self.run_tool("stopped", text, ledger), (1, told, ""))
+
+    def test_stopped_tells_a_past_beyond_the_roles_and_a_damaged_line(self):
+        text = self.path("new", START.encode())
+        ledger = self.path("ledger", ledger_of(line_of({}, past=1 << 5), b"\0\1" + bytes(142)))
+        told = ("ANNA (0) is stopped:\n  the past has role 5, and the policy has 3 roles\n"
+                "BERT (1) is stopped:\n  the line is damaged: no call leaves such a line\n")
+        self.assertEqual(self.run_tool("stopped", text, ledger), (1, told, ""))
+
+    def test_stopped_tells_nobody_and_adds_zero_lines(self):
+        ledger = self.path("ledger", ledger_of(line_of({0: 1}, past=1)))
+        text = self.path("new", (START + "assign ANNA Doctor\nlimit Doctor 2\n").encode())
+        self.assertEqual(self.run_tool("stopped", text, ledger), (0, "1 zero line added for new users\nnobody is stopped\n", ""))
+        with open(ledger, "rb") as file:
+            self.assertEqual(len(file.read()), 144)
+
+    def test_stopped_takes_an_image_and_its_names(self):
+        image_a = self.path("a", policy.to_bytes(A))
+        ledger = self.path("ledger", ledger_of(line_of({0: 1, 3: 2}, past=3)))
+        told = "ANNA (0) is stopped:\n  exclude ms-dmer 2 Doctor Data_Manager\n"
+        self.assertEqual(self.run_tool("stopped", image_a, ledger, WARD), (1, told, ""))
+        self.assertEqual(self.run_tool("stopped", image_a, ledger)[1].split("\n")[0], "user0 (0) is stopped:")
+
+    def test_who_is_stopped_goes_on_once_each_reason_is_mended(self):
+        kit, rng, told = policy.Kit(self.folder.name), random.Random(15), {"roles": 0, "exclusions": 0, "damaged": 0, "nobody": 0}
+        names = {"user": ["ANNA"], "role": [f"R{k}" for k in range(5)], "permission": ["Read"]}
+        for _ in range(400):
+            entries = [(policy.ASSIGNMENT, 0, role) for role in range(5) if rng.random() < 0.6]
+            entries += [(policy.SENIOR, role, role + 1) for role in range(4) if rng.random() < 0.2]
+            entries += [(policy.EXCLUSION, rng.randrange(4), rng.choice((2, 2, 3)), sorted(rng.sample(range(5), 3))) for _ in range(rng.randrange(3))]
+            new = policy.Policy([1, 5, 1], entries)
+            active = {session: rng.randrange(32) for session in range(8) if rng.random() < 0.2}
+            line = line_of(active, past=31 if rng.random() < 0.3 else sum(1 << role for role in range(5) if any(s >> role & 1 for s in active.values())))
+            if rng.random() < 0.1:
+                line = bytes([line[0]]) + b"\1" + line[2:]
+            if not kit.stops(new, 0, line):
+                told["nobody"] += 1
+                continue
+            found = policy.reasons(kit, new, 0, line, names)
+            damaged = found[-1] == "the line is damaged: no call leaves such a line"
+            self.assertEqual(damaged, line[1] == 1)
+            exclusions = {reason for reason in found if reason.startswith("exclude")}
+            windows = [reason for reason in found if reason.startswith("window")]
+            roles = {reason.split()[3][:-1] for reason in windows}
+            self.assertEqual(len(exclusions) + len(windows) + damaged, len(found))
+            kept = [e for e in policy.tidied(new).entries if " ".join(policy.named(e, names)) not in exclusions]
+            mended = policy.Policy(new.counts, kept + [(policy.ASSIGNMENT, 0, names["role"].index(role)) for role in roles])
+            self.assertIs(kit.stops(mended, 0, line), damaged, (found, entries, active))
+            for what, seen in (("roles", roles), ("exclusions", exclusions), ("damaged", damaged)):
+                told[what] += bool(seen)
+        self.assertTrue(all(count >= 20 for count in told.values()), told)
+
+    def test_stopped_gives_status_2_for_a_refused_image_a_misfit_and_a_missing_library(self):
+        good, bad = self.path("a", policy.to_bytes(A)), self.path("bad", b"1234")
+        ledger, long = self.path("ledger", bytes(144)), self.path("long", bytes(288))
+        for words in [(bad, ledger), (good, long), (good, self.path("cut", bytes(143))), (good, "nothing")]:
+            status, out, err = self.run_tool("stopped", *words)
+            self.assertEqual((status, out), (2, ""), words)
+            self.assertNotIn("Traceback", err)
+        done = subprocess.run([sys.executable, TOOL, "stopped", good, ledger], env={**os.environ, "NUTRAMEZA_LIB": self.folder.name},
+                              capture_output=True, text=True, check=False)
+        self.assertEqual((done.returncode, done.stdout), (2, ""))
+        self.assertIn("libnutrameza.a: is missing", done.stderr)
+
     def test_a_file_that_is_not_there_and_wrong_usage_give_status_2(self):
         good = self.path("good", policy.to_bytes(A))
         for words in [("build", "nothing"), ("list", "nothing"), ("check", "nothing"), ("foo",), (), ("tidy", good), ("same", good),
                       ("tidy", "nothing", "-o", "out"), ("tidy", good, "-o", "no/folder"), ("same", good, "nothing"), ("same", "nothing", good),
-                      ("same", good, good, "nothing")]:
+                      ("same", good, good, "nothing"), ("stopped", good)]:
             status, out, err = self.run_tool(*words)
             self.assertEqual((status, out), (2, ""), words)
             self.assertNotIn("Traceback", err)
