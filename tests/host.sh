@@ -173,6 +173,29 @@ carrying_cxx() {
     cd "$work/carry" && "$work/carry_cxx" over ledger.4 ledger.cxx && cmp ledger.8 ledger.cxx
 }
 
+# A policy put in place while the user has a window open with a role that is taken away.
+changing() {
+  block text 1 CHANGING.md > "$work/change.out" && test -s "$work/change.out" && host change "$root/examples/change.c" && mv host change &&
+    ln -s "$root/tools" "$root/examples" . && numbers 1 2 2 2 0 0 0 0 0 0 0 0 0 0 0 0 0 0 > ledger &&
+    NUTRAMEZA_LIB=$lib replayed < "$work/change.out" > said && diff said "$work/change.out"
+}
+
+# The ledger has a second line, and of the first the window is closed and the past is left.
+changed() {
+  cd "$work/change" && numbers 0 2 0 0 0 0 0 0 0 0 0 0 0 0 0 0 0 0 0 0 0 0 0 0 0 0 0 0 0 0 0 0 0 0 0 0 | cmp - ledger
+}
+
+# What it refuses leaves the ledger: fewer users, an image that is refused, a ledger of another length.
+changed_not() {
+  cd "$work/change" && cp ledger kept && ! ./change new.img old.img ledger && ! ./change old.img ledger ledger &&
+    ! ./change old.img new.img ledger && cmp kept ledger
+}
+
+changing_cxx() {
+  g++ -x c++ -std=c++17 $strict $(flags --cflags) "$root/examples/change.c" $(flags --libs) -o "$work/change_cxx" &&
+    cd "$work/change" && cp ledger again && "$work/change_cxx" new.img new.img again && cmp ledger again
+}
+
 judged() {
   mkdir -p "$work/images" && python3 "$root/tests/host/images.py" "$work/images" 3000 &&
     host judge "$root/tests/host/judge.c" && cd "$work/images" && "$work/judge/host" [0-9]* > "$work/judged" &&
@@ -249,6 +272,10 @@ it 'the survey of docs/SURVEY.md is what the installed program prints' surveyed
 it 'the program of docs/HOST.md that carries ledgers does what is written there' carrying
 it 'a ledger carried over and back comes out byte for byte' carried
 it 'the program that carries ledgers is a C++ program too' carrying_cxx
+it 'the change of docs/CHANGING.md, with a window open, does what is written there' changing
+it 'the changed ledger has the added line and the past, and no window' changed
+it 'a change that is refused leaves the ledger' changed_not
+it 'the program that changes a policy is a C++ program too' changing_cxx
 it 'the check and the policy tool judge 3,000 images alike, each number from 0 to 8, 22 and 23 among them' judged
 it 'the kit and the policy tool write the same tidy images of those that are accepted' tidied
 it 'long and deep asks, their clause texts and obstacles, the longest moves and the calls over the image fit a stack of 64 KiB' small_stack
