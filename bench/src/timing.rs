@@ -1,5 +1,7 @@
 //! Times of two ways to do a job, round by round side by side, in the thread's own processor time.
 
+use std::hint::black_box;
+
 /// The most and the fewest rounds of a job; each way runs once in each round.
 pub const MOST_ROUNDS: usize = 201;
 pub const FEWEST_ROUNDS: usize = 11;
@@ -8,6 +10,10 @@ pub const FEWEST_ROUNDS: usize = 11;
 /// slows both.
 const ROUND: f64 = 2e5;
 const ALL_ROUNDS: f64 = 2e8;
+
+/// The places of the stack that rounds are run at in turn, over a page. A job of some tens of nanoseconds is up to a fifth slower where its
+/// tables lie badly in memory, and where a process's stack lies is chance.
+const PLACES: usize = 16;
 
 #[repr(C)]
 struct Timespec {
@@ -44,6 +50,19 @@ fn round(way: &mut dyn FnMut(), count: u64) -> f64 {
     (now() - from) / count as f64
 }
 
+/// One round, so many frames further down the stack.
+#[inline(never)]
+fn round_at(place: usize, way: &mut dyn FnMut(), count: u64) -> f64 {
+    if place == 0 {
+        return round(way, count);
+    }
+    let frame = [0u64; 29];
+    black_box(&frame);
+    let time = round_at(place - 1, way, count);
+    black_box(&frame);
+    time
+}
+
 /// How many jobs a round holds.
 fn jobs_in_a_round(way: &mut dyn FnMut()) -> u64 {
     let once = round(way, 1).max(1.0);
@@ -64,9 +83,9 @@ pub fn beside(first: &mut dyn FnMut(), second: &mut dyn FnMut()) -> Times {
     let once = round(first, counts[0]) * counts[0] as f64 + round(second, counts[1]) * counts[1] as f64;
     let rounds = ((ALL_ROUNDS / once) as usize).clamp(FEWEST_ROUNDS, MOST_ROUNDS);
     let (mut firsts, mut seconds) = (Vec::new(), Vec::new());
-    for _ in 0..rounds {
-        firsts.push(round(first, counts[0]));
-        seconds.push(round(second, counts[1]));
+    for number in 0..rounds {
+        firsts.push(round_at(number % PLACES, first, counts[0]));
+        seconds.push(round_at(number % PLACES, second, counts[1]));
     }
     let ratios = firsts.iter().zip(&seconds).map(|(first, second)| first / second).collect();
     Times { first: median(firsts), second: median(seconds), ratio: median(ratios) }
