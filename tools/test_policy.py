@@ -823,7 +823,7 @@ class Commands(Folder):
         done = subprocess.run([sys.executable, TOOL, "stopped", good, ledger], env={**os.environ, "NUTRAMEZA_LIB": self.folder.name},
                               capture_output=True, text=True, check=False)
         self.assertEqual((done.returncode, done.stdout), (2, ""))
-        self.assertIn("libnutrameza.a: is missing", done.stderr)
+        self.assertIn("libnutrameza.a is missing", done.stderr)
 
     def test_a_file_that_is_not_there_and_wrong_usage_give_status_2(self):
         good = self.path("good", policy.to_bytes(A))
