@@ -137,7 +137,7 @@ policy assigned juniors =
     }
 
 -- role 0 over role 1 over role 2; user 0 has role 1
-abbrev chain : Policy
+abbrev pub chain : Policy
 chain = policy (2 ∷ 0 ∷ []) (2 ∷ 4 ∷ 0 ∷ [])
 
 -- the same, with permission 0 granted to role 0 alone
@@ -247,11 +247,11 @@ holds-0 = record { active = 1; history = 1 }
 abbrev line : List Session → Line
 line sessions = record { opened = 1; history = 1; sessions = sessions }
 
-abbrev busy : Line
+abbrev pub busy : Line
 busy = line (holds-0 ∷ [])
 
 -- two roles that the user may activate, both of which carry permission 0; role 0 has the limit 2
-abbrev two : ℕ → Meaning
+abbrev pub two : ℕ → Meaning
 two own =
     record {
       user = 0;
@@ -393,7 +393,7 @@ tidy-order-first = refl
 
 -- ---- calls
 
-abbrev query : ℕ → ℕ → ℕ → Query
+abbrev pub query : ℕ → ℕ → ℕ → Query
 query lower aim room = record { lower = bytesOf 32 lower; upper = bytesOf 32 1; permissionAim = aim; roleAim = 1; room = room }
 
 pub short-ask-asks : queryOf (short-ask 0 [] [] 40) ≡ (record { lower = []; upper = []; permissionAim = 1; roleAim = 1; room = 40 })

@@ -30,3 +30,4 @@ pub mod Obstacles
 pub mod Moves
 pub mod Computing
 pub mod Facts
+pub mod Pinned
