@@ -1,34 +1,35 @@
 -- What a definition gives on small arguments, by computation: one fact or more for each definition that both sides of a claim cite, so that
 -- a wrong one that all claims are proved of is refused here. A definition whose wrong versions must-fail/ tries has its fact in Facts.antt.
 -- Assumes nothing.
-use mathlib.Core.Path.{_≡_, refl}
-use mathlib.Core.Bool.{true, false, not}
+use mathlib.Core.Path.{_≡_, refl, ap}
+use mathlib.Core.Logic.{inl, inr}
+use mathlib.Core.Bool.{true, false}
 use mathlib.Core.Option.{none, some}
 use mathlib.Core.List.{List, [], _∷_, _++_, map}
 use Prim.Native.Nat.{ℕ, _+_, _-_, _^_, _<_}
 use native.Mathlib.Omega.{arith}
-use lib.ListN.{replicate, take, drop}
+use lib.ListN.{getD, replicate, take, drop}
+use Rattle.model.specs.declared.Head.{Head}
 use Rattle.model.specs.declared.Kind.{Kind}
 use Rattle.model.specs.declared.Kind.the-variants.{SsDmer, MsDmer, SsHmer, MsHmer}
 use Rattle.model.specs.declared.Exclusion.{Exclusion}
 use Rattle.model.specs.declared.Checked.the-variants.{Refused}
 use Rattle.model.specs.declared.Line.{Line}
-use Rattle.model.specs.Tests.{any, first}
 use Rattle.model.specs.Sets.{has, union, inter, with, within, meets, setOf, one, countTo, sumTo, count, unionAt, lowestIn, subsets}
 use Rattle.model.specs.Bytes.{bytesOf}
 use Rattle.model.specs.Words.{headWord, assignWord, grantWord, seniorWord, exclusionWord, memberWord, limitWord, ended, imageBytes}
-use Rattle.model.specs.Image.{user, role, permission}
-use Rattle.model.specs.Policy.{Policy, Meaning, policyOf, tableOf, kindNumber, before, sorted, belowTable, reached, carriedTable, granter, authorized, meaning, met, limited, hasLimits, onlyFor, sameExclusion, excludes}
-use Rattle.model.specs.Line.{counted, writeLine}
-use Rattle.model.specs.Limits.{Others, nobody, barred}
+use Rattle.model.specs.Image.{user}
+use Rattle.model.specs.Policy.{Policy, Meaning, Agree, policyOf, tableOf, kindNumber, sorted, belowTable, reached, carriedTable, granter, authorized, meaning, met, limited, hasLimits, onlyFor, sameExclusion, excludes}
+use Rattle.model.specs.Line.{writeLine}
+use Rattle.model.specs.Limits.{Others}
 use Rattle.model.specs.Reduced.{stay, stays, maskOf, roomOf}
-use Rattle.model.specs.Clauses.{holds, fails, must, mustNot, gives, give, hard, soft}
+use Rattle.model.specs.Clauses.{holds, fails, must, mustNot, gives, give, hard}
 use Rattle.model.specs.Dimacs.{ascii, clausesText, clausesOf, textOf}
 use Rattle.model.specs.Session.{Operation, Result, open-session, close-session, ask, short-ask, show, explain, obstacle, clauses, isAsk, isText, putsIn, sessionOf, refuse, done, given, wrote}
 use Rattle.model.specs.Run.{Call, Event, answered, askBy, clausesBy, closeBy, explainBy, obstacleBy, openBy, othersOf, returned, run, shortAskBy, showBy, stepBy, stepOn, told, written}
 use Rattle.model.specs.OwnWords.{entryOf, ownWords, policyIn, wordsFrom, wordsWith}
 use Rattle.model.specs.Independence.{besideText, besideTexts, callsOf, hasText, rules, seenBy, toldBy}
-use Rattle.model.specs.Frames.{fitsLine, fitsSession, sessionBytes}
+use Rattle.model.specs.Frames.{fitsLine, fitsSession, Outside, sessionBytes}
 use Rattle.model.specs.Ranges.{Ascending, Each}
 use Rattle.model.specs.Computing.{computing}
 use Rattle.model.specs.Facts.{chain, two, busy, query}
@@ -192,6 +193,34 @@ pub excluded-ones : map (excludes mixed) (exclude MsDmer 2 3 ∷ exclude SsHmer 
 unfolding computing sameExclusion excludes
 excluded-ones = refl
 
+-- policies that differ for user 0 in one part alone do not agree
+abbrev parted : ℕ → ℕ → ℕ → ℕ → List Exclusion → Policy
+parted roles own grants juniors xs =
+    record {
+      head = record { users = 2; roles = roles; permissions = 1 };
+      assigned = own ∷ [];
+      granted = grants ∷ [];
+      juniors = juniors ∷ [];
+      exclusions = xs;
+      limits = [];
+    }
+
+pub heads-agree : ¬ Agree 0 (parted 1 0 0 0 []) (parted 2 0 0 0 [])
+heads-agree a = let e : _≡_ {A = ℕ} 1 2 = ap (λ (h : Head). h .roles) (a .heads) in omega arith
+
+pub own-agree : ¬ Agree 0 (parted 1 1 0 0 []) (parted 1 2 0 0 [])
+own-agree a = let e : _≡_ {A = ℕ} 1 2 = a .own in omega arith
+
+pub grants-agree : ¬ Agree 0 (parted 1 0 1 0 []) (parted 1 0 2 0 [])
+grants-agree a = let e : _≡_ {A = ℕ} 1 2 = ap (λ (l : List ℕ). getD l 0 0) (a .grants) in omega arith
+
+pub seniors-agree : ¬ Agree 0 (parted 1 0 0 1 []) (parted 1 0 0 2 [])
+seniors-agree a = let e : _≡_ {A = ℕ} 1 2 = ap (λ (l : List ℕ). getD l 0 0) (a .seniors) in omega arith
+
+pub exclusions-agree : ¬ Agree 0 (parted 1 0 0 0 (exclude MsDmer 2 3 ∷ [])) (parted 1 0 0 0 [])
+unfolding computing sameExclusion excludes
+exclusions-agree a = let e : _≡_ {A = ℕ} 1 0 = ap one (a .exclusions (exclude MsDmer 2 3)) in omega arith
+
 -- ---- exclusions reduced
 
 pub what-stays : map (λ c. stay c 1 2 4) kinds ≡ (0 ∷ 1 ∷ 2 ∷ 4 ∷ [])
@@ -297,6 +326,11 @@ pub who-is-told : map (λ c. told 1 threeUsers (holders (0 ∷ 1 ∷ 0 ∷ [])) 
     ++ (told 1 chain (holders (0 ∷ 1 ∷ [])) (asks 0) .held 0 ∷ []) ≡ (1 ∷ 0 ∷ 0 ∷ [])
 unfolding computing
 who-is-told = refl
+
+-- nor of a line that is not sound
+pub others-not-judged : told 1 chain (holders (0 ∷ 1 ∷ [])) (asks 0) .unsound ≡ none
+unfolding computing
+others-not-judged = refl
 
 -- the last of three users asks: role 0 is barred where another holds it, and else put in
 pub asked-in-the-ledger : map (λ s. stepOn 1 threeUsers (holders (s ∷ 0 ∷ 0 ∷ [])) (asks 2) .reply) (1 ∷ 2 ∷ [])
@@ -432,6 +466,10 @@ fits-eight-bytes = refl
 pub bytes-of-session : sessionBytes 1 (numbers 64) ≡ map (λ n. n + 32) (numbers 16)
 unfolding computing sessionBytes
 bytes-of-session = refl
+
+-- of lines of four bytes, the last byte before that of user 1 and the first behind it
+pub bytes-outside : Outside 4 1 3 × Outside 4 1 8
+bytes-outside = (inl (omega arith), inr (omega arith))
 
 pub each-of-them : ¬ Each (λ (n : ℕ). n ≡ 0) (0 ∷ 1 ∷ [])
 each-of-them e = let q : _≡_ {A = ℕ} 1 0 = e .1 .0 in omega arith

@@ -3,8 +3,9 @@
 use mathlib.Core.Path.{_≡_, refl}
 use mathlib.Core.Bool.{Bool, true, false}
 use mathlib.Core.Logic.{_↔_}
-use mathlib.Core.List.{List, []}
+use mathlib.Core.List.{List, [], _∷_, map}
 use Prim.Native.Nat.{ℕ}
+use lib.ListN.{replicate}
 use Rattle.model.specs.declared.Exclusion.{Exclusion}
 use Rattle.model.specs.declared.Entry.the-variants.{Assignment, Grant, Senior}
 use Rattle.model.specs.Image.{wordAt, user, role, permission, headOf}
@@ -12,7 +13,7 @@ use Rattle.model.specs.Policy.{Policy, entriesOf, excludes}
 use Rattle.model.specs.Judgement.{judge}
 use Rattle.model.specs.Tests.{any}
 use Rattle.model.specs.Session.{isText}
-use Rattle.model.specs.Run.{Call, clausesBy, step, run}
+use Rattle.model.specs.Run.{Call, openBy, closeBy, askBy, shortAskBy, showBy, explainBy, obstacleBy, clausesBy, step, run}
 use Rattle.model.specs.Read.{Said, Excluded, Smallest}
 
 -- the images have the same head, the same sets of assignments, grants, senior pairs and exclusions, and the same smallest limit of each
@@ -41,6 +42,13 @@ asksText c = isText (c .operation)
 pub texts-ask : (user session room : ℕ) → asksText (clausesBy user session [] [] 0 0 room) ≡ true
 unfolding asksText isText clausesBy
 texts-ask user session room = refl
+
+-- and no other call is one: what is claimed beside texts is claimed of the asks too
+pub others-ask-none : map asksText (openBy 1 ∷ closeBy 1 2 ∷ askBy 1 2 [] [] 1 1 40 ∷ shortAskBy 1 2 [] [] 40 ∷ showBy 1 2 40 ∷ explainBy 1 2 3
+    ∷ obstacleBy 1 2 [] [] 16 ∷ [])
+    ≡ replicate 7 false
+unfolding asksText isText openBy closeBy askBy shortAskBy showBy explainBy obstacleBy
+others-ask-none = refl
 
 -- calls answer alike under two images: a check, and for every number of sessions and every ledger every call (open, close, ask, short
 -- ask, show, explain, obstacle) and every list of them, with the same number, extra, filled bytes and ledger
