@@ -24,7 +24,7 @@ use Rattle.model.specs.Line.{writeLine}
 use Rattle.model.specs.Limits.{Others}
 use Rattle.model.specs.Reduced.{stay, stays, maskOf, roomOf}
 use Rattle.model.specs.Clauses.{holds, fails, must, mustNot, gives, give, hard}
-use Rattle.model.specs.Dimacs.{ascii, clausesText, clausesOf, textOf}
+use Rattle.model.specs.Dimacs.{ascii, textOf}
 use Rattle.model.specs.Session.{Operation, Result, open-session, close-session, ask, short-ask, show, explain, obstacle, clauses, isAsk, isText, putsIn, sessionOf, refuse, done, given, wrote}
 use Rattle.model.specs.Run.{Call, Event, answered, askBy, clausesBy, closeBy, explainBy, obstacleBy, openBy, othersOf, returned, run, shortAskBy, showBy, stepBy, stepOn, told, written}
 use Rattle.model.specs.OwnWords.{entryOf, ownWords, policyIn, wordsFrom, wordsWith}
@@ -245,8 +245,8 @@ pub clause-shapes : must 1 ∷ mustNot 2 ∷ gives 3 4 ∷ give 5 6 7 ∷ []
     ≡ (holds 1 ∷ []) ∷ (fails 2 ∷ []) ∷ (fails 3 ∷ holds 4 ∷ []) ∷ (fails 5 ∷ fails 6 ∷ holds 7 ∷ []) ∷ []
 clause-shapes = refl
 
--- role 0 carries permission 0, role 1 the permissions 0 and 1, role 3, which is none of the user's, permission 2; of three roles no three
--- together, and of the roles 1 and 2 never both
+-- role 0 carries permission 0, role 1 the permissions 0 and 1, role 3, which is none of the user's, permission 2; of the roles 0 to 2 not
+-- all three in a session, and of the roles 1 and 2 not both in its history
 abbrev texting : Meaning
 texting =
     record {
@@ -257,14 +257,14 @@ texting =
       carried = 1 ∷ 3 ∷ 0 ∷ 4 ∷ [];
       granter = λ m r. none;
       allMet = λ f. true;
-      exclusions = record { kind = SsDmer; limit = 3; members = 7 } ∷ record { kind = MsHmer; limit = 2; members = 6 } ∷ [];
+      exclusions = exclude SsDmer 3 7 ∷ exclude SsHmer 2 6 ∷ [];
       ordered = [];
       limits = [];
     }
 
--- role 1 is in the user's history
+-- role 1 is in the session's history
 abbrev past-1 : Line
-past-1 = record { opened = 1; history = 2; sessions = record { active = 0; history = 0 } ∷ [] }
+past-1 = record { opened = 1; history = 2; sessions = record { active = 0; history = 2 } ∷ [] }
 
 pub hard-listed : hard texting past-1 0 1 3
     ≡ mustNot 4
@@ -284,11 +284,31 @@ pub head-told : take 16 (textOf texting past-1 0 1 3 1 2) ≡ ascii "p wcnf 17 3
 unfolding computing
 head-told = refl
 
-pub lines-told : clausesText (clausesOf (two 3) busy 0 1 1 2 1)
-    ≡ ascii "6 -1 3 0" ++ (10 ∷ ascii "6 -2 3 0" ++ (10 ∷ ascii "6 -3 1 2 0" ++ (10 ∷ ascii "6 3 0"
-    ++ (10 ∷ ascii "3 3 0" ++ (10 ∷ ascii "1 -1 0" ++ (10 ∷ ascii "1 -2 0" ++ (10 ∷ [])))))))
+-- two roles with a permission each that exclude each other in a session's history, and session 4 with role 0 in its own: permission 1 at
+-- least, the fewest permissions, any roles
+abbrev brief : Meaning
+brief =
+    record {
+      user = 0;
+      roles = 2;
+      permissions = 2;
+      authorized = 3;
+      carried = 1 ∷ 2 ∷ [];
+      granter = λ m r. none;
+      allMet = λ f. true;
+      exclusions = exclude SsHmer 2 3 ∷ [];
+      ordered = [];
+      limits = [];
+    }
+
+abbrev fifth-open : Line
+fifth-open =
+    record { opened = 16; history = 3; sessions = replicate 4 (record { active = 0; history = 0 }) ++ (record { active = 0; history = 1 } ∷ []) }
+
+pub text-told : textOf brief fifth-open 4 2 3 1 0
+    ≡ ascii "p wcnf 5 9 7\n7 -1 3 0\n7 -2 4 0\n7 -3 1 0\n7 -4 2 0\n7 4 0\n7 -2 5 0\n7 -5 0\n3 -3 0\n3 -4 0\n"
 unfolding computing
-lines-told = refl
+text-told = refl
 
 -- ---- a whole ledger, of one session a user: 32 bytes a line
 

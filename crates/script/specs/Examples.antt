@@ -51,8 +51,8 @@ examples =
     "open 0\nask 0 0 0 8000000000000001000000000000000180000000000000010000000000000000 2 0\nshow 0 8\n"
     "1 0 0 0 0\n2 0 0 c000000000000000 8000000000000001000000000000000180000000000000010000000000000000\n3 12 0 0 0\n"
     -- the first objective is that on permissions; a capital digit and a small one mean the same
-    ∷ under (imageBytes threeRoles) "open 0\nask 0 0 1 f 2 0\nask 0 0 1 F 1 2\nask 0 0 A E 0 0\nask 0 0 a e 0 0\n"
-    "1 0 0 0 0\n2 0 0 3 f\n3 0 0 1 5\n4 0 0 2 a\n5 0 0 2 a\n"
+    ∷ under (imageBytes threeRoles) "open 0\nask 0 0 1 f 2 0\nask 0 0 1 F 1 2\nask 0 0 A E 0 0\nask 0 0 a e 0 0\nask 0 0 A e\n"
+    "1 0 0 0 0\n2 0 0 3 f\n3 0 0 1 5\n4 0 0 2 a\n5 0 0 2 a\n6 0 0 2 a\n"
     -- an ask without objectives takes the fewest permissions, then the fewest roles
     ∷ under (imageBytes threeRoles) "open 0\nask 0 0 6 f 0 0\nask 0 0 6 f\n" "1 0 0 0 0\n2 0 0 3 f\n3 0 0 4 6\n"
     ∷ under (imageBytes twoAndBoth) "open 0\nask 0 0 3 3 0 0\nask 0 0 3 3\n" "1 0 0 0 0\n2 0 0 3 3\n3 0 0 4 3\n"
@@ -75,6 +75,7 @@ unreadable =
     ∷ "show 0" ∷ "show 0 a" ∷ "show 0 0 0" ∷ "ask 0 0 3" ∷ "ask 0 0 3 1f 1" ∷ "ask 0 0 3 1f 1 0 0" ∷ "ask 0 0 3 1f 1 0 " ∷ "ask 0 0 3 1f  1 0"
     ∷ "ask 0 0 3 1g 1 0" ∷ "ask 0 0 0x3 1f" ∷ "ask 0 0 3 1f a 0" ∷ "ask 0 0 3 1f 1 b" ∷ "ask 0 0 `3 1f" ∷ "ask 0 0 3 @f"
     ∷ "ask 0 0 3 1G" ∷ "open /" ∷ "open :" ∷ "ask 0 0 3 1f 1 0000000000"
+    ∷ "close a 0" ∷ "close 0 a" ∷ "show a 0" ∷ "ask a 0 3 1f" ∷ "ask 0 a 3 1f" ∷ "ask a 0 3 1f 1 0" ∷ "ask 0 a 3 1f 1 0"
     ∷ "ask 0 0 00000000000000000000000000000000000000000000000000000000000000003 1f" ∷ []
 
 unfoldable pub isUnreadableText : String → Bool
