@@ -24,7 +24,7 @@ use Rattle.model.specs.Line.{writeLine}
 use Rattle.model.specs.Limits.{Others}
 use Rattle.model.specs.Reduced.{stay, stays, maskOf, roomOf}
 use Rattle.model.specs.Clauses.{holds, fails, must, mustNot, gives, give, hard}
-use Rattle.model.specs.Dimacs.{ascii, textOf}
+use Rattle.model.specs.Dimacs.{ascii, decimal, textOf}
 use Rattle.model.specs.Session.{Operation, Result, open-session, close-session, ask, short-ask, show, explain, obstacle, clauses, isAsk, isText, putsIn, sessionOf, refuse, done, given, wrote}
 use Rattle.model.specs.Run.{Call, Event, answered, askBy, clausesBy, closeBy, explainBy, obstacleBy, openBy, othersOf, returned, run, shortAskBy, showBy, stepBy, stepOn, told, written}
 use Rattle.model.specs.OwnWords.{entryOf, ownWords, policyIn, wordsFrom, wordsWith}
@@ -73,8 +73,8 @@ parts-listed = refl
 
 -- ---- the policy
 
--- user 1 has the roles 0 and 2, role 1 permission 1, role 2 is over role 0; of the roles 0 and 2 never both in a session; the limits of role 1
--- are 5, 3 and 4
+-- user 1 has the roles 0 and 2, role 1 permission 1, role 2 is over role 0; of the roles 0 and 2 never both in a session's history; role 1 has
+-- the limits 5, 3 and 4
 abbrev read-words : List ℕ
 read-words =
     headWord 2 3 2 ∷ assignWord 1 0 ∷ assignWord 1 2 ∷ grantWord 1 1 ∷ seniorWord 2 0 ∷ exclusionWord 2 2 2 ∷ memberWord 0 ∷ memberWord 2
@@ -278,6 +278,10 @@ pub hard-listed : hard texting past-1 0 1 3
     ∷ gives 3 17 ∷ mustNot 17 ∷ []
 unfolding computing
 hard-listed = refl
+
+pub numbers-told : map decimal (0 ∷ 9 ∷ 10 ∷ 11 ∷ 99 ∷ 100 ∷ []) ≡ map ascii ("0" ∷ "9" ∷ "10" ∷ "11" ∷ "99" ∷ "100" ∷ [])
+unfolding computing
+numbers-told = refl
 
 -- 26 hard clauses and 7 soft ones of 5 and 1
 pub head-told : take 16 (textOf texting past-1 0 1 3 1 2) ≡ ascii "p wcnf 17 33 20" ++ (10 ∷ [])
