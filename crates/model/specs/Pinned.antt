@@ -21,11 +21,11 @@ use Rattle.model.specs.Words.{headWord, assignWord, grantWord, seniorWor
 use Rattle.model.specs.Image.{user}
 use Rattle.model.specs.Policy.{Policy, Meaning, Agree, policyOf, tableOf, kindNumber, sorted, belowTable, reached, carriedTable, granter, authorized, meaning, met, limited, hasLimits, onlyFor, sameExclusion, excludes}
 use Rattle.model.specs.Line.{writeLine}
-use Rattle.model.specs.Limits.{Others}
+use Rattle.model.specs.Limits.{Others, nobody}
 use Rattle.model.specs.Reduced.{stay, stays, maskOf, roomOf}
-use Rattle.model.specs.Clauses.{holds, fails, must, mustNot, gives, give, hard}
+use Rattle.model.specs.Clauses.{variablesIn, holds, fails, must, mustNot, gives, give, hard}
 use Rattle.model.specs.Dimacs.{ascii, decimal, textOf}
-use Rattle.model.specs.Session.{Operation, Result, open-session, close-session, ask, short-ask, show, explain, obstacle, clauses, isAsk, isText, putsIn, sessionOf, refuse, done, given, wrote}
+use Rattle.model.specs.Session.{Operation, Result, open-session, close-session, ask, short-ask, show, explain, obstacle, clauses, isAsk, isText, putsIn, sessionOf, refuse, done, given, wrote, textFor}
 use Rattle.model.specs.Run.{Call, Event, answered, askBy, clausesBy, closeBy, explainBy, obstacleBy, openBy, othersOf, returned, run, shortAskBy, showBy, stepBy, stepOn, told, written}
 use Rattle.model.specs.OwnWords.{entryOf, ownWords, policyIn, wordsFrom, wordsWith}
 use Rattle.model.specs.Independence.{besideText, besideTexts, callsOf, hasText, rules, seenBy, toldBy}
@@ -288,16 +288,15 @@ pub head-told : take 16 (textOf texting past-1 0 1 3 1 2) ≡ ascii "p wcnf 17 3
 unfolding computing
 head-told = refl
 
--- two roles with a permission each that exclude each other in a session's history, and session 4 with role 0 in its own: permission 1 at
--- least, the fewest permissions, any roles
+-- the roles 0 and 1 carry the permissions 0 and 2, and exclude each other in a session's history; session 2 has role 0 in its own
 abbrev brief : Meaning
 brief =
     record {
       user = 0;
       roles = 2;
-      permissions = 2;
+      permissions = 3;
       authorized = 3;
-      carried = 1 ∷ 2 ∷ [];
+      carried = 1 ∷ 4 ∷ [];
       granter = λ m r. none;
       allMet = λ f. true;
       exclusions = exclude SsHmer 2 3 ∷ [];
@@ -305,14 +304,20 @@ brief =
       limits = [];
     }
 
-abbrev fifth-open : Line
-fifth-open =
-    record { opened = 16; history = 3; sessions = replicate 4 (record { active = 0; history = 0 }) ++ (record { active = 0; history = 1 } ∷ []) }
+abbrev third-open : Line
+third-open =
+    record { opened = 4; history = 3; sessions = replicate 2 (record { active = 0; history = 0 }) ++ (record { active = 0; history = 1 } ∷ []) }
 
-pub text-told : textOf brief fifth-open 4 2 3 1 0
-    ≡ ascii "p wcnf 5 9 7\n7 -1 3 0\n7 -2 4 0\n7 -3 1 0\n7 -4 2 0\n7 4 0\n7 -2 5 0\n7 -5 0\n3 -3 0\n3 -4 0\n"
+-- permission 2 at least, the fewest permissions, any roles
+pub text-told : textFor brief nobody third-open 2 (record { lower = bytesOf 32 4; upper = bytesOf 32 7; permissionAim = 1; roleAim = 0; room = 0 })
+    ≡ ascii "p wcnf 6 11 10\n10 -1 3 0\n10 -2 5 0\n10 -3 1 0\n10 -4 0\n10 -5 2 0\n10 5 0\n10 -2 6 0\n10 -6 0\n3 -3 0\n3 -4 0\n3 -5 0\n"
 unfolding computing
 text-told = refl
+
+-- of 64 roles the last has a variable, and none behind it
+pub last-variable : variablesIn (2 ^ 64 + 2 ^ 63) ≡ 64 ∷ []
+unfolding computing
+last-variable = refl
 
 -- ---- a whole ledger, of one session a user: 32 bytes a line
 
