@@ -3,34 +3,41 @@
 use mathlib.Core.Path.{_≡_, refl, sym, ap, subst, _∙_}
 use mathlib.Core.Bool.{Bool, true, false}
 use mathlib.Core.List.{List, [], map, List·Memᴰ, Memᴰ·append-left}
+use mathlib.Core.Logic.{_↔_}
 use mathlib.Core.Option.{none, some}
 use Prim.Native.Nat.{ℕ, _+_, _^_, _≤_, _<_}
 use native.Mathlib.Numerals.{add-one}
-use native.Mathlib.Decide.{decLt}
 use native.Mathlib.Omega.{arith}
 use lib.ListN.{length, getD, take, drop, length-map, take-append-drop}
 use lib.Seq.{getD-take, length-take-le, take-take}
 use Rattle.model.specs.declared.Exclusion.{Exclusion}
 use Rattle.model.specs.declared.Line.{Line}
-use Rattle.model.specs.Tests.{all, isSome}
+use Rattle.model.specs.Tests.{all}
+use Rattle.model.specs.Sets.{within}
 use Rattle.model.specs.Policy.{Policy, Meaning, authorized, belowTable, reached, carriedTable, granter, met, meaning}
 use Rattle.model.specs.Line.{counted, exclusionsMet}
 use Rattle.model.specs.Limits.{Others, barred, unbarred}
-use Rattle.model.specs.Choice.{choose}
+use Rattle.model.specs.Choice.{admissible}
 use Rattle.model.specs.Obstacle.{excludingOnly, left, blocking}
 use Rattle.model.specs.Obstacles.{excludingJust}
-use Rattle.model_laws.proofs.Bools.{not-both}
 use Rattle.model_laws.proofs.Barred.{unbarred-below}
 use Rattle.model_laws.proofs.Blocking.{not-blocked, blocked-behind}
 use Rattle.model_laws.proofs.Every.{all-mem, mem-all}
-use Rattle.model_laws.proofs.ObstacleLaws.{left-choice, left-front}
+use Rattle.model_laws.proofs.ObstacleLaws.{left-is, left-front}
 use Rattle.rows.specs.Rows.{exclusionOf, exclusionsIn}
 use Rattle.rows.proofs.Packing.{row-at}
-use Rattle.search.specs.declared.Choice.{Choice}
-use Rattle.search.specs.declared.Choice.the-variants.{Nothing, Roles}
-use Rattle.search.specs.Answer.{answered}
+use Rattle.query.specs.Carry.{Keeps}
+use Rattle.query_rooms.specs.Rooms.{roomy}
+use Rattle.query_rooms.specs.Reduction.{Reduces}
+use Rattle.query_rooms.proofs.Reductions.{reduced-same}
+use Rattle.search_steps.specs.Search.{Task}
+use Rattle.search.specs.Answer.{Given}
+use Rattle.search.proofs.Solved.{fits-of, admits}
 use Rattle.asks.specs.Asks.{leftTo, Asked}
+use Rattle.asks.proofs.Rows.{given-of}
 use Rattle.obstacle_blocks.specs.Blocking.{Blocks}
+use Rattle.obstacle_blocks.specs.Firsts.{Finds, Ends}
+use Rattle.obstacle_blocks.proofs.Firsts.{found-one}
 
 -- exclusions are met at every session, and so are others that are among them
 pub met-among : (l : Line) (xs ys : List Exclusion) → ((y : Exclusion) → List·Memᴰ y ys → List·Memᴰ y xs)
@@ -51,24 +58,10 @@ module _ (p : Policy) (u : ℕ) (x : Others) (l : Line) (k lower upper : ℕ) wh
   small : leftTo p u x l k .authorized < 2 ^ 64
   small = unbarred-below (meaning p u) x l k
 
-  -- ---- a set is chosen exactly if one is left
+  -- ---- the policy's own exclusions
   own-exclusions : excludingOnly (leftTo p u x l k) (p .exclusions) ≡ leftTo p u x l k
   unfolding excludingOnly unbarred meaning
   own-exclusions = refl
-
-  module _ (a b : ℕ) (o : Choice) (e : answered o ≡ choose (leftTo p u x l k) l k lower upper a b) where
-    chosen-left : isSome (answered o) ≡ leaves (p .exclusions)
-    chosen-left =
-        ap isSome (e ∙ ap (λ (m : Meaning). choose m l k lower upper a b) (sym own-exclusions))
-        ∙ sym (left-choice (leftTo p u x l k) l k lower upper small (p .exclusions) a b)
-
-    pub left-none : o ≡ Nothing → false ≡ leaves (p .exclusions)
-    unfolding answered isSome
-    left-none g = sym (ap (λ (c : Choice). isSome (answered c)) g) ∙ chosen-left
-
-    pub left-some : (s : ℕ) → o ≡ Roles s → true ≡ leaves (p .exclusions)
-    unfolding answered isSome
-    left-some s g = sym (ap (λ (c : Choice). isSome (answered c)) g) ∙ chosen-left
 
   -- ---- the first exclusions alone
   pub left-cut : (j : ℕ) → left (leftTo (cut j) u x l k) l k lower upper (cut j .exclusions) ≡ leaves (take j (p .exclusions))
@@ -88,29 +81,12 @@ module _ (p : Policy) (u : ℕ) (x : Others) (l : Line) (k lower upper : ℕ) wh
         carry = g .carry;
       }
 
-  -- what code finds of them
-  pub left-first : (own : ℕ) (rows : List (List ℕ)) (row : ℕ → ℕ) (j n : ℕ) (b v : Bool) → j ≤ n → Asked p u x l k own (exclusionsIn rows n) row
-      → ((q : Policy) (w : ℕ) (y : Others) → Asked q w y l k own (exclusionsIn rows j) row → b ≡ left (leftTo q w y l k) l k lower upper (q .exclusions))
-      → b ≡ v → leaves (take j (p .exclusions)) ≡ v
-  left-first own rows row j n b v h g e f = sym (e (cut j) u x (asked-cut own rows row j n h g) ∙ left-cut j) ∙ f
-
   -- ---- where they end
-
-  -- no exclusion lies between
-  pub blocks-found : (n low high : ℕ) → low ≤ high → high ≤ low + 1 → high ≤ n → leaves (take low (p .exclusions)) ≡ true
-      → leaves (take high (p .exclusions)) ≡ false → Blocks p u x l k lower upper n low
-  blocks-found n low high a b c e f =
-      elim (decLt low high) [
-        | yes q ↦ let same : low + 1 ≡ high = omega arith in
-            record { inside = omega arith; leaves = e; stops = ap (λ (i : ℕ). leaves (take i (p .exclusions))) same ∙ f }
-        | no q ↦ let same : low ≡ high = omega arith in
-            not-both (leaves (take high (p .exclusions))) (ap (λ (i : ℕ). leaves (take i (p .exclusions))) (sym same) ∙ e) f
-      ]
-
   pub blocked-none : leaves (p .exclusions) ≡ true → none ≡ blocking leaves [] (p .exclusions)
   blocked-none h = sym (not-blocked leaves (left-front (leftTo p u x l k) l k lower upper small) [] (p .exclusions) h)
 
-  blocked-at : (own : ℕ) (rows : List (List ℕ)) (row : ℕ → ℕ) (n j : ℕ) → n ≤ length rows → Asked p u x l k own (exclusionsIn rows n) row
+  -- found between none of them and them all
+  pub blocked-at : (own : ℕ) (rows : List (List ℕ)) (row : ℕ → ℕ) (n j : ℕ) → n ≤ length rows → Asked p u x l k own (exclusionsIn rows n) row
       → Blocks p u x l k lower upper n j → some (exclusionOf (getD rows j [])) ≡ blocking leaves [] (p .exclusions)
   unfolding exclusionsIn
   blocked-at own rows row n j few g b =
@@ -124,13 +100,81 @@ module _ (p : Policy) (u : ℕ) (x : Others) (l : Line) (k lower upper : ℕ) wh
       ∙ sym (blocked-behind leaves (left-front (leftTo p u x l k) l k lower upper small) E j (exclusionOf []) (omega arith) (b .leaves)
       (ap (λ (i : ℕ). leaves (take i E)) (sym (add-one j)) ∙ b .stops))
 
-  -- found between none of them and them all
-  pub blocked-between : (own : ℕ) (rows : List (List ℕ)) (row : ℕ → ℕ) (n j : ℕ) (b : Bool) → n ≤ length rows
-      → Asked p u x l k own (exclusionsIn rows n) row → leaves [] ≡ true → b ≡ leaves (p .exclusions) → b ≡ false
-      → (leaves [] ≡ true → leaves (take n (p .exclusions)) ≡ false → Blocks p u x l k lower upper n j)
-      → some (exclusionOf (getD rows j [])) ≡ blocking leaves [] (p .exclusions)
+-- ---- what a search finds: what is searched under the first j exclusions, by all of them reduced
+module _ (p : Policy) (u : ℕ) (x : Others) (l : Line) (k lower upper own : ℕ) (xs : List (List ℕ)) (row : ℕ → ℕ) (masks rooms : List ℕ) (n free : ℕ)
+    (g : Asked p u x l k own (exclusionsIn xs n) row) (d : Reduces (exclusionsIn xs n) l k masks rooms) (inside : k < length (l .sessions))
+    (few : n ≤ length xs) (fits : own < 2 ^ 64) (keeps : Keeps (λ i. within (row i) upper) own free) where
+  abbrev task : ℕ → Task
+  task j = record { row = row; lower = lower; room = roomy masks rooms j; first = 0; second = 0 }
+
+  abbrev first : ℕ → Policy
+  first j = cut p u x l k lower upper j
+
+  abbrev meant : ℕ → Meaning
+  meant j = leftTo (first j) u x l k
+
+  reduces-cut : (j : ℕ) → j ≤ n → Reduces (exclusionsIn xs j) l k masks rooms
   unfolding exclusionsIn
-  blocked-between own rows row n j b few g e f h found =
-      let whole : take n (p .exclusions) ≡ p .exclusions =
-      ap (take n) (g .exclusions-are) ∙ take-take n n (map exclusionOf rows) (omega arith) ∙ sym (g .exclusions-are) in
-      blocked-at own rows row n j few g (found e (ap leaves whole ∙ sym f ∙ h))
+  reduces-cut j h =
+      record {
+        same = λ q w e m s o. reduced-same q w l k inside m s o (map exclusionOf xs) (exclusionOf []) j masks rooms
+            (omega (arith, length-map xs exclusionOf)) e (λ i a. d .members (exclusionOf []) i (omega arith))
+            (λ i a. d .space (exclusionOf []) i (omega arith));
+        members = λ y i a. d .members y i (omega arith);
+        space = λ y i a. d .space y i (omega arith);
+      }
+
+  given : (j : ℕ) → j ≤ n → Given (meant j) l k own row (roomy masks rooms j)
+  unfolding exclusionsIn
+  given j h = given-of (first j) u x own (exclusionsIn xs j) l k j masks rooms row refl (reduces-cut j h) (asked-cut p u x l k lower upper own xs row j n h g)
+
+  -- sets that are left under the first j
+  lefts : (j : ℕ) → (leaves p u x l k lower upper (take j (p .exclusions)) ≡ true) ↔ ((s : ℕ) × (admissible (meant j) l k lower upper s ≡ true))
+  lefts j =
+      let w = left-is (meant j) l k lower upper (small (first j) u x l k lower upper) (first j .exclusions) in
+      let e = own-exclusions (first j) u x l k lower upper in
+      let c = left-cut p u x l k lower upper j in (
+        λ h. let y = w .0 (c ∙ h) in (y .0, subst (λ (m : Meaning). admissible m l k lower upper (y .0) ≡ true) e (y .1)),
+        λ y. sym c ∙ w .1 (y .0, subst (λ (m : Meaning). admissible m l k lower upper (y .0) ≡ true) (sym e) (y .1)),
+      )
+
+  pub left-found : (j : ℕ) → j ≤ n → leaves p u x l k lower upper (take j (p .exclusions)) ≡ true → Finds (task j) 0 free true
+  left-found j h e =
+      let y = lefts j .0 e in
+      let f = fits-of (task j) upper own fits (meant j) l k (given j h) free keeps (y .0) (y .1) in
+      found-one (task j) 0 free (y .0) (f .between) (f .serving)
+
+  pub found-left : (j : ℕ) → j ≤ n → (b : Bool) → Finds (task j) 0 free b → leaves p u x l k lower upper (take j (p .exclusions)) ≡ b
+  found-left j h true f =
+      let y = f .is refl in
+      lefts j .1 (y .0, admits (task j) upper own fits (meant j) l k (given j h) free keeps (y .0) (y .1) (y .2))
+  found-left j h false f = go (leaves p u x l k lower upper (take j (p .exclusions))) refl
+    where
+      go : (b : Bool) → leaves p u x l k lower upper (take j (p .exclusions)) ≡ b → leaves p u x l k lower upper (take j (p .exclusions)) ≡ false
+      go true e = let y = left-found j h e .is refl in absurd (f .none refl (y .0) (y .1) (y .2))
+      go false e = e
+
+  -- under them all
+  whole : take n (p .exclusions) ≡ p .exclusions
+  unfolding exclusionsIn
+  whole = ap (take n) (g .exclusions-are) ∙ take-take n n (map exclusionOf xs) (omega arith) ∙ sym (g .exclusions-are)
+
+  pub found-all : (b v : Bool) → Finds (task n) 0 free b → b ≡ v → leaves p u x l k lower upper (p .exclusions) ≡ v
+  found-all b v f e = ap (leaves p u x l k lower upper) (sym whole) ∙ found-left n (omega arith) b f ∙ e
+
+  -- where no set is found under them all, and one is left without them
+  pub found-blocking : (b : Bool) (j : ℕ) → Finds (task n) 0 free b → b ≡ false → leaves p u x l k lower upper [] ≡ true
+      → (Finds (task 0) 0 free true → Finds (task n) 0 free false → Ends (λ i. Finds (task i) 0 free) n j)
+      → (j < n) × (some (exclusionOf (getD xs j [])) ≡ blocking (leaves p u x l k lower upper) [] (p .exclusions))
+  found-blocking b j f e o h =
+      let w = h (left-found 0 (omega arith) o) (subst (Finds (task n) 0 free) e f) in
+      let i = w .inside in (
+        i,
+        blocked-at p u x l k lower upper own xs row n j few g (
+            record {
+              inside = i;
+              leaves = found-left j (omega arith) true (w .leaves);
+              stops = found-left (j + 1) (omega arith) false (w .stops);
+            }
+            ),
+      )

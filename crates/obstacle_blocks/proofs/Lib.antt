@@ -1,3 +1,4 @@
 -- The laws behind an exclusion that stands in the way.
+pub mod Firsts
 pub mod Lefts
 pub mod Tells

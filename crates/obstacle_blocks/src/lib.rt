@@ -5,83 +5,92 @@ ghost use mathlib.Core.Bool.{true, false};
 ghost use mathlib.Core.List.{[]};
 ghost use mathlib.Core.Option.{some};
 ghost use Prim.Native.Nat.{ℕ, _≤_, _<_};
-ghost use lib.ListN.{length, getD, take};
+ghost use lib.ListN.{length, getD};
+ghost use Rattle.model.specs.declared.Line.{Line};
 ghost use Rattle.model.specs.Line.{SESSIONS};
 ghost use Rattle.model.specs.Policy.{Policy};
 ghost use Rattle.model.specs.Limits.{Others};
 ghost use Rattle.model.specs.Obstacle.{left, blocking, blocks};
 ghost use Rattle.sets.specs.Words.{value};
 ghost use Rattle.rows.specs.Rows.{exclusionOf, exclusionsIn};
-ghost use Rattle.query.specs.Carry.{rowsOf};
+ghost use Rattle.query.specs.Carry.{rowsOf, Turned};
 ghost use Rattle.asks.specs.Asks.{leftTo, Asked};
 ghost use Rattle.obstacle_lacks.specs.Founds.{foundOf};
-ghost use Rattle.obstacle_blocks.specs.Blocking.{Blocks};
+ghost use Rattle.obstacle_blocks.specs.Firsts.{Finds, under, Ends};
+ghost use Rattle.obstacle_blocks.specs.Blocking.{ReducedAt};
+
+pub mod first; // first.rt: a search that ends with the first set
+
+use crate::first::some_step;
 use asks::ask::Wanted;
-use asks::ask::best;
 use model::Line;
 use obstacle_lacks::found::Found;
 use obstacle_lacks::found::Told;
+use query::carriers::join_carriers;
+use query::carry::usable;
+use query_rank::Job;
 use query_rooms::exclusions::reduce;
+use query_rooms::rooms::room_for;
 use rows::exclusion_of;
 use rows::number_of;
-use search::Choice;
 
-// With the first `count` exclusions alone some set is admissible.
+// With the first `count` exclusions some set of the free roles, which fit the upper bound, carries the lower bound.
 fn left_with(
     rows: &[[u64; 4]; 64],
-    authorized: u64,
-    xs: &[[u64; 2]; 32],
+    masks: &[u64; 32],
+    rooms: &[u32; 32],
+    lower: [u64; 4],
     count: usize,
-    l: Line,
-    k: usize,
-    wanted: Wanted,
+    free: u64,
+    turned: &[u64; 256],
 ) -> bool
-    requires { ⌜ (count ≤ 32) × (k < SESSIONS) × (length (now xs) ≡ 32) ⌝ }
-    ensures { λ b. ⌜ ((p : Policy) (u : ℕ) (x : Others) → Asked p u x l k authorized (exclusionsIn (now (xs .entry)) count) (rowsOf (now (rows .entry)))
-        → b ≡ left (leftTo p u x l k) l k (value (wanted .lower)) (value (wanted .upper)) (p .exclusions)) ⌝ }
+    requires { ⌜ (count ≤ 32) × (Turned (rowsOf (now rows)) (now turned) (value lower) free) ⌝ }
+    ensures { λ b. ⌜ Finds (under (now (rows .entry)) (now (masks .entry)) (now (rooms .entry)) lower count) 0 free b ⌝ }
 {
-    let choice = best(rows, authorized, xs, count, l, k, wanted);
-    match choice {
-        Choice::Nothing => false,
-        Choice::Roles(_) => true,
+    if !room_for(masks, rooms, count, 0) {
+        return false;
     }
+    let job = Job {
+        lower,
+        count,
+        first: 0,
+        second: 0,
+    };
+    some_step(rows, masks, rooms, job, free, 0, [0u64; 4], turned)
 }
 
 // How many exclusions come before the first with which no set is left, where the first `low` leave one and the first `high` leave none.
 fn before_blocking(
     rows: &[[u64; 4]; 64],
-    authorized: u64,
-    xs: &[[u64; 2]; 32],
+    masks: &[u64; 32],
+    rooms: &[u32; 32],
+    lower: [u64; 4],
+    free: u64,
+    turned: &[u64; 256],
     low: usize,
     high: usize,
-    l: Line,
-    k: usize,
-    wanted: Wanted,
 ) -> usize
-    requires { ⌜ (low ≤ high) × (low < 32) × (high ≤ 32) × (k < SESSIONS) × (length (now xs) ≡ 32) ⌝ }
-    ensures { λ j. ⌜ (j < 32) × ((p : Policy) (u : ℕ) (x : Others) (n : ℕ) → high ≤ n → n ≤ 32
-        → Asked p u x l k authorized (exclusionsIn (now (xs .entry)) n) (rowsOf (now (rows .entry)))
-        → left (leftTo p u x l k) l k (value (wanted .lower)) (value (wanted .upper)) (take low (p .exclusions)) ≡ true
-        → left (leftTo p u x l k) l k (value (wanted .lower)) (value (wanted .upper)) (take high (p .exclusions)) ≡ false
-        → Blocks p u x l k (value (wanted .lower)) (value (wanted .upper)) n j) ⌝ }
+    requires { ⌜ (low ≤ high) × (low < 32) × (high ≤ 32) × (Turned (rowsOf (now rows)) (now turned) (value lower) free) ⌝ }
+    ensures { λ j. ⌜ (j < 32) × (Finds (under (now (rows .entry)) (now (masks .entry)) (now (rooms .entry)) lower low) 0 free true
+        → Finds (under (now (rows .entry)) (now (masks .entry)) (now (rooms .entry)) lower high) 0 free false
+        → Ends (λ n. Finds (under (now (rows .entry)) (now (masks .entry)) (now (rooms .entry)) lower n) 0 free) high j) ⌝ }
 {
     if high <= low + 1 {
         return low;
     }
     let middle = low + (high - low) / 2;
-    if left_with(rows, authorized, xs, middle, l, k, wanted) {
-        return before_blocking(rows, authorized, xs, middle, high, l, k, wanted);
+    if left_with(rows, masks, rooms, lower, middle, free, turned) {
+        return before_blocking(rows, masks, rooms, lower, free, turned, middle, high);
     }
-    before_blocking(rows, authorized, xs, low, middle, l, k, wanted)
+    before_blocking(rows, masks, rooms, lower, free, turned, low, middle)
 }
 
 // What is told of the exclusion of row j: its kind and limit, the members that stay counted whatever is put in for session k, all members.
-fn told_at(xs: &[[u64; 2]; 32], j: usize, l: Line, k: usize) -> Told
-    requires { ⌜ (j < 32) × (k < SESSIONS) × (length (now xs) ≡ 32) ⌝ }
-    ensures { λ t. ⌜ foundOf (Found.One t) ≡ blocks l k (some (exclusionOf (getD (now (xs .entry)) j []))) ⌝ }
+fn told_at(xs: &[[u64; 2]; 32], masks: &[u64; 32], j: usize) -> Told
+    requires { ⌜ (j < 32) × (length (now xs) ≡ 32) ⌝ }
+    ensures { λ t. ⌜ ((l : Line) (k : ℕ) → ReducedAt (now (xs .entry)) (now (masks .entry)) l k j
+        → foundOf (Found.One t) ≡ blocks l k (some (exclusionOf (getD (now (xs .entry)) j [])))) ⌝ }
 {
-    let reduced = reduce(xs, j + 1, l, k);
-    let masks = reduced.masks;
     let x = exclusion_of(xs[j]);
     let kind = x.kind;
     let members = x.members;
@@ -93,7 +102,8 @@ fn told_at(xs: &[[u64; 2]; 32], j: usize, l: Line, k: usize) -> Told
     }
 }
 
-// The first exclusion with which no set is left, where one is left without exclusions; nothing where one is left with them all.
+// The first exclusion with which no set is left, where one is left without exclusions; nothing where one is left with them all. What the
+// searches share is made once: the exclusions reduced, the roles that fit the upper bound, and those that carry each permission.
 pub fn blocked(
     rows: &[[u64; 4]; 64],
     authorized: u64,
@@ -108,9 +118,17 @@ pub fn blocked(
         → left (leftTo p u x l k) l k (value (wanted .lower)) (value (wanted .upper)) [] ≡ true
         → foundOf f ≡ blocks l k (blocking (left (leftTo p u x l k) l k (value (wanted .lower)) (value (wanted .upper))) [] (p .exclusions))) ⌝ }
 {
-    if left_with(rows, authorized, xs, count, l, k, wanted) {
+    let lower = wanted.lower;
+    let upper = wanted.upper;
+    let reduced = reduce(xs, count, l, k);
+    let masks = reduced.masks;
+    let rooms = reduced.rooms;
+    let free = usable(rows, upper, authorized);
+    let mut turned = [0u64; 256];
+    join_carriers(&mut turned, rows, free, lower);
+    if left_with(rows, &masks, &rooms, lower, count, free, &turned) {
         return Found::Nothing;
     }
-    let j = before_blocking(rows, authorized, xs, 0, count, l, k, wanted);
-    Found::One(told_at(xs, j, l, k))
+    let j = before_blocking(rows, &masks, &rooms, lower, free, &turned, 0, count);
+    Found::One(told_at(xs, &masks, j))
 }

@@ -120,12 +120,12 @@ module _ (t : Task) (upper authorized : ℕ) (small : authorized < 2 ^ 64) (m : 
 
   -- ---- the admissible sets are those of usable roles that serve, and the best of these is the choice
   module _ (free : ℕ) (keeps : Keeps (λ i. within (t .row i) upper) authorized free) where
-    record Fits (s : ℕ) : Type 0 where
-      own : Sub s authorized
-      between : Between 0 free s
-      serving : serves t s ≡ true
+    pub record Fits (s : ℕ) : Type 0 where
+      pub own : Sub s authorized
+      pub between : Between 0 free s
+      pub serving : serves t s ≡ true
 
-    fits-of : (s : ℕ) → admissible m l k (t .lower) upper s ≡ true → Fits s
+    pub fits-of : (s : ℕ) → admissible m l k (t .lower) upper s ≡ true → Fits s
     unfolding serves
     fits-of s adm =
         let f = is-in s adm in
@@ -163,7 +163,7 @@ module _ (t : Task) (upper authorized : ℕ) (small : authorized < 2 ^ 64) (m : 
           carried-least (t .row) 64 s upper
           (λ r _ n. within-sub (t .row r) upper (and-r (has authorized r) (within (t .row r) upper) (sym (keeps r) ∙ free-in r n)))
 
-      admits : serves t s ≡ true → admissible m l k (t .lower) upper s ≡ true
+      pub admits : serves t s ≡ true → admissible m l k (t .lower) upper s ≡ true
       unfolding admissible serves
       admits v =
           let w = sub-within s authorized own-in in

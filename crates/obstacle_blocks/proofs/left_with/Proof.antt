@@ -1,15 +1,32 @@
--- `obstacle_blocks::left_with` meets its contract: a set is chosen exactly if one is left.
+-- `obstacle_blocks::left_with` meets its contract: the search starts from the empty set.
 -- Assumes nothing.
+use mathlib.Core.Path.{refl, sym, _∙_}
 use borrow.Author.Needs.{needs}
-use Rattle.obstacle_blocks.proofs.Lefts.{left-none, left-some}
+use borrow.Author.Tests.{not-true, not-false}
+use denote.Ref.{now}
+use Rattle.sets.specs.Words.{joined, value}
+use Rattle.query_rooms.proofs.RoomLaws.{roomy-less}
+use Rattle.search_steps.proofs.Turns.{ready-none}
+use Rattle.obstacle_blocks.specs.Firsts.{under}
+use Rattle.obstacle_blocks.proofs.Firsts.{no-room}
 use Rattle.obstacle_blocks.proofs.left_with.Statement.{statement}
 use Rattle.obstacle_blocks.proofs.left_with.Tie as tie
 
 returns : tie.Need-returns
-returns c p u x g = left-none p u x _ _ _ _ _ _ _ (c .before .before .best .ensures p u x g) (c .enum-told .given .1)
+returns c =
+    let g = c .before .before .args in
+    no-room (under (now (g .rows)) (now (g .masks)) (now (g .rooms)) (g .lower) (g .count)) _ (roomy-less (now (g .masks)) (now (g .rooms)) (g .count)) _
+    (c .before .room-for .ensures) (not-true _ (c .if1 .taken))
 
-returns-2 : tie.Need-returns-2
-returns-2 c p u x g = left-some p u x _ _ _ _ _ _ _ (c .before .before .best .ensures p u x g) _ (c .enum-told2 .given .1)
+some-step-requires : tie.Need-some-step-requires
+unfolding value joined
+some-step-requires c κs =
+    let s = c .before .before in
+    let g = s .args in (
+      ready-none (under (now (g .rows)) (now (g .masks)) (now (g .rooms)) (g .lower) (g .count)) (g .count) 0 (s .pre .0) refl
+          (sym (c .before .room-for .ensures) ∙ not-false _ (c .if1 .left)),
+      s .pre .1,
+    )
 
 pub left-with-spec : {M : Type 1} → statement M
-left-with-spec = tie.close (tie.spec (λ c κs. search needs) (λ c. search needs) (λ c. search needs) returns returns-2)
+left-with-spec = tie.close (tie.spec (λ c κs. search needs) returns some-step-requires (λ c. search needs))
