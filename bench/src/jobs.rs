@@ -3,6 +3,7 @@
 
 use crate::images::{self, Image};
 use crate::plain;
+use crate::plain_c;
 use crate::report::Report;
 use nutrameza_tests::gen::Rng;
 use nutrameza_tests::kit::{self, Empty};
@@ -206,6 +207,36 @@ impl Desk<'_> {
         }
     }
 
+    /// The same in plain C, which has open and ask.
+    fn do_by_c(&mut self, call: Call) -> u64 {
+        let at = LINE * self.user as usize;
+        self.ledger[at..at + LINE].copy_from_slice(&self.line);
+        let (image, ledger, user, upper) = (black_box(self.image), &mut self.ledger, self.user, &self.upper);
+        match call {
+            Call::Open => plain_c::open(image, ledger, user),
+            Call::Ask(permission) => {
+                let wish = plain::Wish { user, session: 0, lower: &bound(permission), upper, objectives: AIMS };
+                plain_c::ask(image, ledger, &wish, &mut self.answer)
+            }
+            other => panic!("{other:?} is not in plain C"),
+        }
+    }
+
+    /// Times a call beside plain C; both answer the same.
+    fn row_beside_c(name: &str, desk: impl Fn() -> Self, call: Call, report: &mut Report) {
+        let (mut first, mut second) = (desk(), desk());
+        let (by_kit, by_c) = (first.do_by(call, true), second.do_by_c(call));
+        assert_eq!((by_kit, &first.ledger, first.answer), (by_c, &second.ledger, second.answer), "{name}");
+        assert_eq!(by_kit % 256, 0, "{name}: it is done");
+        let mut kit = || {
+            black_box(first.do_by(call, true));
+        };
+        let mut plain = || {
+            black_box(second.do_by_c(call));
+        };
+        report.row(name, &mut kit, &mut plain);
+    }
+
     /// Times a call of this user, which the kit does, on a desk and its copy; both answer the same.
     fn row(name: &str, desk: impl Fn() -> Self, call: Call, report: &mut Report) {
         let (mut first, mut second) = (desk(), desk());
@@ -244,6 +275,28 @@ fn last_carried(image: &[u8], roles: u64) -> u64 {
     let policy = nutrameza_tests::solver::image::judge(image).expect("the image is accepted");
     let last = |role: usize| policy.carried_by(role).into_iter().max();
     (0..policy.roles).filter(|role| roles >> role & 1 == 1).filter_map(last).max().expect("the roles carry a permission") as u64
+}
+
+/// Check, open and ask beside plain C.
+pub fn beside_c(report: &mut Report) {
+    println!();
+    println!("{:<44} {:>12} {:>12} {:>7}", "job, beside plain C (cc -O2)", "kit ns", "plain C ns", "ratio");
+    for image in images::in_all_orders() {
+        let bytes = &image.bytes;
+        assert_eq!(plain_c::check(bytes), 0, "{}", image.name);
+        let mut kit = || {
+            black_box(kit::check(Empty::Null, black_box(bytes)));
+        };
+        let mut plain = || {
+            black_box(plain_c::check(black_box(bytes)));
+        };
+        report.row(&format!("C, check, {}", image.name), &mut kit, &mut plain);
+        let roles = if image.users == 1 { 1 } else { some_own_roles(bytes, image.users - 1) };
+        for call in [Call::Open, Call::Ask(last_carried(bytes, roles))] {
+            let name = format!("C, {}, {}", call.name(), image.name);
+            Desk::row_beside_c(&name, || Desk::new(bytes, image.users, line(roles)), call, report);
+        }
+    }
 }
 
 /// The calls of the last user, who has some roles active.

@@ -1,4 +1,4 @@
-//! The kit beside the same jobs in plain Rust, in one process: times as medians, ratios as medians of rounds. Before
+//! The kit beside the same jobs in plain Rust, and some in plain C, in one process: times as medians, ratios as medians of rounds. Before
 //! a job is timed, both are held to the same answers, ledgers and answer bytes. Arguments name rows, by a part of the
 //! name; without any, all are timed. The last line is the worst ratio, and the exit status is 1 where it is over the
 //! bar or where an obstacle takes too long beside a short ask.
@@ -9,6 +9,7 @@ mod jobs;
 mod limit;
 mod obstacles;
 mod plain;
+mod plain_c;
 #[cfg(feature = "programs")]
 mod program;
 mod report;
@@ -45,6 +46,7 @@ fn main() -> ExitCode {
     println!();
     println!("{:<44} {:>12} {:>12} {:>7}", "job", "kit ns", "plain ns", "ratio");
     jobs::all(&mut report);
+    jobs::beside_c(&mut report);
     families::asks(&mut report);
     texts::texts(&mut report);
     let in_time = obstacles::rows(&mut report);
