@@ -5,7 +5,7 @@ use Rattle.model.specs.Sets.{has, within, meets, setOf, countTo, count, 
 use Rattle.model.specs.Image.{wordAt, behindHead, kindOf, decode, wrongKind, inRange, repeats, crowds, entryFault, fault, assigning, next, balanced, scan, headOf, headRight, lengthRight, emptyRows, start, judgeWords, checkNumber}
 use Rattle.model.specs.Policy.{entryAt, entriesFrom, entriesOf, granting, ordering, fold, joining, withMembers, exclusionsOf, policyOf, taking, through, closed, tableOf, belowTable, withSelves, reached, carriedTable, granterBy, granter, authorized, met, meaning, kindNumber, before, insert, sorted, lesser, limiting, limited, hasLimits}
 use Rattle.model.specs.Bytes.{number, bytesOf}
-use Rattle.model.specs.Words.{headWord, assignWord, grantWord, seniorWord, exclusionWord, memberWord, sumOf, endWord, ended, imageBytes}
+use Rattle.model.specs.Words.{headWord, assignWord, grantWord, seniorWord, exclusionWord, memberWord, sumOf, endWord, ended, imageBytes, limitWord}
 use Rattle.model.specs.Line.{lineSize, readSessions, readLine, writeSessions, writeLine, emptySession, sessionAt, isOpen, activeIn, counted, exclusionsMet, sessionSound, sessionsSound, sound, lowestClosed, opening, closing, putIn, holding, others}
 use Rattle.model.specs.Limits.{nobody, elsewhere, barred, unbarred}
 use Rattle.model.specs.Choice.{carriedBy, admissible, cost, permissionCost, roleCost, better, bestOf, best, choose}
@@ -31,7 +31,7 @@ unfolding pick any all first lowest ifBelow isSome sameList sameLists has within
     asked explained perform unless rule lowestOnLoop lowestOverReach refusing judgeMeaning judge seniorsOf level loopLength chainDown
     shownChain loopFrom loopOn loopBy loopCall lineAt withLine ruled stepOn stepBy step run openBy closeBy askBy shortAskBy showBy explainBy
     imageBytes sumOf endWord ended seniorWord checkNumber returned filledWith answered headWord assignWord grantWord exclusionWord
-    memberWord resized lineFault moveAnswer resizedLines writtenIf moveOn moveBy move others stay maskOf roomOf listTo when barring carries
+    memberWord limitWord resized lineFault moveAnswer resizedLines writtenIf moveOn moveBy move others stay maskOf roomOf listTo when barring carries
     carrying carriers carried bounding variablesIn uncounted room keeping adding row rows counter excluding helpers excludingAll hard
     wanting soft weightOf top ascii figure digitsTo decimal literalText literalsText clauseText clausesText headText helpersOf variablesOf
     weighing clausesOf textOf isText wrote textFor clausesBy written sumTo lesser limiting limited hasLimits holding isAsk numberAfter

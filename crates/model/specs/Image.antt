@@ -20,6 +20,7 @@ use Rattle.model.specs.declared.Checked.{Checked}
 use Rattle.model.specs.declared.Checked.the-variants.{Accepted, Refused}
 use Rattle.model.specs.Tests.{pick, between}
 use Rattle.model.specs.Sets.{has, with, count}
+use Rattle.model.specs.Kinds.{onAssignment, onSenior, onExclude, onMember}
 
 -- ---- words
 
@@ -92,25 +93,13 @@ inRange h Unknown = true
 
 -- 6: a member already in this exclusion, a senior equal to its junior
 unfoldable pub repeats : Scan → Entry → Bool
-repeats t (Assignment u r) = false
-repeats t (Grant r p) = false
-repeats t (Senior a b) = eqb (a .0) (b .0)
-repeats t (Exclude x m) = false
-repeats t (Member r) = has (t .members) (r .0)
-repeats t (Limit r n) = false
-repeats t End = false
-repeats t Unknown = false
+repeats t e = onSenior (onMember false (λ r. has (t .members) (r .0)) e) (λ a b. eqb (a .0) (b .0)) e
 
 -- 7: a user's 17th different role, the 33rd exclusion
 unfoldable pub crowds : List ℕ → Scan → Entry → Bool
-crowds rows t (Assignment u r) = not (has (getD rows (u .0) 0) (r .0)) && leb 16 (count 64 (getD rows (u .0) 0))
-crowds rows t (Grant r p) = false
-crowds rows t (Senior a b) = false
-crowds rows t (Exclude x m) = leb 32 (t .exclusions)
-crowds rows t (Member r) = false
-crowds rows t (Limit r n) = false
-crowds rows t End = false
-crowds rows t Unknown = false
+crowds rows t e =
+    onAssignment (onExclude false (λ x m. leb 32 (t .exclusions)) e)
+    (λ u r. not (has (getD rows (u .0) 0) (r .0)) && leb 16 (count 64 (getD rows (u .0) 0))) e
 
 -- the first of the faults 5 to 7 that the entry has, or 0
 unfoldable pub entryFault : Head → List ℕ → Scan → Entry → ℕ
@@ -128,24 +117,12 @@ fault h rows t final w = pick (wrongKind final (t .due) (w .entry)) 3 (sparing (
 
 -- row u of a table of roles by user, with the role r too
 unfoldable pub assigning : List ℕ → Entry → List ℕ
-assigning rows (Assignment u r) = set rows (u .0) (with (getD rows (u .0) 0) (r .0))
-assigning rows (Grant r p) = rows
-assigning rows (Senior a b) = rows
-assigning rows (Exclude x m) = rows
-assigning rows (Member r) = rows
-assigning rows (Limit r t) = rows
-assigning rows End = rows
-assigning rows Unknown = rows
+assigning rows e = onAssignment rows (λ u r. set rows (u .0) (with (getD rows (u .0) 0) (r .0))) e
 
 unfoldable pub next : Scan → Entry → Scan
-next t (Assignment u r) = t
-next t (Grant r p) = t
-next t (Senior a b) = t
-next t (Exclude x m) = record { exclusions = t .exclusions + 1; due = m; members = 0 }
-next t (Member r) = record { exclusions = t .exclusions; due = t .due - 1; members = with (t .members) (r .0) }
-next t (Limit r n) = t
-next t End = t
-next t Unknown = t
+next t e =
+    onExclude (onMember t (λ r. record { exclusions = t .exclusions; due = t .due - 1; members = with (t .members) (r .0) }) e)
+    (λ x m. record { exclusions = t .exclusions + 1; due = m; members = 0 }) e
 
 -- ---- the words behind the head
 

@@ -1,5 +1,6 @@
 pub mod Tests
 pub mod Sets
+pub mod Kinds
 pub mod Image
 pub mod Policy
 pub mod Judgement

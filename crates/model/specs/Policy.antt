@@ -12,9 +12,9 @@ use Rattle.model.specs.declared.Kind.{Kind}
 use Rattle.model.specs.declared.Kind.the-variants.{SsDmer, MsDmer, SsHmer, MsHmer}
 use Rattle.model.specs.declared.Exclusion.{Exclusion}
 use Rattle.model.specs.declared.Entry.{Entry}
-use Rattle.model.specs.declared.Entry.the-variants.{Assignment, Grant, Senior, Exclude, Member, Limit, End, Unknown}
 use Rattle.model.specs.Tests.{pick, earlier, any, all}
 use Rattle.model.specs.Sets.{has, union, inter, with, count, unionAt, lowestIn}
+use Rattle.model.specs.Kinds.{onGrant, onSenior, onExclude, onMember, onLimit}
 use Rattle.model.specs.Image.{wordAt, behindHead, decode, assigning, headOf, emptyRows}
 
 -- ---- the entries of an image
@@ -35,25 +35,11 @@ entriesOf s = entriesFrom s (behindHead s) 1
 
 -- row r: the permissions granted to role r
 unfoldable pub granting : List ℕ → Entry → List ℕ
-granting rows (Assignment u r) = rows
-granting rows (Grant r p) = set rows (r .0) (with (getD rows (r .0) 0) (p .0))
-granting rows (Senior a b) = rows
-granting rows (Exclude x m) = rows
-granting rows (Member r) = rows
-granting rows (Limit r t) = rows
-granting rows End = rows
-granting rows Unknown = rows
+granting rows e = onGrant rows (λ r p. set rows (r .0) (with (getD rows (r .0) 0) (p .0))) e
 
 -- row a: the direct juniors of role a, those that a senior word places it over
 unfoldable pub ordering : List ℕ → Entry → List ℕ
-ordering rows (Assignment u r) = rows
-ordering rows (Grant r p) = rows
-ordering rows (Senior a b) = set rows (a .0) (with (getD rows (a .0) 0) (b .0))
-ordering rows (Exclude x m) = rows
-ordering rows (Member r) = rows
-ordering rows (Limit r t) = rows
-ordering rows End = rows
-ordering rows Unknown = rows
+ordering rows e = onSenior rows (λ a b. set rows (a .0) (with (getD rows (a .0) 0) (b .0))) e
 
 -- the smaller of a limit so far, 0 where there is none, and t
 unfoldable pub lesser : ℕ → ℕ → ℕ
@@ -61,14 +47,7 @@ lesser a t = pick (eqb a 0 || ltb t a) t a
 
 -- row r: the limit of role r, the smallest that a word gives it, and 0 where it has none
 unfoldable pub limiting : List ℕ → Entry → List ℕ
-limiting rows (Assignment u r) = rows
-limiting rows (Grant r p) = rows
-limiting rows (Senior a b) = rows
-limiting rows (Exclude x m) = rows
-limiting rows (Member r) = rows
-limiting rows (Limit r t) = set rows (r .0) (lesser (getD rows (r .0) 0) t)
-limiting rows End = rows
-limiting rows Unknown = rows
+limiting rows e = onLimit rows (λ r t. set rows (r .0) (lesser (getD rows (r .0) 0) t)) e
 
 -- the entries, each taken into a by the step
 unfoldable pub fold : {A : Type 0} → (A → Entry → A) → A → List Entry → A
@@ -77,30 +56,18 @@ fold step a (e ∷ es) = fold step (step a e) es
 
 -- ---- exclusions: an exclusion word and the m member words behind it
 
+-- a member word's role joins the set s
 unfoldable pub joining : ℕ → Entry → ℕ
-joining s (Assignment u r) = s
-joining s (Grant r p) = s
-joining s (Senior a b) = s
-joining s (Exclude x m) = s
-joining s (Member r) = with s (r .0)
-joining s (Limit r t) = s
-joining s End = s
-joining s Unknown = s
+joining s e = onMember s (λ r. with s (r .0)) e
 
 -- the exclusion with the members that the entries name
 unfoldable pub withMembers : Exclusion → List Entry → Exclusion
 withMembers x es = record { kind = x .kind; limit = x .limit; members = fold joining (x .members) es }
 
+-- those of the entries, in their order
 unfoldable pub exclusionsOf : List Entry → List Exclusion
 exclusionsOf [] = []
-exclusionsOf (Assignment u r ∷ es) = exclusionsOf es
-exclusionsOf (Grant r p ∷ es) = exclusionsOf es
-exclusionsOf (Senior a b ∷ es) = exclusionsOf es
-exclusionsOf (Exclude x m ∷ es) = withMembers x (take m es) ∷ exclusionsOf es
-exclusionsOf (Member r ∷ es) = exclusionsOf es
-exclusionsOf (Limit r t ∷ es) = exclusionsOf es
-exclusionsOf (End ∷ es) = exclusionsOf es
-exclusionsOf (Unknown ∷ es) = exclusionsOf es
+exclusionsOf (e ∷ es) = onExclude [] (λ x m. withMembers x (take m es) ∷ []) e ++ exclusionsOf es
 
 -- ---- the order of exclusions in the tidy image, in which no order of the entries shows
 
