@@ -1,6 +1,6 @@
 -- Images and how they are judged: image A with words replaced, put in or left out, each with the number and the place of its refusal
--- (0, 0: accepted). Each clause of the register's lines 1 to 8 has a case, and so has each tie; 22 comes after them
--- with a role, 23 with a user.
+-- (0, 0: accepted). The words are written as in specs/Words.antt of model. Each clause of the register's lines 1 to 8 has a case, and so
+-- has each tie; 22 comes after them with a role, 23 with a user.
 -- Assumes nothing.
 use mathlib.Core.Bool.{Bool}
 use mathlib.Core.List.{List, [], _∷_, _++_}
@@ -11,7 +11,7 @@ use Rattle.model.specs.declared.Checked.the-variants.{Accepted, Refused}
 use Rattle.model.specs.Judgement.{judge}
 use Rattle.model.specs.Session.{Reply}
 use Rattle.model.specs.Loop.{loopCall}
-use Rattle.model.specs.Words.{seniorWord, imageBytes, ended}
+use Rattle.model.specs.Words.{headWord, assignWord, grantWord, seniorWord, exclusionWord, memberWord, limitWord, endWord, sumOf, ended, imageBytes}
 use Rattle.model.specs.Tests.{sameList}
 use Rattle.model_cases.specs.Ward.{imageA, fewerOf, loop}
 
@@ -19,27 +19,51 @@ unfoldable pub verdict : Checked → List ℕ
 verdict (Accepted h) = 0 ∷ 0 ∷ []
 verdict (Refused n place) = n ∷ place ∷ []
 
+-- ---- words that are wrong, beside those of 01's table (specs/Words.antt of model)
+
+-- a word of kind k, all else zero
+unfoldable pub wordOfKind : ℕ → ℕ
+wordOfKind k = k * 2 ^ 28
+
+-- the word with bit b set, which is spare in it
+unfoldable pub spare : ℕ → ℕ → ℕ
+spare b w = w + 2 ^ b
+
+-- ---- images
+
 -- image A without its end word
 unfoldable pub bodyA : List ℕ
 bodyA = take 12 imageA
+
+-- the low 28 bits that balance it
+unfoldable pub balance : ℕ
+balance = endWord (sumOf bodyA) - wordOfKind 15
 
 -- image A with the word at place i replaced by ws, balanced
 unfoldable pub edited : ℕ → List ℕ → List ℕ
 edited i ws = imageBytes (ended (take i bodyA ++ (ws ++ drop (suc i) bodyA)))
 
--- the same with an end word that does not balance it
+-- by the one word w
+unfoldable pub replaced : ℕ → ℕ → List ℕ
+replaced i w = edited i (w ∷ [])
+
+-- an end word that balances none of the images below
+unfoldable pub unbalancing : ℕ
+unbalancing = wordOfKind 15 + 1
+
+-- image A with the word at place i replaced by ws, not balanced
 unfoldable pub unbalanced : ℕ → List ℕ → List ℕ
-unbalanced i ws = imageBytes (take i bodyA ++ (ws ++ drop (suc i) bodyA) ++ (0xF0000001 ∷ []))
+unbalanced i ws = imageBytes (take i bodyA ++ (ws ++ drop (suc i) bodyA) ++ (unbalancing ∷ []))
 
 -- user 0 assigned to the roles 0 to n - 1
 unfoldable pub assignments : ℕ → List ℕ
 assignments zero = []
-assignments (suc n) = assignments n ++ ((0x20000000 + n * 2 ^ 16) ∷ [])
+assignments (suc n) = assignments n ++ (assignWord 0 n ∷ [])
 
 -- n times image A's exclusion
 unfoldable pub exclusionWords : ℕ → List ℕ
 exclusionWords zero = []
-exclusionWords (suc n) = 0x54102000 ∷ 0x60000000 ∷ 0x60400000 ∷ exclusionWords n
+exclusionWords (suc n) = exclusionWord 1 2 2 ∷ memberWord 0 ∷ memberWord 1 ∷ exclusionWords n
 
 -- image A with this last word
 unfoldable pub endedBy : ℕ → List ℕ
@@ -47,11 +71,11 @@ endedBy w = imageBytes (bodyA ++ (w ∷ []))
 
 -- image A's head, 32 exclusions and the words
 unfoldable pub afterThirtyTwo : List ℕ → List ℕ
-afterThirtyTwo ws = imageBytes (ended (0x102080A0 ∷ (exclusionWords 32 ++ ws)))
+afterThirtyTwo ws = imageBytes (ended (headWord 1 2 5 ∷ (exclusionWords 32 ++ ws)))
 
 -- one user, 17 roles
 unfoldable pub wide : List ℕ → List ℕ
-wide ws = 0x102440A0 ∷ ws
+wide ws = headWord 1 17 5 ∷ ws
 
 -- role 0 over the roles 1 to n
 unfoldable pub overOthers : ℕ → List ℕ
@@ -60,7 +84,7 @@ overOthers (suc n) = overOthers n ++ (seniorWord 0 (suc n) ∷ [])
 
 -- one user and four roles, with the words
 unfoldable pub hierarchyOf : List ℕ → List ℕ
-hierarchyOf ws = imageBytes (ended (0x10210020 ∷ ws))
+hierarchyOf ws = imageBytes (ended (headWord 1 4 1 ∷ ws))
 
 pub record Judged : Type 0 where
   pub image : List ℕ
@@ -74,157 +98,204 @@ judged image n place = record { image = image; verdict = n ∷ place ∷ [] }
 
 unfoldable pub judgedImages : List Judged
 judgedImages =
+    -- nothing wrong: image A
     judged (imageBytes imageA) 0 0
-    -- 1, length: empty, not a multiple of 4, below 8, above 16,384
+    -- 1, length: no bytes at all
     ∷ judged [] 1 0
+    -- a byte too many, in front; a byte too few; two too many
     ∷ judged (0 ∷ imageBytes imageA) 1 0
     ∷ judged (take 51 (imageBytes imageA)) 1 0
     ∷ judged (imageBytes imageA ++ (0 ∷ 0 ∷ [])) 1 0
+    -- below 8; above 16,384
     ∷ judged (take 4 (imageBytes imageA)) 1 0
     ∷ judged (replicate 16388 0) 1 0
-    -- 2, head: kind, U, R and P too small and too large, spare bits
-    ∷ judged (edited 0 (0x202080A0 ∷ [])) 2 0
-    ∷ judged (edited 0 (0x100080A0 ∷ [])) 2 0
-    ∷ judged (edited 0 (0x182080A0 ∷ [])) 2 0
-    ∷ judged (edited 0 (0x102000A0 ∷ [])) 2 0
-    ∷ judged (edited 0 (0x103040A0 ∷ [])) 2 0
-    ∷ judged (edited 0 (0x10208000 ∷ [])) 2 0
-    ∷ judged (edited 0 (0x1020A020 ∷ [])) 2 0
-    ∷ judged (edited 0 (0x102080A1 ∷ [])) 2 0
-    ∷ judged (edited 0 (0x102080A4 ∷ [])) 2 0
-    ∷ judged (edited 0 (0x102080B0 ∷ [])) 2 0
-    -- the largest head
-    ∷ judged (edited 0 (0x18102000 ∷ [])) 0 0
-    -- 3, kind: 0, 1, 8 and 14, a member not due, no member where due, an end before the end, a last word that is no end
-    ∷ judged (edited 3 (0x00000000 ∷ [])) 3 3
-    ∷ judged (edited 3 (0x102080A0 ∷ [])) 3 3
-    ∷ judged (edited 3 (0x80000000 ∷ [])) 3 3
-    ∷ judged (edited 3 (0xE0000000 ∷ [])) 3 3
-    ∷ judged (edited 3 (0x60000000 ∷ [])) 3 3
-    ∷ judged (edited 10 (0x20000000 ∷ [])) 3 10
-    ∷ judged (edited 10 (0x54102000 ∷ [])) 3 10
+    -- 2, head: of kind 2
+    ∷ judged (replaced 0 (headWord 1 2 5 + wordOfKind 1)) 2 0
+    -- U of 0, of 65
+    ∷ judged (replaced 0 (headWord 0 2 5)) 2 0
+    ∷ judged (replaced 0 (headWord 65 2 5)) 2 0
+    -- R of 0, of 65
+    ∷ judged (replaced 0 (headWord 1 0 5)) 2 0
+    ∷ judged (replaced 0 (headWord 1 65 5)) 2 0
+    -- P of 0, of 257
+    ∷ judged (replaced 0 (headWord 1 2 0)) 2 0
+    ∷ judged (replaced 0 (headWord 1 2 257)) 2 0
+    -- the lowest spare bit, one in the middle, the highest
+    ∷ judged (replaced 0 (spare 0 (headWord 1 2 5))) 2 0
+    ∷ judged (replaced 0 (spare 2 (headWord 1 2 5))) 2 0
+    ∷ judged (replaced 0 (spare 4 (headWord 1 2 5))) 2 0
+    -- accepted: the largest head
+    ∷ judged (replaced 0 (headWord 64 64 256)) 0 0
+    -- 3, kind: 0, 1, 8 and 14
+    ∷ judged (replaced 3 (wordOfKind 0)) 3 3
+    ∷ judged (replaced 3 (headWord 1 2 5)) 3 3
+    ∷ judged (replaced 3 (wordOfKind 8)) 3 3
+    ∷ judged (replaced 3 (wordOfKind 14)) 3 3
+    -- a member not due
+    ∷ judged (replaced 3 (memberWord 0)) 3 3
+    -- no member where due: an assignment, an exclusion, the end
+    ∷ judged (replaced 10 (assignWord 0 0)) 3 10
+    ∷ judged (replaced 10 (exclusionWord 1 2 2)) 3 10
     ∷ judged (edited 11 []) 3 11
-    ∷ judged (edited 3 (0xF0000000 ∷ [])) 3 3
+    -- an end before the end
+    ∷ judged (replaced 3 (wordOfKind 15)) 3 3
+    -- a last word that is no end: a member, a grant
     ∷ judged (imageBytes bodyA) 3 11
     ∷ judged (imageBytes (take 9 bodyA)) 3 8
     -- a last word of kind 0, 1 and 14, which balances the image
-    ∷ judged (endedBy 0x0B0B9F60) 3 12
-    ∷ judged (endedBy 0x1B0B9F60) 3 12
-    ∷ judged (endedBy 0xEB0B9F60) 3 12
-    -- 4, spare: in each of the kinds 2 to 6 the lowest bit, one in the middle, and the highest
-    ∷ judged (edited 1 (0x20000001 ∷ [])) 4 1
-    ∷ judged (edited 1 (0x20000100 ∷ [])) 4 1
-    ∷ judged (edited 1 (0x20008000 ∷ [])) 4 1
-    ∷ judged (edited 3 (0x30000001 ∷ [])) 4 3
-    ∷ judged (edited 3 (0x30000080 ∷ [])) 4 3
-    ∷ judged (edited 3 (0x30002000 ∷ [])) 4 3
-    ∷ judged (edited 1 (0x40010001 ∷ [])) 4 1
-    ∷ judged (edited 1 (0x40010100 ∷ [])) 4 1
-    ∷ judged (edited 1 (0x40018000 ∷ [])) 4 1
-    ∷ judged (edited 9 (0x54102001 ∷ [])) 4 9
-    ∷ judged (edited 9 (0x54102040 ∷ [])) 4 9
-    ∷ judged (edited 9 (0x54102800 ∷ [])) 4 9
-    ∷ judged (edited 10 (0x60000001 ∷ [])) 4 10
-    ∷ judged (edited 10 (0x60000800 ∷ [])) 4 10
-    ∷ judged (edited 10 (0x60200000 ∷ [])) 4 10
-    -- 5, range: user, role, permission, senior, junior, m of 0, of 1 and above R, n of 0, of 1 and above m, member
-    ∷ judged (edited 1 (0x20400000 ∷ [])) 5 1
-    ∷ judged (edited 1 (0x20020000 ∷ [])) 5 1
-    ∷ judged (edited 3 (0x30800000 ∷ [])) 5 3
-    ∷ judged (edited 3 (0x30014000 ∷ [])) 5 3
-    ∷ judged (edited 1 (0x40800000 ∷ [])) 5 1
-    ∷ judged (edited 1 (0x40020000 ∷ [])) 5 1
-    ∷ judged (edited 9 (0x54100000 ∷ [])) 5 9
-    ∷ judged (edited 9 (0x54081000 ∷ [])) 5 9
-    ∷ judged (edited 9 (0x54101000 ∷ [])) 5 9
-    ∷ judged (edited 9 (0x54103000 ∷ [])) 5 9
-    ∷ judged (edited 9 (0x54002000 ∷ [])) 5 9
-    ∷ judged (edited 9 (0x54082000 ∷ [])) 5 9
-    ∷ judged (edited 9 (0x54182000 ∷ [])) 5 9
-    ∷ judged (edited 10 (0x60800000 ∷ [])) 5 10
-    -- in range: n 2 of m 3 and n 3 of m 4, each kind
+    ∷ judged (endedBy (balance + wordOfKind 0)) 3 12
+    ∷ judged (endedBy (balance + wordOfKind 1)) 3 12
+    ∷ judged (endedBy (balance + wordOfKind 14)) 3 12
+    -- 4, spare: of an assignment the lowest bit, one in the middle, the highest
+    ∷ judged (replaced 1 (spare 0 (assignWord 0 0))) 4 1
+    ∷ judged (replaced 1 (spare 8 (assignWord 0 0))) 4 1
+    ∷ judged (replaced 1 (spare 15 (assignWord 0 0))) 4 1
+    -- of a grant
+    ∷ judged (replaced 3 (spare 0 (grantWord 0 0))) 4 3
+    ∷ judged (replaced 3 (spare 7 (grantWord 0 0))) 4 3
+    ∷ judged (replaced 3 (spare 13 (grantWord 0 0))) 4 3
+    -- of a senior word
+    ∷ judged (replaced 1 (spare 0 (seniorWord 0 1))) 4 1
+    ∷ judged (replaced 1 (spare 8 (seniorWord 0 1))) 4 1
+    ∷ judged (replaced 1 (spare 15 (seniorWord 0 1))) 4 1
+    -- of an exclusion
+    ∷ judged (replaced 9 (spare 0 (exclusionWord 1 2 2))) 4 9
+    ∷ judged (replaced 9 (spare 6 (exclusionWord 1 2 2))) 4 9
+    ∷ judged (replaced 9 (spare 11 (exclusionWord 1 2 2))) 4 9
+    -- of a member
+    ∷ judged (replaced 10 (spare 0 (memberWord 0))) 4 10
+    ∷ judged (replaced 10 (spare 11 (memberWord 0))) 4 10
+    ∷ judged (replaced 10 (spare 21 (memberWord 0))) 4 10
+    -- 5, range: the user of an assignment, its role
+    ∷ judged (replaced 1 (assignWord 1 0)) 5 1
+    ∷ judged (replaced 1 (assignWord 0 2)) 5 1
+    -- the role of a grant, its permission
+    ∷ judged (replaced 3 (grantWord 2 0)) 5 3
+    ∷ judged (replaced 3 (grantWord 0 5)) 5 3
+    -- the senior, the junior
+    ∷ judged (replaced 1 (seniorWord 2 0)) 5 1
+    ∷ judged (replaced 1 (seniorWord 0 2)) 5 1
+    -- m of 0; of 1, with n of 1 and of 2; above R
+    ∷ judged (replaced 9 (exclusionWord 1 2 0)) 5 9
+    ∷ judged (replaced 9 (exclusionWord 1 1 1)) 5 9
+    ∷ judged (replaced 9 (exclusionWord 1 2 1)) 5 9
+    ∷ judged (replaced 9 (exclusionWord 1 2 3)) 5 9
+    -- n of 0, of 1, above m
+    ∷ judged (replaced 9 (exclusionWord 1 0 2)) 5 9
+    ∷ judged (replaced 9 (exclusionWord 1 1 2)) 5 9
+    ∷ judged (replaced 9 (exclusionWord 1 3 2)) 5 9
+    -- the role of a member
+    ∷ judged (replaced 10 (memberWord 2)) 5 10
+    -- accepted: n of 2 and m of 3, by each kind
     ∷ judged (imageBytes (fewerOf 0 2 3)) 0 0
     ∷ judged (imageBytes (fewerOf 1 2 3)) 0 0
     ∷ judged (imageBytes (fewerOf 2 2 3)) 0 0
     ∷ judged (imageBytes (fewerOf 3 2 3)) 0 0
+    -- accepted: n of 3 and m of 4, by each kind
     ∷ judged (imageBytes (fewerOf 0 3 4)) 0 0
     ∷ judged (imageBytes (fewerOf 1 3 4)) 0 0
     ∷ judged (imageBytes (fewerOf 2 3 4)) 0 0
     ∷ judged (imageBytes (fewerOf 3 3 4)) 0 0
-    -- 6, repeat: a member again, a senior over itself; not a repeat: an entry said twice
-    ∷ judged (edited 11 (0x60000000 ∷ [])) 6 11
-    ∷ judged (edited 1 (0x40000000 ∷ [])) 6 1
-    ∷ judged (edited 1 (0x40410000 ∷ [])) 6 1
-    ∷ judged (edited 1 (0x20000000 ∷ 0x20000000 ∷ 0x30000000 ∷ [])) 0 0
-    -- 7, crowd: a 17th role, the same 16 twice being none; a 33rd exclusion, an entry of another kind behind the 32nd being none
+    -- 6, repeat: a member again
+    ∷ judged (replaced 11 (memberWord 0)) 6 11
+    -- a senior over itself
+    ∷ judged (replaced 1 (seniorWord 0 0)) 6 1
+    ∷ judged (replaced 1 (seniorWord 1 1)) 6 1
+    -- accepted: an entry said twice
+    ∷ judged (edited 1 (assignWord 0 0 ∷ assignWord 0 0 ∷ grantWord 0 0 ∷ [])) 0 0
+    -- 7, crowd: accepted with 16 roles, and with the same 16 twice
     ∷ judged (imageBytes (ended (wide (assignments 16)))) 0 0
     ∷ judged (imageBytes (ended (wide (assignments 16 ++ assignments 16)))) 0 0
+    -- a 17th role
     ∷ judged (imageBytes (ended (wide (assignments 17)))) 7 17
-    ∷ judged (afterThirtyTwo (0x20000000 ∷ 0x30000000 ∷ 0x40010000 ∷ 0x70004000 ∷ [])) 0 0
-    ∷ judged (afterThirtyTwo (0x54102000 ∷ 0x60000000 ∷ 0x60400000 ∷ [])) 7 97
-    -- limits: the smallest and the largest t, in any place, several for one role; 3 where a member is due and as the last word;
-    -- 4 for the lowest spare bit, one in the middle and the highest; 5 for the role and for t of 0, 1, 257 and 511; ties
-    ∷ judged (edited 3 (0x70004000 ∷ [])) 0 0
-    ∷ judged (edited 1 (0x70600000 ∷ [])) 0 0
-    ∷ judged (edited 9 (0x70004000 ∷ 0x54102000 ∷ [])) 0 0
-    ∷ judged (edited 12 (0x70004000 ∷ 0x70006000 ∷ 0x70004000 ∷ [])) 0 0
-    ∷ judged (edited 10 (0x70004000 ∷ [])) 3 10
-    ∷ judged (edited 11 (0x70004000 ∷ [])) 3 11
-    ∷ judged (imageBytes (take 9 bodyA ++ (0x70004000 ∷ []))) 3 9
-    ∷ judged (edited 3 (0x70004001 ∷ [])) 4 3
-    ∷ judged (edited 3 (0x70004040 ∷ [])) 4 3
-    ∷ judged (edited 3 (0x70005000 ∷ [])) 4 3
-    ∷ judged (edited 3 (0x70804000 ∷ [])) 5 3
-    ∷ judged (edited 3 (0x70000000 ∷ [])) 5 3
-    ∷ judged (edited 3 (0x70002000 ∷ [])) 5 3
-    ∷ judged (edited 3 (0x70202000 ∷ [])) 5 3
-    ∷ judged (edited 3 (0x703FE000 ∷ [])) 5 3
-    ∷ judged (edited 10 (0x70802001 ∷ [])) 3 10
-    ∷ judged (edited 3 (0x70802001 ∷ [])) 4 3
-    -- 8, balance, at the last word; the sum with 32 exclusions, above, drops its carries
-    ∷ judged (endedBy 0xFB0B9F61) 8 12
-    ∷ judged (endedBy 0xF30B9F60) 8 12
-    -- two faults of one word: the lower number
-    ∷ judged (edited 10 (0x20400001 ∷ [])) 3 10
-    ∷ judged (edited 1 (0x20400001 ∷ [])) 4 1
-    ∷ judged (edited 1 (0x40820000 ∷ [])) 5 1
-    ∷ judged (edited 11 (0x60000001 ∷ [])) 4 11
-    ∷ judged (edited 9 (0x54082001 ∷ [])) 4 9
-    -- 3 and 6: a senior over itself where a member is due, a member again and not due
-    ∷ judged (edited 10 (0x40000000 ∷ [])) 3 10
-    ∷ judged (edited 12 (0x60000000 ∷ [])) 3 12
-    -- 7 with 3, 4 and 5: a 17th role where a member is due, as the last word, with a spare bit, and not below R; a 33rd exclusion with n of
-    -- 1, and above m
-    ∷ judged (imageBytes (ended (wide (assignments 16 ++ (0x54102000 ∷ 0x20100000 ∷ []))))) 3 18
+    -- accepted: entries of each other kind behind the 32nd exclusion
+    ∷ judged (afterThirtyTwo (assignWord 0 0 ∷ grantWord 0 0 ∷ seniorWord 0 1 ∷ limitWord 0 2 ∷ [])) 0 0
+    -- a 33rd exclusion
+    ∷ judged (afterThirtyTwo (exclusionWord 1 2 2 ∷ memberWord 0 ∷ memberWord 1 ∷ [])) 7 97
+    -- limits, accepted: the smallest t, the largest
+    ∷ judged (replaced 3 (limitWord 0 2)) 0 0
+    ∷ judged (replaced 1 (limitWord 1 256)) 0 0
+    -- accepted: in front of an exclusion; behind it, several for one role
+    ∷ judged (edited 9 (limitWord 0 2 ∷ exclusionWord 1 2 2 ∷ [])) 0 0
+    ∷ judged (edited 12 (limitWord 0 2 ∷ limitWord 0 3 ∷ limitWord 0 2 ∷ [])) 0 0
+    -- 3: where a member is due, the first or the second
+    ∷ judged (replaced 10 (limitWord 0 2)) 3 10
+    ∷ judged (replaced 11 (limitWord 0 2)) 3 11
+    -- 3: as the last word
+    ∷ judged (imageBytes (take 9 bodyA ++ (limitWord 0 2 ∷ []))) 3 9
+    -- 4: the lowest spare bit, one in the middle, the highest
+    ∷ judged (replaced 3 (spare 0 (limitWord 0 2))) 4 3
+    ∷ judged (replaced 3 (spare 6 (limitWord 0 2))) 4 3
+    ∷ judged (replaced 3 (spare 12 (limitWord 0 2))) 4 3
+    -- 5: the role
+    ∷ judged (replaced 3 (limitWord 2 2)) 5 3
+    -- 5: t of 0, 1, 257 and 511
+    ∷ judged (replaced 3 (limitWord 0 0)) 5 3
+    ∷ judged (replaced 3 (limitWord 0 1)) 5 3
+    ∷ judged (replaced 3 (limitWord 0 257)) 5 3
+    ∷ judged (replaced 3 (limitWord 0 511)) 5 3
+    -- 3 before 4 and 5; 4 before 5
+    ∷ judged (replaced 10 (spare 0 (limitWord 2 1))) 3 10
+    ∷ judged (replaced 3 (spare 0 (limitWord 2 1))) 4 3
+    -- 8, balance: the lowest bit of the end word, the highest of its 28 (the sum with 32 exclusions, above, drops its carries)
+    ∷ judged (endedBy (balance + wordOfKind 15 + 1)) 8 12
+    ∷ judged (endedBy (balance + wordOfKind 15 - 2 ^ 27)) 8 12
+    -- two faults of one word, the lower number: 3 before 4 and 5
+    ∷ judged (replaced 10 (spare 0 (assignWord 1 0))) 3 10
+    -- 4 before 5
+    ∷ judged (replaced 1 (spare 0 (assignWord 1 0))) 4 1
+    -- 5 before 6
+    ∷ judged (replaced 1 (seniorWord 2 2)) 5 1
+    -- 4 before 6
+    ∷ judged (replaced 11 (spare 0 (memberWord 0))) 4 11
+    -- 4 before 5, by n
+    ∷ judged (replaced 9 (spare 0 (exclusionWord 1 1 2))) 4 9
+    -- 3 before 6: a senior over itself where a member is due; a member again and not due
+    ∷ judged (replaced 10 (seniorWord 0 0)) 3 10
+    ∷ judged (replaced 12 (memberWord 0)) 3 12
+    -- 3 before 7: a 17th role where a member is due; as the last word
+    ∷ judged (imageBytes (ended (wide (assignments 16 ++ (exclusionWord 1 2 2 ∷ assignWord 0 16 ∷ []))))) 3 18
     ∷ judged (imageBytes (wide (assignments 17))) 3 17
-    ∷ judged (imageBytes (ended (wide (assignments 16 ++ (0x20100001 ∷ []))))) 4 17
-    ∷ judged (imageBytes (ended (wide (assignments 16 ++ (0x20110000 ∷ []))))) 5 17
-    ∷ judged (afterThirtyTwo (0x54082000 ∷ [])) 5 97
-    ∷ judged (afterThirtyTwo (0x54182000 ∷ [])) 5 97
-    -- two bad words: the earlier, whatever the numbers; 8 last
-    ∷ judged (edited 1 (0x40000000 ∷ 0x20000001 ∷ [])) 6 1
-    ∷ judged (edited 1 (0x20400000 ∷ 0x80000000 ∷ [])) 5 1
-    ∷ judged (unbalanced 1 (0x20400000 ∷ [])) 5 1
-    ∷ judged (imageBytes (wide (assignments 17) ++ (0xF0000001 ∷ []))) 7 17
+    -- 4 before 7: a 17th role with a spare bit
+    ∷ judged (imageBytes (ended (wide (assignments 16 ++ (spare 0 (assignWord 0 16) ∷ []))))) 4 17
+    -- 5 before 7: a 17th role not below R; a 33rd exclusion with n of 1, with n above m
+    ∷ judged (imageBytes (ended (wide (assignments 16 ++ (assignWord 0 17 ∷ []))))) 5 17
+    ∷ judged (afterThirtyTwo (exclusionWord 1 1 2 ∷ [])) 5 97
+    ∷ judged (afterThirtyTwo (exclusionWord 1 3 2 ∷ [])) 5 97
+    -- two bad words, the earlier: 6 before 4, 5 before 3
+    ∷ judged (edited 1 (seniorWord 0 0 ∷ spare 0 (assignWord 0 0) ∷ [])) 6 1
+    ∷ judged (edited 1 (assignWord 1 0 ∷ wordOfKind 8 ∷ [])) 5 1
+    -- 8 last: behind 5, behind 7
+    ∷ judged (unbalanced 1 (assignWord 1 0 ∷ [])) 5 1
+    ∷ judged (imageBytes (wide (assignments 17) ++ (unbalancing ∷ []))) 7 17
+    -- a head of kind 0, and so an image that does not balance
     ∷ judged (take 4 (imageBytes (0 ∷ [])) ++ imageBytes (drop 1 imageA)) 2 0
-    -- 22, loop: of two roles; of three, with a role above it that is not on it; two loops, the lowest role; not a loop: two ways down
-    ∷ judged (edited 1 (0x40010000 ∷ 0x40400000 ∷ 0x40010000 ∷ [])) 22 0
+    -- 22, loop: of two roles
+    ∷ judged (edited 1 (seniorWord 0 1 ∷ seniorWord 1 0 ∷ seniorWord 0 1 ∷ [])) 22 0
+    -- of three, with a role above it that is not on it
     ∷ judged (hierarchyOf (seniorWord 0 1 ∷ seniorWord 1 2 ∷ seniorWord 2 3 ∷ seniorWord 3 1 ∷ [])) 22 1
+    -- two loops, the lowest role
     ∷ judged (hierarchyOf (seniorWord 2 3 ∷ seniorWord 3 2 ∷ seniorWord 1 0 ∷ seniorWord 0 1 ∷ [])) 22 0
+    -- accepted: two ways down
     ∷ judged (hierarchyOf (seniorWord 0 1 ∷ seniorWord 0 2 ∷ seniorWord 1 3 ∷ seniorWord 2 3 ∷ [])) 0 0
-    -- after 8
-    ∷ judged (unbalanced 1 (0x40010000 ∷ 0x40400000 ∷ [])) 8 13
-    -- 23, reach: a role over 16 others, and over 15; 16 assigned, one of them over a further one, and over one of the 16
+    -- 8 before 22
+    ∷ judged (unbalanced 1 (seniorWord 0 1 ∷ seniorWord 1 0 ∷ [])) 8 13
+    -- 23, reach: a role over 16 others
     ∷ judged (imageBytes (ended (wide (assignments 1 ++ overOthers 16)))) 23 0
+    -- accepted: over 15
     ∷ judged (imageBytes (ended (wide (assignments 1 ++ overOthers 15)))) 0 0
+    -- 16 assigned, one of them over a further one
     ∷ judged (imageBytes (ended (wide (assignments 16 ++ (seniorWord 3 16 ∷ []))))) 23 0
+    -- accepted: over one of the 16
     ∷ judged (imageBytes (ended (wide (assignments 16 ++ (seniorWord 3 5 ∷ []))))) 0 0
-    -- the lowest user of two; nobody has the wide role
-    ∷ judged (imageBytes (ended (0x106440A0 ∷ 0x20400000 ∷ 0x20800000 ∷ overOthers 16))) 23 1
+    -- the lowest user of two
+    ∷ judged (imageBytes (ended (headWord 3 17 5 ∷ assignWord 1 0 ∷ assignWord 2 0 ∷ overOthers 16))) 23 1
+    -- accepted: nobody has the wide role
     ∷ judged (imageBytes (ended (wide (overOthers 16)))) 0 0
-    -- after 22 and after 8
+    -- 22 before 23
     ∷ judged (imageBytes (ended (wide (assignments 1 ++ overOthers 16 ++ (seniorWord 5 0 ∷ []))))) 22 0
-    ∷ judged (imageBytes (wide (assignments 1 ++ overOthers 16) ++ (0xF0000001 ∷ []))) 8 18
+    -- 8 before 23
+    ∷ judged (imageBytes (wide (assignments 1 ++ overOthers 16) ++ (unbalancing ∷ []))) 8 18
     ∷ []
 
 -- ---- the loop call
@@ -262,5 +333,5 @@ loopedImages =
     ∷ unchained (hierarchyOf (seniorWord 0 1 ∷ seniorWord 0 2 ∷ seniorWord 1 3 ∷ seniorWord 2 3 ∷ [])) 64 20 0
     ∷ unchained (imageBytes imageA) 63 19 0
     ∷ unchained (imageBytes loop) 65 19 0
-    ∷ unchained (unbalanced 1 (0x40010000 ∷ 0x40400000 ∷ [])) 63 8 13
+    ∷ unchained (unbalanced 1 (seniorWord 0 1 ∷ seniorWord 1 0 ∷ [])) 63 8 13
     ∷ []
