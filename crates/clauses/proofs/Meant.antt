@@ -99,7 +99,7 @@ module _ (p : Meaning) (l : Line) (k : ℕ) (row : ℕ → ℕ) (masks rooms : L
       (λ q h. ap (λ (c : List Literal). (fails (R + q + 1) ∷ c) ∷ []) (carriers-are q))
 
   abbrev other : Exclusion
-  other = record { kind = SsDmer; limit = 0; members = 0 }
+  other = record { kind = SsDmer; n = 0; members = 0 }
 
   from : From l k masks rooms other (p .exclusions) 0
   from j q = let e : 0 + j ≡ j = omega arith in rw e (s .reduced other j q)

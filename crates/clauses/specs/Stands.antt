@@ -12,7 +12,7 @@ use Rattle.model.specs.Reduced.{stays, maskOf, roomOf}
 -- an exclusion, reduced for session k of the line, by the members that are not counted yet and the room
 pub record Reduced (l : Line) (k : ℕ) (x : Exclusion) (mask room : ℕ) : Type 0 where
   pub members : mask ≡ maskOf (x .members) (stays l k (x .kind))
-  pub space : room ≡ roomOf (x .members) (x .limit) (stays l k (x .kind))
+  pub space : room ≡ roomOf (x .members) (x .n) (stays l k (x .kind))
 
 -- each role carries what its row says, and each exclusion is reduced
 pub record Stands (m : Meaning) (l : Line) (k : ℕ) (row : ℕ → ℕ) (masks rooms : List ℕ) (count : ℕ) : Type 0 where

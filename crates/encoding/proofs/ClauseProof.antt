@@ -128,8 +128,8 @@ pub few-clauses : (l : Line) (k a roles : ℕ) (x : Exclusion) → ExclusionInRa
 unfolding excluding room roomOf
 few-clauses l k a roles x h =
     let base = stays l k (x .kind) in
-    let c = counter-length (room x base) (x .limit) (omega arith) (let q = h .limit .0 in omega arith) a (uncounted x base) in
-    let m = mul-le-mul-right (x .limit) (uncounted-length x base) in
+    let c = counter-length (room x base) (x .n) (omega arith) (let q = h .n .0 in omega arith) a (uncounted x base) in
+    let m = mul-le-mul-right (x .n) (uncounted-length x base) in
     omega arith
 
 pub all-few : (l : Line) (k a roles : ℕ) (xs : List Exclusion) → Each (ExclusionInRange roles) xs → Each (FewClauses l k a) xs

@@ -75,6 +75,6 @@ pub record SoftIs (m : Meaning) (l : Line) (k lower upper a b : ℕ) : Type 0 wh
       → (t : ℕ) → admissible m l k lower upper t ≡ true → ¬ Before m a b t (named m v)
   pub below-top : (v : Valuation) → violated v (soft m a b) < top (soft m a b)
 
--- the clauses of an exclusion are at most 4 times its members times its limit
+-- the clauses of an exclusion are at most 4 times its members times its n
 abbrev pub FewClauses : Line → ℕ → ℕ → Exclusion → Type 0
-FewClauses l k a x = length (excluding l k a x) ≤ 4 * (count 64 (x .members) * x .limit)
+FewClauses l k a x = length (excluding l k a x) ≤ 4 * (count 64 (x .members) * x .n)

@@ -85,10 +85,10 @@ pub fn exclusion_fault(h: Head, t: Scan, x: Exclusion, m: u8) -> u8
     if h.roles < m {
         return 5;
     }
-    if x.limit < 2 {
+    if x.n < 2 {
         return 5;
     }
-    if m < x.limit {
+    if m < x.n {
         return 5;
     }
     if 32 <= t.exclusions {

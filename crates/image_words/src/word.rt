@@ -11,15 +11,15 @@ use model::Role;
 use model::User;
 use model::Word;
 
-// An exclusion word: its kind, its limit, how many member words follow, and its spare bits.
+// An exclusion word: its kind, its n, how many member words follow, and its spare bits.
 fn exclusion_word(w: u32) -> Word
-    ensures { λ r. ⌜ (r ≡ says (Entry.Exclude (record { kind = kindOf (field w 26 2); limit = field w 19 7; members = 0 }) (field w 12 7)) (w % 2 ^ 12))
+    ensures { λ r. ⌜ (r ≡ says (Entry.Exclude (record { kind = kindOf (field w 26 2); n = field w 19 7; members = 0 }) (field w 12 7)) (w % 2 ^ 12))
         × Small (r .entry) ⌝ }
 {
     let kind = rows::kind_of((w / 67108864 % 4) as u8);
     let x = Exclusion {
         kind,
-        limit: (w / 524288 % 128) as u8,
+        n: (w / 524288 % 128) as u8,
         members: 0,
     };
     Word {

@@ -57,12 +57,12 @@ active-named [] = none-within _
 active-named (s ∷ ss) = union-within (s .active) (activeIn ss) _ (first-active s ss) (within-trans _ _ _ (active-named ss) (rest-named s ss))
 
 -- ---- an exclusion that all named roles meet
-module _ (l : Line) (x : Exclusion) (few : ltb (count 64 (inter (x .members) (namedBy l))) (x .limit) ≡ true) where
-  few-of : (t : ℕ) → within t (namedBy l) ≡ true → ltb (count 64 (inter (x .members) t)) (x .limit) ≡ true
+module _ (l : Line) (x : Exclusion) (few : ltb (count 64 (inter (x .members) (namedBy l))) (x .n) ≡ true) where
+  few-of : (t : ℕ) → within t (namedBy l) ≡ true → ltb (count 64 (inter (x .members) t)) (x .n) ≡ true
   few-of t w =
       let m = x .members in
       let least = count-within 64 (inter m t) (inter m (namedBy l)) (inter-within m t (namedBy l) w) in
-      lt-ltb (count 64 (inter m t)) (x .limit) (omega (arith, least, ltb-true (count 64 (inter m (namedBy l))) (x .limit) few))
+      lt-ltb (count 64 (inter m t)) (x .n) (omega (arith, least, ltb-true (count 64 (inter m (namedBy l))) (x .n) few))
 
   one-met : (s : Session) → within (s .active) (namedIn (l .sessions)) ≡ true → within (s .history) (namedIn (l .sessions)) ≡ true
       → met (counted l s) x ≡ true
@@ -89,6 +89,6 @@ module _ (l : Line) (x : Exclusion) (few : ltb (count 64 (inter (x .members) (na
   unfolding metAt
   all-met = sym (each-met (l .sessions) (within-refl _))
 
-pub met-by-all : (l : Line) (x : Exclusion) {set : ℕ} {b : Bool} → set ≡ namedBy l → b ≡ ltb (count 64 (inter (x .members) set)) (x .limit) → b ≡ true
+pub met-by-all : (l : Line) (x : Exclusion) {set : ℕ} {b : Bool} → set ≡ namedBy l → b ≡ ltb (count 64 (inter (x .members) set)) (x .n) → b ≡ true
     → true ≡ metAt l x
-met-by-all l x n e t = all-met l x (ap (λ (s : ℕ). ltb (count 64 (inter (x .members) s)) (x .limit)) (sym n) ∙ sym e ∙ t)
+met-by-all l x n e t = all-met l x (ap (λ (s : ℕ). ltb (count 64 (inter (x .members) s)) (x .n)) (sym n) ∙ sym e ∙ t)

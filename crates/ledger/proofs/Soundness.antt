@@ -78,10 +78,10 @@ module _ (m : Meaning) (l : Line) (d : Session) (ss : List Session) (k : ℕ) wh
   sound-end h = rw (drop-of-length-le ss h)
 
 -- ---- an exclusion where no role is counted
-pub met-none : (counted : Kind → ℕ) (x : Exclusion) → counted (x .kind) ≡ 0 → ltb 0 (x .limit) ≡ met counted x
+pub met-none : (counted : Kind → ℕ) (x : Exclusion) → counted (x .kind) ≡ 0 → ltb 0 (x .n) ≡ met counted x
 unfolding met
 met-none counted x e =
-    ap (λ (n : ℕ). ltb n (x .limit)) (sym (ap (λ (s : ℕ). count 64 (bitAnd (x .members) s)) e ∙ ap (count 64) (and-zero-r (x .members)) ∙ count-empty 64))
+    ap (λ (n : ℕ). ltb n (x .n)) (sym (ap (λ (s : ℕ). count 64 (bitAnd (x .members) s)) e ∙ ap (count 64) (and-zero-r (x .members)) ∙ count-empty 64))
 
 -- ---- an exclusion of a kind that counts the same at all sessions, tested at one of them
 pub met-once : (l : Line) (x : Exclusion) (s : Session) (n : ℕ) → length (l .sessions) ≡ suc n

@@ -50,9 +50,9 @@ fn met_at(l: Line, s: Session, x: Exclusion) -> bool
     let kind = x.kind;
     let roles = counted(l, s, kind);
     if roles == 0 {
-        return 0 < x.limit;
+        return 0 < x.n;
     }
-    sets::fewer(x.members, roles, x.limit as u32)
+    sets::fewer(x.members, roles, x.n as u32)
 }
 
 // The exclusion is met at every session, each tested.
@@ -101,7 +101,7 @@ fn met_by_all(l: Line, all: u64, x: Exclusion) -> bool
     requires { ⌜ all ≡ namedBy l ⌝ }
     ensures { λ r. ⌜ r ≡ metAt l x ⌝ }
 {
-    if sets::fewer(x.members, all, x.limit as u32) {
+    if sets::fewer(x.members, all, x.n as u32) {
         return true;
     }
     exclusion_met(l, x)

@@ -101,7 +101,7 @@ uncounted x base = variablesIn (maskOf (x .members) base)
 
 -- fewer than this many of them may be chosen
 unfoldable pub room : Exclusion → ℕ → ℕ
-room x base = roomOf (x .members) (x .limit) base
+room x base = roomOf (x .members) (x .n) base
 
 -- The counter of the variables x₁, .., xₘ up to n: a row of n helpers for each. Where a row stands behind number a, its helper a + j says
 -- that at least j of the variables up to the row's own are true. The next row, of the variable x, stands behind a + n.

@@ -32,9 +32,9 @@ countedAfter l k s j MsDmer = union s (activeIn (others k (l .sessions)))
 countedAfter l k s j SsHmer = pick (eqb j k) (union (sessionAt l j .history) s) (sessionAt l j .history)
 countedAfter l k s j MsHmer = union (l .history) s
 
--- fewer than its limit of the exclusion's members are counted at session j
+-- fewer than n of the exclusion's members are counted at session j
 abbrev pub MetAfter : Line → ℕ → ℕ → ℕ → Exclusion → Type 0
-MetAfter l k s j x = count 64 (inter (x .members) (countedAfter l k s j (x .kind))) < x .limit
+MetAfter l k s j x = count 64 (inter (x .members) (countedAfter l k s j (x .kind))) < x .n
 
 -- the roles are the user's (condition 1), they provide every permission of the lower bound (2) and none outside the upper (3), where
 -- what they provide is what they carry (4 and 5), and every exclusion is met at every session (6)

@@ -71,7 +71,7 @@ abbrev small : Head
 small = record { users = 1; roles = 2; permissions = 5 }
 
 abbrev exclusion : ℕ → Exclusion
-exclusion n = record { kind = MsDmer; limit = n; members = 0 }
+exclusion n = record { kind = MsDmer; n = n; members = 0 }
 
 pub smallest-image : lengthRight 8 ≡ true
 unfolding computing
@@ -176,12 +176,12 @@ limitedBy t = record { head = small; assigned = []; granted = []; juniors = []; 
 pub limits-agree : ¬ Agree 0 (limitedBy 2) (limitedBy 3)
 limits-agree a = let e : _≡_ {A = ℕ} 2 3 = ap (λ (l : List ℕ). getD l 0 0) (a .limits) in omega arith
 
-pub met-below-the-limit : met (λ k. 3) (record { kind = MsDmer; limit = 2; members = 3 }) ≡ false
+pub met-below-n : met (λ k. 3) (record { kind = MsDmer; n = 2; members = 3 }) ≡ false
 unfolding computing
-met-below-the-limit = refl
+met-below-n = refl
 
--- a lower kind comes first, though its limit is higher
-pub kind-first : before (record { kind = SsDmer; limit = 3; members = 0 }) (exclusion 2) ≡ true
+-- a lower kind comes first, though its n is higher
+pub kind-first : before (record { kind = SsDmer; n = 3; members = 0 }) (exclusion 2) ≡ true
 unfolding computing
 kind-first = refl
 
@@ -351,7 +351,7 @@ lower-number = refl
 
 -- the roles 0 and 1 bar each other, by a kind
 abbrev bothOf : Kind → Exclusion
-bothOf kind = record { kind = kind; limit = 2; members = 3 }
+bothOf kind = record { kind = kind; n = 2; members = 3 }
 
 -- role 0 carries the permissions 0 and 2, role 1 permission 1, role 2 permission 3; the user may activate the roles 0 and 1; role 1 has the
 -- limit 2; of two exclusions of the roles 0 and 1 the later by kind stands first in the image

@@ -62,7 +62,7 @@ decode w =
     (pick (isKind w 3) (says (Grant (role (field w 22 6)) (permission (field w 14 8))) (w % 2 ^ 14))
     (pick (isKind w 4) (says (Senior (role (field w 22 6)) (role (field w 16 6))) (w % 2 ^ 16))
     (pick (isKind w 5)
-    (says (Exclude (record { kind = kindOf (field w 26 2); limit = field w 19 7; members = 0 }) (field w 12 7)) (w % 2 ^ 12))
+    (says (Exclude (record { kind = kindOf (field w 26 2); n = field w 19 7; members = 0 }) (field w 12 7)) (w % 2 ^ 12))
     (pick (isKind w 6) (says (Member (role (field w 22 6))) (w % 2 ^ 22))
     (pick (isKind w 7) (says (Limit (role (field w 22 6)) (field w 13 9)) (w % 2 ^ 13))
     (pick (isKind w 15) (says End 0) (says Unknown 0)))))))
@@ -85,7 +85,7 @@ unfoldable pub inRange : Head → Entry → Bool
 inRange h (Assignment u r) = ltb (u .0) (h .users) && ltb (r .0) (h .roles)
 inRange h (Grant r p) = ltb (r .0) (h .roles) && ltb (p .0) (h .permissions)
 inRange h (Senior a b) = ltb (a .0) (h .roles) && ltb (b .0) (h .roles)
-inRange h (Exclude x m) = between 1 m (h .roles) && between 2 (x .limit) m
+inRange h (Exclude x m) = between 1 m (h .roles) && between 2 (x .n) m
 inRange h (Member r) = ltb (r .0) (h .roles)
 inRange h (Limit r t) = ltb (r .0) (h .roles) && between 2 t 256
 inRange h End = true

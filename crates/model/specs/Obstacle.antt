@@ -14,7 +14,7 @@ use Rattle.model.specs.Limits.{Others, unbarred}
 use Rattle.model.specs.Choice.{carriedBy, admissible}
 use Rattle.model.specs.Reduced.{stays}
 
--- what stands in the way: its kind, what it is about (a permission, or the kind of an exclusion plus 4 times its limit), and two role sets
+-- what stands in the way: its kind, what it is about (a permission, or the kind of an exclusion plus 4 times its n), and two role sets
 pub record Obstacle : Type 0 where
   pub kind : ℕ
   pub about : ℕ
@@ -74,7 +74,7 @@ blocks l k (some y) =
     some
     (record {
       kind = 4;
-      about = kindNumber (y .kind) + 4 * y .limit;
+      about = kindNumber (y .kind) + 4 * y .n;
       first = inter (y .members) (stays l k (y .kind));
       second = y .members;
     })

@@ -40,7 +40,7 @@ Fits p ub r = (n : ℕ) → Carries p r n → has ub n ≡ true
 abbrev pub Exceeds : Policy → ℕ → ℕ → Type 0
 Exceeds p ub r = (n : ℕ) × Carries p r n × (has ub n ≡ false)
 
--- xs are the exclusions of a policy in the order of the tidy image, each once: ascending by kind, limit and member set
+-- xs are the exclusions of a policy in the order of the tidy image, each once: ascending by kind, n and member set
 pub record InTidyOrder (p : Policy) (xs : List Exclusion) : Type 0 where
   pub ascending : Ascending (λ x y. before x y ≡ true) xs
   pub members : (y : Exclusion) → List·Memᴰ y xs ↔ List·Memᴰ y (p .exclusions)
@@ -89,7 +89,7 @@ module _ (p : Policy) (u : ℕ) (x : Others) (l : Line) (k lb ub : ℕ) where
         → Members s (λ r. Authorized p u r × Carries p r q × Fits p ub r) → Stands (record { kind = 3; about = q; first = s; second = 0 })
     by-exclusion : (front rest : List Exclusion) (y : Exclusion) (s : ℕ) → InTidyOrder p (front ++ (y ∷ rest))
         → Left front → ¬ Left (front ++ (y ∷ [])) → Members s (λ r. (has (y .members) r ≡ true) × Counted y r)
-        → Stands (record { kind = 4; about = kindNumber (y .kind) + 4 * y .limit; first = s; second = y .members })
+        → Stands (record { kind = 4; about = kindNumber (y .kind) + 4 * y .n; first = s; second = y .members })
 
   -- what is told is what stands in the way, and nothing is told exactly if some set meets what the ask asks; where none does, exactly one
   -- thing stands in the way

@@ -62,7 +62,7 @@ joining s e = onMember s (λ r. with s (r .0)) e
 
 -- the exclusion with the members that the entries name
 unfoldable pub withMembers : Exclusion → List Entry → Exclusion
-withMembers x es = record { kind = x .kind; limit = x .limit; members = fold joining (x .members) es }
+withMembers x es = record { kind = x .kind; n = x .n; members = fold joining (x .members) es }
 
 -- those of the entries, in their order
 unfoldable pub exclusionsOf : List Entry → List Exclusion
@@ -77,9 +77,9 @@ kindNumber MsDmer = 1
 kindNumber SsHmer = 2
 kindNumber MsHmer = 3
 
--- by kind, then limit, then the number of the member set
+-- by kind, then n, then the number of the member set
 unfoldable pub before : Exclusion → Exclusion → Bool
-before x y = earlier (kindNumber (x .kind)) (kindNumber (y .kind)) (x .limit) (y .limit) (x .members) (y .members)
+before x y = earlier (kindNumber (x .kind)) (kindNumber (y .kind)) (x .n) (y .n) (x .members) (y .members)
 
 -- x put into an ascending list, unless it is there
 unfoldable pub insert : Exclusion → List Exclusion → List Exclusion
@@ -166,7 +166,7 @@ authorized p u = unionAt (reached p) (getD (p .assigned) u 0)
 
 -- the exclusion is met where kind k counts the roles `counted k`
 unfoldable pub met : (Kind → ℕ) → Exclusion → Bool
-met counted x = ltb (count 64 (inter (x .members) (counted (x .kind)))) (x .limit)
+met counted x = ltb (count 64 (inter (x .members) (counted (x .kind)))) (x .n)
 
 -- role r has a limit in the table
 unfoldable pub limited : List ℕ → ℕ → Bool
@@ -221,7 +221,7 @@ onlyFor u p =
     }
 
 unfoldable pub sameExclusion : Exclusion → Exclusion → Bool
-sameExclusion x y = eqb (kindNumber (x .kind)) (kindNumber (y .kind)) && eqb (x .limit) (y .limit) && eqb (x .members) (y .members)
+sameExclusion x y = eqb (kindNumber (x .kind)) (kindNumber (y .kind)) && eqb (x .n) (y .n) && eqb (x .members) (y .members)
 
 -- the exclusion is one of the policy's
 unfoldable pub excludes : Policy → Exclusion → Bool

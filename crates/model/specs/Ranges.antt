@@ -1,5 +1,5 @@
 -- What an accepted image says of its policy: every number is in its range, no user is assigned to more than 16 roles, and there are at
--- most 32 exclusions, each with a limit that its members can reach; a role's limit is from 2 to 256.
+-- most 32 exclusions, each with an n that its members can reach; a role's limit is from 2 to 256.
 -- Assumes nothing.
 use mathlib.Core.Path.{_≡_}
 use mathlib.Core.Bool.{true}
@@ -28,10 +28,10 @@ OneTo b n = (1 ≤ n) × (n ≤ b)
 abbrev pub TwoTo : ℕ → ℕ → Type 0
 TwoTo b n = (2 ≤ n) × (n ≤ b)
 
--- the exclusion names roles alone, at least two, and its limit (01: n) is at least 2 and at most their number (01: m)
+-- the exclusion names roles alone, at least two, and its n is at least 2 and at most their number (01: m)
 pub record ExclusionInRange (roles : ℕ) (x : Exclusion) : Type 0 where
   pub size : TwoTo roles (count 64 (x .members))
-  pub limit : TwoTo (count 64 (x .members)) (x .limit)
+  pub n : TwoTo (count 64 (x .members)) (x .n)
   pub members : x .members < 2 ^ roles
 
 -- a table of sets by number: a row that is not empty is one of the first m, and its members are below n

@@ -20,7 +20,7 @@ pub record Said (s : List ℕ) (e : Entry) : Type 0 where
   pub within : place ≤ behindHead s
   pub says : entryAt s place ≡ e
 
--- an exclusion word among the entries gives the kind and the limit of x, and the entries behind it, as many as it says, the members
+-- an exclusion word among the entries gives the kind and the n of x, and the entries behind it, as many as it says, the members
 pub record Excluded (es : List Entry) (x : Exclusion) : Type 0 where
   pub before : List Entry
   pub word : Exclusion

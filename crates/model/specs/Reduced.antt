@@ -24,6 +24,6 @@ stays l k c = stay c (activeIn (others k (l .sessions))) (sessionAt l k .history
 unfoldable pub maskOf : ℕ → ℕ → ℕ
 maskOf members base = bitXor members (bitAnd members base)
 
--- one more than the number of them that may still join, 0 where the limit is reached
+-- one more than the number of them that may still join, 0 where n is reached
 unfoldable pub roomOf : ℕ → ℕ → ℕ → ℕ
-roomOf members limit base = limit - count 64 (inter members base)
+roomOf members n base = n - count 64 (inter members base)

@@ -18,7 +18,7 @@ grantWord role permission = 3 * 2 ^ 28 + role * 2 ^ 22 + permission * 2 ^ 14
 unfoldable pub seniorWord : ℕ → ℕ → ℕ
 seniorWord a b = 4 * 2 ^ 28 + a * 2 ^ 22 + b * 2 ^ 16
 
--- of a kind, with limit n and m members
+-- of a kind, with n and m members
 unfoldable pub exclusionWord : ℕ → ℕ → ℕ → ℕ
 exclusionWord kind n m = 5 * 2 ^ 28 + kind * 2 ^ 26 + n * 2 ^ 19 + m * 2 ^ 12
 

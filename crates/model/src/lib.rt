@@ -30,10 +30,10 @@ pub enum Kind {
     MsHmer,
 }
 
-// A mutual exclusion: fewer than `limit` (01: n) of its members may be counted. The members are a role set.
+// A mutual exclusion: fewer than n of its members may be counted. The members are a role set.
 pub struct Exclusion {
     pub kind: Kind,
-    pub limit: u8,
+    pub n: u8,
     pub members: u64,
 }
 

@@ -44,7 +44,7 @@ agree =
       own = refl;
       grants = refl;
       seniors = refl;
-      exclusions = λ x. twice (sameExclusion (record { kind = MsDmer; limit = 2; members = 3 }) x);
+      exclusions = λ x. twice (sameExclusion (record { kind = MsDmer; n = 2; members = 3 }) x);
       limits = refl;
     }
 

@@ -185,15 +185,15 @@ module _ (h : Head) (small : h .roles ≤ 64) where
     exclusion-in-range =
         let a = leb 1 m in
         let b = leb m (h .roles) in
-        let c = leb 2 (x .limit) in
-        let d = leb (x .limit) m in
+        let c = leb 2 (x .n) in
+        let d = leb (x .n) m in
         let g = v .0 .range in
         let n = sym (due-members .0) in
-        let low = leb-true 2 (x .limit) (and-l c d (and-r (a && b) (c && d) g)) in
-        let high = leb-true (x .limit) m (and-r c d (and-r (a && b) (c && d) g)) in
+        let low = leb-true 2 (x .n) (and-l c d (and-r (a && b) (c && d) g)) in
+        let high = leb-true (x .n) m (and-r c d (and-r (a && b) (c && d) g)) in
         record {
           size = subst (TwoTo (h .roles)) n (le-trans low high, leb-true m (h .roles) (and-r a b (and-l (a && b) (c && d) g)));
-          limit = subst (λ (k : ℕ). TwoTo k (x .limit)) n (low, high);
+          n = subst (λ (k : ℕ). TwoTo k (x .n)) n (low, high);
           members = due-members .1;
         }
 

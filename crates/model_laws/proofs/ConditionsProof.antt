@@ -28,15 +28,15 @@ use Rattle.model_laws.proofs.Every.{all-mem, mem-all, all-at, at-all}
 
 -- ---- the exclusions of a line
 
--- fewer than its limit of the exclusion's members are counted
+-- fewer than n of the exclusion's members are counted
 abbrev pub Met : (Kind → ℕ) → Exclusion → Type 0
-Met f x = count 64 (inter (x .members) (f (x .kind))) < x .limit
+Met f x = count 64 (inter (x .members) (f (x .kind))) < x .n
 
 -- the test of an exclusion tells that
 pub met-iff : (f : Kind → ℕ) (x : Exclusion) → (met f x ≡ true) ↔ Met f x
 unfolding met
 met-iff f x =
-    (λ e. ltb-true (count 64 (inter (x .members) (f (x .kind)))) (x .limit) e, λ h. lt-ltb (count 64 (inter (x .members) (f (x .kind)))) (x .limit) h)
+    (λ e. ltb-true (count 64 (inter (x .members) (f (x .kind)))) (x .n) e, λ h. lt-ltb (count 64 (inter (x .members) (f (x .kind)))) (x .n) h)
 
 -- every exclusion of the policy is met at every session
 abbrev pub AllMet : Policy → Line → Type 0
@@ -117,7 +117,7 @@ module _ (l : Line) (k s : ℕ) where
   elsewhere : (x : Exclusion) (j : ℕ) → MetAfter l k s k x → Met (counted l (sessionAt l j)) x → MetAfter l k s j x
   elsewhere x j a b =
       cases (eqb j k) (λ e. rw (eqb-true j k e) a)
-      (λ e. as-before (λ (n : ℕ). count 64 (inter (x .members) n) < x .limit) j e (x .kind) a b)
+      (λ e. as-before (λ (n : ℕ). count 64 (inter (x .members) n) < x .n) j e (x .kind) a b)
 
 -- ---- the conditions
 

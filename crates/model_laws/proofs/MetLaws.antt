@@ -28,8 +28,8 @@ module _ (f g : Kind → ℕ) (h : Fewer f g) where
   met-antitone x e =
       let a = inter (x .members) (f (x .kind)) in
       let b = inter (x .members) (g (x .kind)) in
-      lt-ltb (count 64 a) (x .limit)
-      (lt-of-le-of-lt (count-within 64 a b (inter-within (x .members) (f (x .kind)) (g (x .kind)) (h (x .kind)))) (ltb-true (count 64 b) (x .limit) e))
+      lt-ltb (count 64 a) (x .n)
+      (lt-of-le-of-lt (count-within 64 a b (inter-within (x .members) (f (x .kind)) (g (x .kind)) (h (x .kind)))) (ltb-true (count 64 b) (x .n) e))
 
   -- so it is with all of them
   all-antitone : (xs : List Exclusion) → all (met g) xs ≡ true → all (met f) xs ≡ true
@@ -40,12 +40,12 @@ pub meaning-antitone : (p : Policy) (u : ℕ) → Antitone (meaning p u)
 unfolding meaning
 meaning-antitone p u f g h e = all-antitone f g h (p .exclusions) e
 
--- a limit is at least 2, so an exclusion is met where nothing is counted
+-- n is at least 2, so an exclusion is met where nothing is counted
 met-none : (roles : ℕ) (x : Exclusion) → ExclusionInRange roles x → met (λ k. 0) x ≡ true
 unfolding met
 met-none roles x r =
-    lt-ltb (count 64 (inter (x .members) 0)) (x .limit)
-    (rw (ap (count 64) (and-zero-r (x .members)) ∙ count-empty 64) (let k = r .limit .0 in omega arith))
+    lt-ltb (count 64 (inter (x .members) 0)) (x .n)
+    (rw (ap (count 64) (and-zero-r (x .members)) ∙ count-empty 64) (let k = r .n .0 in omega arith))
 
 -- so are all of them
 all-none : (roles : ℕ) (xs : List Exclusion) → Each (ExclusionInRange roles) xs → all (met (λ k. 0)) xs ≡ true

@@ -431,7 +431,7 @@ module _ (p : Policy) (range : InRange p) (u : ℕ) (x : Others) (l : Line) (k l
       subst It (Option·some-injective _ o (w .2)) (fourth (w .0) b)
     where
       fourth : (y : Exclusion) → BlocksAt (left free l k lb ub) [] (meaning p u .ordered) y
-          → It (record { kind = 4; about = kindNumber (y .kind) + 4 * y .limit; first = inter (y .members) (stays l k (y .kind)); second = y .members })
+          → It (record { kind = 4; about = kindNumber (y .kind) + 4 * y .n; first = inter (y .members) (stays l k (y .kind)); second = y .members })
       fourth y b =
           let e : sorted (p .exclusions) ≡ b .before ++ (y ∷ b .after) = unfold meaning in (b .parts) in
           let f : sorted (p .exclusions) ≡ (b .before ++ (y ∷ [])) ++ b .after = e ∙ sym (append-assoc (b .before) (y ∷ []) (b .after)) in
@@ -485,7 +485,7 @@ module _ (p : Policy) (range : InRange p) (u : ℕ) (x : Others) (l : Line) (k l
       ∙ (λ i. some (shown y (same-members _ c _ (stays-is l k y) g i)))
     where
       shown : Exclusion → ℕ → Obstacle
-      shown y c = record { kind = 4; about = kindNumber (y .kind) + 4 * y .limit; first = c; second = y .members }
+      shown y c = record { kind = 4; about = kindNumber (y .kind) + 4 * y .n; first = c; second = y .members }
 
   -- nothing that is told is lost
   readable : (o : Obstacle) → It o → Readable o

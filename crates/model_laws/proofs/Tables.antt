@@ -204,7 +204,7 @@ module _ (P : Entry → Type 0)
     (by-kind : (w : ℕ)
     → P (Assignment (user (field w 22 6)) (role (field w 16 6))) × P (Grant (role (field w 22 6)) (permission (field w 14 8)))
     × P (Senior (role (field w 22 6)) (role (field w 16 6)))
-    × P (Exclude (record { kind = kindOf (field w 26 2); limit = field w 19 7; members = 0 }) (field w 12 7))
+    × P (Exclude (record { kind = kindOf (field w 26 2); n = field w 19 7; members = 0 }) (field w 12 7))
     × P (Member (role (field w 22 6))) × P (Limit (role (field w 22 6)) (field w 13 9)) × P End × P Unknown) where
   -- the fact of a word's entry
   of-word : Word → Type 0

@@ -36,7 +36,7 @@ counted-back members base =
 
 pub told-blocks : (rows : List (List ℕ)) (j : ℕ) (l : Line) (k mask n : ℕ) (e : Exclusion) → e ≡ exclusionOf (getD rows j []) → n ≡ kindNumber (e .kind)
     → mask ≡ maskOf (getD (map exclusionOf rows) j (exclusionOf []) .members) (stays l k (getD (map exclusionOf rows) j (exclusionOf []) .kind))
-    → foundOf (One (record { kind = 4; about = n + 4 * e .limit; first = bitXor (e .members) mask; second = e .members }))
+    → foundOf (One (record { kind = 4; about = n + 4 * e .n; first = bitXor (e .members) mask; second = e .members }))
     ≡ blocks l k (some (exclusionOf (getD rows j [])))
 unfolding foundOf blocks
 told-blocks rows j l k mask n e q r h =
@@ -44,4 +44,4 @@ told-blocks rows j l k mask n e q r h =
     let same : y ≡ e = row-at rows j ∙ sym q in
     let f : bitXor (e .members) mask ≡ inter (e .members) (stays l k (e .kind)) =
     ap (bitXor (e .members)) (h ∙ ap (λ (z : Exclusion). maskOf (z .members) (stays l k (z .kind))) same) ∙ counted-back (e .members) (stays l k (e .kind)) in
-    (λ i. some (record { kind = 4; about = r i + 4 * e .limit; first = f i; second = e .members })) ∙ ap (λ (z : Exclusion). blocks l k (some z)) q
+    (λ i. some (record { kind = 4; about = r i + 4 * e .n; first = f i; second = e .members })) ∙ ap (λ (z : Exclusion). blocks l k (some z)) q

@@ -85,7 +85,7 @@ fn before_blocking(
     before_blocking(rows, masks, rooms, lower, free, turned, low, middle)
 }
 
-// What is told of the exclusion of row j: its kind and limit, the members that stay counted whatever is put in for session k, all members.
+// What is told of the exclusion of row j: its kind and n, the members that stay counted whatever is put in for session k, all members.
 fn told_at(xs: &[[u64; 2]; 32], masks: &[u64; 32], j: usize) -> Told
     requires { ⌜ (j < 32) × (length (now xs) ≡ 32) ⌝ }
     ensures { λ t. ⌜ ((l : Line) (k : ℕ) → ReducedAt (now (xs .entry)) (now (masks .entry)) l k j
@@ -96,7 +96,7 @@ fn told_at(xs: &[[u64; 2]; 32], masks: &[u64; 32], j: usize) -> Told
     let members = x.members;
     Told {
         kind: 4,
-        about: number_of(kind) as u16 + 4 * (x.limit as u16),
+        about: number_of(kind) as u16 + 4 * (x.n as u16),
         first: members ^ masks[j],
         second: members,
     }

@@ -58,18 +58,18 @@ module _ (m b s : ℕ) where
       ∙ ap₂ (λ (x y : Bool). one x + one y) (sym (has-inter m b d)) (sym (has-inter (maskOf m b) s d ∙ ap (λ (x : Bool). x && has s d) (has-lacking m b d))) in
       omega (arith, apart d)
 
-  pub fits-same : (limit : ℕ) → fits (maskOf m b) (roomOf m limit b) s ≡ ltb (count 64 (inter m (union b s))) limit
+  pub fits-same : (n : ℕ) → fits (maskOf m b) (roomOf m n b) s ≡ ltb (count 64 (inter m (union b s))) n
   unfolding fits roomOf
-  fits-same limit = go (ltb (count 64 (inter (maskOf m b) s)) (limit - count 64 (inter m b))) refl
+  fits-same n = go (ltb (count 64 (inter (maskOf m b) s)) (n - count 64 (inter m b))) refl
     where
-      go : (x : Bool) → ltb (count 64 (inter (maskOf m b) s)) (limit - count 64 (inter m b)) ≡ x
-          → ltb (count 64 (inter (maskOf m b) s)) (limit - count 64 (inter m b)) ≡ ltb (count 64 (inter m (union b s))) limit
+      go : (x : Bool) → ltb (count 64 (inter (maskOf m b) s)) (n - count 64 (inter m b)) ≡ x
+          → ltb (count 64 (inter (maskOf m b) s)) (n - count 64 (inter m b)) ≡ ltb (count 64 (inter m (union b s))) n
       go true e =
-          let h = ltb-true (count 64 (inter (maskOf m b) s)) (limit - count 64 (inter m b)) e in
-          e ∙ sym (lt-ltb (count 64 (inter m (union b s))) limit (omega (arith, apart 64)))
+          let h = ltb-true (count 64 (inter (maskOf m b) s)) (n - count 64 (inter m b)) e in
+          e ∙ sym (lt-ltb (count 64 (inter m (union b s))) n (omega (arith, apart 64)))
       go false e =
-          let h = ltb-false (count 64 (inter (maskOf m b) s)) (limit - count 64 (inter m b)) e in
-          e ∙ sym (le-ltb (count 64 (inter m (union b s))) limit (omega (arith, apart 64)))
+          let h = ltb-false (count 64 (inter (maskOf m b) s)) (n - count 64 (inter m b)) e in
+          e ∙ sym (le-ltb (count 64 (inter m (union b s))) n (omega (arith, apart 64)))
 
 -- ---- what each kind counts at session k then: what stays, and s
 counted-then : (l : Line) (k s : ℕ) (c : Kind) → countedAfter l k s k c ≡ union (stays l k c) s
@@ -81,16 +81,16 @@ counted-then l k s MsHmer = refl
 
 -- the exclusion is met at session k once s is put in
 unfoldable metThen : Line → ℕ → ℕ → Exclusion → Bool
-metThen l k s x = fits (maskOf (x .members) (stays l k (x .kind))) (roomOf (x .members) (x .limit) (stays l k (x .kind))) s
+metThen l k s x = fits (maskOf (x .members) (stays l k (x .kind))) (roomOf (x .members) (x .n) (stays l k (x .kind))) s
 
 met-then : (l : Line) (k s : ℕ) (x : Exclusion) → (metThen l k s x ≡ true) ↔ MetAfter l k s k x
 unfolding metThen
 met-then l k s x =
-    let e : metThen l k s x ≡ ltb (count 64 (inter (x .members) (countedAfter l k s k (x .kind)))) (x .limit) =
-    fits-same (x .members) (stays l k (x .kind)) s (x .limit) ∙ ap (λ (n : ℕ). ltb (count 64 (inter (x .members) n)) (x .limit))
+    let e : metThen l k s x ≡ ltb (count 64 (inter (x .members) (countedAfter l k s k (x .kind)))) (x .n) =
+    fits-same (x .members) (stays l k (x .kind)) s (x .n) ∙ ap (λ (n : ℕ). ltb (count 64 (inter (x .members) n)) (x .n))
     (sym (counted-then l k s (x .kind))) in (
-      λ h. ltb-true _ (x .limit) (sym e ∙ h),
-      λ h. e ∙ lt-ltb _ (x .limit) h,
+      λ h. ltb-true _ (x .n) (sym e ∙ h),
+      λ h. e ∙ lt-ltb _ (x .n) h,
     )
 
 -- ---- all exclusions, of a policy that the line meets
@@ -124,7 +124,7 @@ module _ (p : Policy) (u : ℕ) (l : Line) (k : ℕ) (inside : k < length (l .se
   -- the exclusions are the first n of a list, and masks and rooms have them reduced
   pub reduced-same : (xs : List Exclusion) (d : Exclusion) (n : ℕ) (masks rooms : List ℕ) → n ≤ length xs → p .exclusions ≡ take n xs
       → ((i : ℕ) → i < n → getD masks i 0 ≡ maskOf (getD xs i d .members) (stays l k (getD xs i d .kind)))
-      → ((i : ℕ) → i < n → getD rooms i 0 ≡ roomOf (getD xs i d .members) (getD xs i d .limit) (stays l k (getD xs i d .kind)))
+      → ((i : ℕ) → i < n → getD rooms i 0 ≡ roomOf (getD xs i d .members) (getD xs i d .n) (stays l k (getD xs i d .kind)))
       → exclusionsMet (meaning p u) (putIn k s l) ≡ roomy masks rooms n s
   unfolding roomy metThen
   reduced-same xs d n masks rooms h e em er =
@@ -144,7 +144,7 @@ pub record Filled (xs : List Exclusion) (d : Exclusion) (elsewhere session user 
   pub long : length masks ≡ 32
   pub wide : length rooms ≡ 32
   pub mask : (i : ℕ) → i < n → getD masks i 0 ≡ maskOf (getD xs i d .members) (stay (getD xs i d .kind) elsewhere session user)
-  pub room : (i : ℕ) → i < n → getD rooms i 0 ≡ roomOf (getD xs i d .members) (getD xs i d .limit) (stay (getD xs i d .kind) elsewhere session user)
+  pub room : (i : ℕ) → i < n → getD rooms i 0 ≡ roomOf (getD xs i d .members) (getD xs i d .n) (stay (getD xs i d .kind) elsewhere session user)
 
 -- what holds below n and, stored, at n holds below n + 1
 stored : (f : ℕ → ℕ) (l : List ℕ) (n v : ℕ) → n < length l → ((i : ℕ) → i < n → getD l i 0 ≡ f i) → v ≡ f n → (i : ℕ) → i < n + 1 → getD (set l n v) i 0 ≡ f i
@@ -161,21 +161,21 @@ module _ (xs : List Exclusion) (d : Exclusion) (elsewhere session user : ℕ) wh
   filled-none masks rooms a b = record { long = a; wide = b; mask = λ i q. absurd (omega arith); room = λ i q. absurd (omega arith) }
 
   pub filled-next : (masks rooms : List ℕ) (n base v w : ℕ) (x : Exclusion) → n < 32 → Filled xs d elsewhere session user masks rooms n
-      → x ≡ getD xs n d → base ≡ stay (x .kind) elsewhere session user → v ≡ maskOf (x .members) base → w ≡ roomOf (x .members) (x .limit) base
+      → x ≡ getD xs n d → base ≡ stay (x .kind) elsewhere session user → v ≡ maskOf (x .members) base → w ≡ roomOf (x .members) (x .n) base
       → Filled xs d elsewhere session user (set masks n v) (set rooms n w) (n + 1)
   filled-next masks rooms n base v w x q f ex eb ev ew =
       let kb : base ≡ stay (getD xs n d .kind) elsewhere session user = eb ∙ ap (λ (y : Exclusion). stay (y .kind) elsewhere session user) ex in
       let kv : v ≡ maskOf (getD xs n d .members) base = ev ∙ ap (λ (y : Exclusion). maskOf (y .members) base) ex in
-      let kw : w ≡ roomOf (getD xs n d .members) (getD xs n d .limit) base = ew ∙ ap (λ (y : Exclusion). roomOf (y .members) (y .limit) base) ex in
+      let kw : w ≡ roomOf (getD xs n d .members) (getD xs n d .n) base = ew ∙ ap (λ (y : Exclusion). roomOf (y .members) (y .n) base) ex in
       record {
         long = length-set masks n v ∙ f .long;
         wide = length-set rooms n w ∙ f .wide;
         mask = stored (λ i. maskOf (getD xs i d .members) (stay (getD xs i d .kind) elsewhere session user)) masks n v
             (subst (λ (x : ℕ). n < x) (sym (f .long)) q) (f .mask)
             (kv ∙ ap (maskOf (getD xs n d .members)) kb);
-        room = stored (λ i. roomOf (getD xs i d .members) (getD xs i d .limit) (stay (getD xs i d .kind) elsewhere session user)) rooms n w
+        room = stored (λ i. roomOf (getD xs i d .members) (getD xs i d .n) (stay (getD xs i d .kind) elsewhere session user)) rooms n w
             (subst (λ (x : ℕ). n < x) (sym (f .wide)) q) (f .room)
-            (kw ∙ ap (roomOf (getD xs n d .members) (getD xs n d .limit)) kb);
+            (kw ∙ ap (roomOf (getD xs n d .members) (getD xs n d .n)) kb);
       }
 
 -- what an element is does not depend on what stands for one outside
@@ -194,16 +194,16 @@ reduces x d l k elsewhere session n masks rooms hk hx hn ee es f =
     record {
       same = λ p u e met s own. reduced-same p u l k hk met s own (x .list) d (x .count) masks rooms hx e em er;
       members = λ o i q. em i q ∙ ap (λ (y : Exclusion). maskOf (y .members) (stays l k (y .kind))) (inside-any (x .list) i d o (omega arith));
-      space = λ o i q. er i q ∙ ap (λ (y : Exclusion). roomOf (y .members) (y .limit) (stays l k (y .kind))) (inside-any (x .list) i d o (omega arith));
+      space = λ o i q. er i q ∙ ap (λ (y : Exclusion). roomOf (y .members) (y .n) (stays l k (y .kind))) (inside-any (x .list) i d o (omega arith));
     }
   where
     em : (i : ℕ) → i < x .count → getD masks i 0 ≡ maskOf (getD (x .list) i d .members) (stays l k (getD (x .list) i d .kind))
     em i q = f .mask i (omega arith) ∙ ap₂ (λ (a b : ℕ). maskOf (getD (x .list) i d .members) (stay (getD (x .list) i d .kind) a b (l .history))) ee es
 
-    er : (i : ℕ) → i < x .count → getD rooms i 0 ≡ roomOf (getD (x .list) i d .members) (getD (x .list) i d .limit) (stays l k (getD (x .list) i d .kind))
+    er : (i : ℕ) → i < x .count → getD rooms i 0 ≡ roomOf (getD (x .list) i d .members) (getD (x .list) i d .n) (stays l k (getD (x .list) i d .kind))
     er i q =
         f .room i (omega arith)
-        ∙ ap₂ (λ (a b : ℕ). roomOf (getD (x .list) i d .members) (getD (x .list) i d .limit) (stay (getD (x .list) i d .kind) a b (l .history))) ee es
+        ∙ ap₂ (λ (a b : ℕ). roomOf (getD (x .list) i d .members) (getD (x .list) i d .n) (stay (getD (x .list) i d .kind) a b (l .history))) ee es
 
 -- a list that is mapped is as long
 pub length-mapped : (X Y : Type 0) (f : X → Y) (l : List X) (n : ℕ) → length (map f l) ≡ n → length l ≡ n

@@ -23,4 +23,4 @@ pub record Reduces (x : Exclusions) (l : Line) (k : ℕ) (masks rooms : List ℕ
   pub members : (d : Exclusion) (i : ℕ) → i < x .count
       → getD masks i 0 ≡ maskOf (getD (x .list) i d .members) (stays l k (getD (x .list) i d .kind))
   pub space : (d : Exclusion) (i : ℕ) → i < x .count
-      → getD rooms i 0 ≡ roomOf (getD (x .list) i d .members) (getD (x .list) i d .limit) (stays l k (getD (x .list) i d .kind))
+      → getD rooms i 0 ≡ roomOf (getD (x .list) i d .members) (getD (x .list) i d .n) (stays l k (getD (x .list) i d .kind))

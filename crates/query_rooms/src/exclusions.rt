@@ -53,11 +53,11 @@ fn mask_of(members: u64, base: u64) -> u64
     members ^ (members & base)
 }
 
-// One more than the number of members that may still join, or 0 where the limit is reached.
-fn room_of(members: u64, limit: u8, base: u64) -> u32
-    ensures { λ r. ⌜ r ≡ roomOf members limit base ⌝ }
+// One more than the number of members that may still join, or 0 where n is reached.
+fn room_of(members: u64, n: u8, base: u64) -> u32
+    ensures { λ r. ⌜ r ≡ roomOf members n base ⌝ }
 {
-    let most = limit as u32;
+    let most = n as u32;
     let used = sets::size(sets::inter(members, base));
     if used < most {
         return most - used;
@@ -82,7 +82,7 @@ pub fn reduce(xs: &[[u64; 2]; 32], count: usize, line: Line, k: usize) -> Reduce
         let kind = x.kind;
         let base = staying(kind, elsewhere, own, user);
         masks[i] = mask_of(x.members, base);
-        rooms[i] = room_of(x.members, x.limit, base);
+        rooms[i] = room_of(x.members, x.n, base);
         i += 1;
     }
     Reduced {

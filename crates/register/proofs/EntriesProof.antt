@@ -80,7 +80,7 @@ module _ (w : ℕ) (low : w < 2 ^ 32) where
   read-senior e = let k = of 4 e in λ z. omega arith
 
   read-exclusion : isKind w 5 ≡ true
-      → Reads w (says (Exclude (record { kind = kindOf (field w 26 2); limit = field w 19 7; members = 0 }) (field w 12 7)) (w % 2 ^ 12))
+      → Reads w (says (Exclude (record { kind = kindOf (field w 26 2); n = field w 19 7; members = 0 }) (field w 12 7)) (w % 2 ^ 12))
   unfolding exclusionWord
   read-exclusion e =
       let k = of 5 e in
@@ -130,7 +130,7 @@ decodeBy k w =
     (pick (eqb k 3) (says (Grant (role (field w 22 6)) (permission (field w 14 8))) (w % 2 ^ 14))
     (pick (eqb k 4) (says (Senior (role (field w 22 6)) (role (field w 16 6))) (w % 2 ^ 16))
     (pick (eqb k 5)
-    (says (Exclude (record { kind = kindOf (field w 26 2); limit = field w 19 7; members = 0 }) (field w 12 7)) (w % 2 ^ 12))
+    (says (Exclude (record { kind = kindOf (field w 26 2); n = field w 19 7; members = 0 }) (field w 12 7)) (w % 2 ^ 12))
     (pick (eqb k 6) (says (Member (role (field w 22 6))) (w % 2 ^ 22))
     (pick (eqb k 7) (says (Limit (role (field w 22 6)) (field w 13 9)) (w % 2 ^ 13))
     (pick (eqb k 15) (says End 0) (says Unknown 0)))))))
@@ -164,7 +164,7 @@ says-nothing w (inr l) =
     )
 
 write-exclusion : (k : Kind) (n m : ℕ) → n < 2 ^ 7 → m < 2 ^ 7
-    → decode (exclusionWord (kindNumber k) n m) ≡ says (Exclude (record { kind = k; limit = n; members = 0 }) m) 0
+    → decode (exclusionWord (kindNumber k) n m) ≡ says (Exclude (record { kind = k; n = n; members = 0 }) m) 0
 unfolding decodeBy pick exclusionWord
 write-exclusion k n m a b =
     let w = exclusionWord (kindNumber k) n m in
@@ -175,7 +175,7 @@ write-exclusion k n m a b =
     let y : field w 12 7 ≡ m = omega arith in
     let z : w % 2 ^ 12 ≡ 0 = omega arith in
     let q : kindOf (field w 26 2) ≡ k = ap kindOf v ∙ kind-of k in
-    decode-by w 5 t ∙ (λ i. says (Exclude (record { kind = q i; limit = x i; members = 0 }) (y i)) (z i))
+    decode-by w 5 t ∙ (λ i. says (Exclude (record { kind = q i; n = x i; members = 0 }) (y i)) (z i))
 
 writes : (w : ℕ) (e : Entry) → Fits e → IsWord w e → decode w ≡ says e 0
 unfolding decodeBy pick assignWord grantWord seniorWord memberWord limitWord endWord
@@ -198,8 +198,8 @@ writes w (Senior r j) (a, b) q =
     let z : w % 2 ^ 16 ≡ 0 = omega arith in
     decode-by w 4 k ∙ (λ i. says (Senior (role (x i)) (role (y i))) (z i))
 writes w (Exclude x m) (a, b, c) q =
-    ap decode q ∙ write-exclusion (x .kind) (x .limit) m a b
-    ∙ (λ i. says (Exclude (record { kind = x .kind; limit = x .limit; members = sym c i }) m) 0)
+    ap decode q ∙ write-exclusion (x .kind) (x .n) m a b
+    ∙ (λ i. says (Exclude (record { kind = x .kind; n = x .n; members = sym c i }) m) 0)
 writes w (Member r) a q =
     let k : field w 28 4 ≡ 6 = omega arith in
     let x : field w 22 6 ≡ r .0 = omega arith in

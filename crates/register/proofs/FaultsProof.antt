@@ -127,7 +127,7 @@ range-decides h (Assignment u r) = two-below (u .0) (h .users) (r .0) (h .roles)
 range-decides h (Grant r p) = two-below (r .0) (h .roles) (p .0) (h .permissions)
 range-decides h (Senior a b) = two-below (a .0) (h .roles) (b .0) (h .roles)
 range-decides h (Exclude x m) =
-    nand-decides (between 1 m (h .roles)) (between 2 (x .limit) m) (outside 1 m (h .roles)) (outside 2 (x .limit) m)
+    nand-decides (between 1 m (h .roles)) (between 2 (x .n) m) (outside 1 m (h .roles)) (outside 2 (x .n) m)
 range-decides h (Member r) = not-below-decides (r .0) (h .roles)
 range-decides h (Limit r t) = nand-decides (ltb (r .0) (h .roles)) (between 2 t 256) (not-below-decides (r .0) (h .roles)) (outside 2 t 256)
 range-decides h End = never

@@ -56,6 +56,6 @@ module _ (l : Line) (k s j : ℕ) where
   met-is =
       record {
         counts = counts;
-        met = λ x low. fewer-is (x .limit) (x .members) (countedAfter l k s j (x .kind)) (CountedAfter l k s j (x .kind))
+        met = λ x low. fewer-is (x .n) (x .members) (countedAfter l k s j (x .kind)) (CountedAfter l k s j (x .kind))
             (λ r e. has-below 64 (x .members) r low e) (counts (x .kind));
       }

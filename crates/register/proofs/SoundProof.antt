@@ -53,7 +53,7 @@ module _ (s : List ℕ) (h : Head) (accepted : judge s ≡ Accepted h) (W u : �
   counted-is j SsHmer r = (λ e. e, λ e. e)
   counted-is j MsHmer r = (λ e. e, λ e. e)
 
-  -- an exclusion is met where fewer members than its limit are counted
+  -- an exclusion is met where fewer members than its n are counted
   module _ (x : Exclusion) (mem : List·Memᴰ x (p .exclusions)) (j : ℕ) where
     abbrev Both : ℕ → Type 0
     Both r = (has (x .members) r ≡ true) × Counted W l j (x .kind) r
@@ -65,8 +65,8 @@ module _ (s : List ℕ) (h : Head) (accepted : judge s ≡ Accepted h) (W u : �
         let b = range .roles .1 in
         omega arith
 
-    met-is : (count 64 (inter (x .members) (counted l (sessionAt l j) (x .kind))) < x .limit) ↔ (¬ Many (x .limit) Both)
-    met-is = fewer-is (x .limit) (x .members) (counted l (sessionAt l j) (x .kind)) (Counted W l j (x .kind)) members-low (counted-is j (x .kind))
+    met-is : (count 64 (inter (x .members) (counted l (sessionAt l j) (x .kind))) < x .n) ↔ (¬ Many (x .n) Both)
+    met-is = fewer-is (x .n) (x .members) (counted l (sessionAt l j) (x .kind)) (Counted W l j (x .kind)) members-low (counted-is j (x .kind))
 
   -- a session that is closed is zero
   closed-is : (o a b : Bool) → (o || (a && b)) ≡ true → o ≡ false → (a ≡ true) × (b ≡ true)

@@ -21,7 +21,7 @@ abbrev pub Fits : Entry → Type 0
 Fits (Assignment u r) = (u .0 < 2 ^ 6) × (r .0 < 2 ^ 6)
 Fits (Grant r p) = (r .0 < 2 ^ 6) × (p .0 < 2 ^ 8)
 Fits (Senior a b) = (a .0 < 2 ^ 6) × (b .0 < 2 ^ 6)
-Fits (Exclude x m) = (x .limit < 2 ^ 7) × (m < 2 ^ 7) × (x .members ≡ 0)
+Fits (Exclude x m) = (x .n < 2 ^ 7) × (m < 2 ^ 7) × (x .members ≡ 0)
 Fits (Member r) = r .0 < 2 ^ 6
 Fits (Limit r t) = (r .0 < 2 ^ 6) × (t < 2 ^ 9)
 Fits End = Unit {0}
@@ -32,7 +32,7 @@ abbrev pub IsWord : ℕ → Entry → Type 0
 IsWord w (Assignment u r) = w ≡ assignWord (u .0) (r .0)
 IsWord w (Grant r p) = w ≡ grantWord (r .0) (p .0)
 IsWord w (Senior a b) = w ≡ seniorWord (a .0) (b .0)
-IsWord w (Exclude x m) = w ≡ exclusionWord (kindNumber (x .kind)) (x .limit) m
+IsWord w (Exclude x m) = w ≡ exclusionWord (kindNumber (x .kind)) (x .n) m
 IsWord w (Member r) = w ≡ memberWord (r .0)
 IsWord w (Limit r t) = w ≡ limitWord (r .0) t
 IsWord w End = (sum : ℕ) × (w ≡ endWord sum)

@@ -133,7 +133,7 @@ abbrev pub OutOfRange : Head → Entry → Type 0
 OutOfRange h (Assignment u r) = (h .users ≤ u .0) ⊎ (h .roles ≤ r .0)
 OutOfRange h (Grant r p) = (h .roles ≤ r .0) ⊎ (h .permissions ≤ p .0)
 OutOfRange h (Senior a b) = (h .roles ≤ a .0) ⊎ (h .roles ≤ b .0)
-OutOfRange h (Exclude x m) = ((m < 1) ⊎ (h .roles < m)) ⊎ ((x .limit < 2) ⊎ (m < x .limit))
+OutOfRange h (Exclude x m) = ((m < 1) ⊎ (h .roles < m)) ⊎ ((x .n < 2) ⊎ (m < x .n))
 OutOfRange h (Member r) = h .roles ≤ r .0
 OutOfRange h (Limit r t) = (h .roles ≤ r .0) ⊎ ((t < 2) ⊎ (256 < t))
 OutOfRange h End = ⊥

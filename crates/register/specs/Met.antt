@@ -25,4 +25,4 @@ CountedAfter l k s j MsHmer r = (has (l .history) r ≡ true) ⊎ (has s r ≡ t
 pub record MetIs (l : Line) (k s j : ℕ) : Type 0 where
   pub counts : (c : Kind) (r : ℕ) → (has (countedAfter l k s j c) r ≡ true) ↔ CountedAfter l k s j c r
   pub met : (x : Exclusion) → x .members < 2 ^ 64
-      → MetAfter l k s j x ↔ (¬ Many (x .limit) (λ r. (has (x .members) r ≡ true) × CountedAfter l k s j (x .kind) r))
+      → MetAfter l k s j x ↔ (¬ Many (x .n) (λ r. (has (x .members) r ≡ true) × CountedAfter l k s j (x .kind) r))

@@ -33,7 +33,7 @@ pub record Sound (W : ℕ) (p : Policy) (u : ℕ) (l : Line) : Type 0 where
   pub past : (j r : ℕ) → j < W → has (sessionAt l j .history) r ≡ true → has (l .history) r ≡ true
   pub authorized : (j r : ℕ) → j < W → has (sessionAt l j .active) r ≡ true → Authorized p u r
   pub exclusions : (x : Exclusion) → List·Memᴰ x (p .exclusions) → (j : ℕ) → j < W
-      → ¬ Many (x .limit) (λ r. (has (x .members) r ≡ true) × Counted W l j (x .kind) r)
+      → ¬ Many (x .n) (λ r. (has (x .members) r ≡ true) × Counted W l j (x .kind) r)
 
 -- the soundness that the calls test is this, under an accepted image
 abbrev pub SoundIs : List ℕ → Type 0

@@ -27,12 +27,12 @@ number-small MsDmer = omega arith
 number-small SsHmer = omega arith
 number-small MsHmer = omega arith
 
-pub packed : (x : Exclusion) (n : ℕ) → x .limit < 256 → n ≡ kindNumber (x .kind) → exclusionOf ((4 * x .limit + n) ∷ x .members ∷ []) ≡ x
+pub packed : (x : Exclusion) (n : ℕ) → x .n < 256 → n ≡ kindNumber (x .kind) → exclusionOf ((4 * x .n + n) ∷ x .members ∷ []) ≡ x
 unfolding exclusionOf
 packed x n h e =
     let s = number-small (x .kind) in
-    let l : (4 * x .limit + n) / 4 % 256 ≡ x .limit = omega arith in
-    let k : kindOf ((4 * x .limit + n) % 4) ≡ x .kind = ap (λ (m : ℕ). kindOf ((4 * x .limit + m) % 4)) e ∙ kind-back (x .kind) (x .limit) in
+    let l : (4 * x .n + n) / 4 % 256 ≡ x .n = omega arith in
+    let k : kindOf ((4 * x .n + n) % 4) ≡ x .kind = ap (λ (m : ℕ). kindOf ((4 * x .n + m) % 4)) e ∙ kind-back (x .kind) (x .n) in
     rw (l, k)
 
 -- row i of a table

@@ -9,7 +9,7 @@ use Rattle.model.specs.Image.{kindOf}
 
 -- the exclusion of a row
 unfoldable pub exclusionOf : List ℕ → Exclusion
-exclusionOf row = record { kind = kindOf (getD row 0 0 % 4); limit = getD row 0 0 / 4 % 256; members = getD row 1 0 }
+exclusionOf row = record { kind = kindOf (getD row 0 0 % 4); n = getD row 0 0 / 4 % 256; members = getD row 1 0 }
 
 -- the exclusions of the first n rows
 unfoldable pub exclusionsIn : List (List ℕ) → ℕ → Exclusions

@@ -1,4 +1,4 @@
-// An exclusion as a row of two machine words, so that a table of exclusions can go by reference: its kind and its limit in the first word,
+// An exclusion as a row of two machine words, so that a table of exclusions can go by reference: its kind and its n in the first word,
 // its members in the second.
 ghost use mathlib.Core.Path.{_≡_};
 ghost use Rattle.model.specs.Image.{kindOf};
@@ -37,7 +37,7 @@ pub fn row_of(x: Exclusion) -> [u64; 2]
 {
     let kind = x.kind;
     let number = number_of(kind);
-    [4 * (x.limit as u64) + (number as u64), x.members]
+    [4 * (x.n as u64) + (number as u64), x.members]
 }
 
 // The exclusion of a row.
@@ -47,7 +47,7 @@ pub fn exclusion_of(row: [u64; 2]) -> Exclusion
     let kind = kind_of((row[0] % 4) as u8);
     Exclusion {
         kind,
-        limit: (row[0] / 4 % 256) as u8,
+        n: (row[0] / 4 % 256) as u8,
         members: row[1],
     }
 }

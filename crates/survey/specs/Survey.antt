@@ -49,11 +49,11 @@ fourFigures a b c d = numeral 10 a ++ (32 ∷ numeral 10 b) ++ (32 ∷ numeral 1
 
 -- how many sets of its members the exclusion allows alone: the sum of "m choose k" for k below n
 unfoldable pub allowed : Exclusion → ℕ
-allowed x = sumBelow (choose (count 64 (x .members))) (x .limit)
+allowed x = sumBelow (choose (count 64 (x .members))) (x .n)
 
 -- which (01: 0 to 3), n, m, and the number of sets that are allowed
 unfoldable pub exclusionLine : Exclusion → List ℕ
-exclusionLine x = fourFigures (kindNumber (x .kind)) (x .limit) (count 64 (x .members)) (allowed x)
+exclusionLine x = fourFigures (kindNumber (x .kind)) (x .n) (count 64 (x .members)) (allowed x)
 
 -- a line for each exclusion in image order, a repeated one again
 unfoldable pub exclusionLines : List Exclusion → List ℕ

@@ -25,8 +25,8 @@ use Rattle.survey_exclusions.specs.Writing.{Fitting, RowsFit, Opens}
 use Rattle.survey_exclusions.proofs.Fit.{figures-fit}
 
 -- the line of an exclusion by its figures
-pub exclusion-is : (x : Exclusion) (k m s : ℕ) → k ≡ kindNumber (x .kind) → m ≡ count 64 (x .members) → s ≡ sumBelow (choose m) (x .limit)
-    → fourFigures k (x .limit) m s ≡ exclusionLine x
+pub exclusion-is : (x : Exclusion) (k m s : ℕ) → k ≡ kindNumber (x .kind) → m ≡ count 64 (x .members) → s ≡ sumBelow (choose m) (x .n)
+    → fourFigures k (x .n) m s ≡ exclusionLine x
 unfolding exclusionLine allowed
 exclusion-is x k m s e f g = rw (g, e, f)
 

@@ -22,7 +22,7 @@ fitting : (roles : ℕ) → roles ≤ 64 → (x : Exclusion) → ExclusionInRang
 unfolding allowed
 fitting roles h x r =
     let s : count 64 (x .members) ≤ 64 = omega (arith, r .size .1) in
-    record { limit = r .limit .1; size = s; sets = sum-fits (count 64 (x .members)) (x .limit) (r .limit .1) s }
+    record { n = r .n .1; size = s; sets = sum-fits (count 64 (x .members)) (x .n) (r .n .1) s }
 
 each-fitting : (roles : ℕ) → roles ≤ 64 → (xs : List Exclusion) → Each (ExclusionInRange roles) xs → Each Fitting xs
 each-fitting roles h [] r = tt

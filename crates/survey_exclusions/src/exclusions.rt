@@ -26,8 +26,8 @@ fn put_exclusion(out: &mut [u8], at: usize, x: Exclusion) -> usize
     let kind = x.kind;
     let which = rows::number_of(kind);
     let size = sets::size(x.members);
-    let sets = choose::allowed(size as usize, x.limit as usize);
-    put_four(out, at, which as u64, x.limit as u64, size as u64, sets)
+    let sets = choose::allowed(size as usize, x.n as usize);
+    put_four(out, at, which as u64, x.n as u64, size as u64, sets)
 }
 
 // Writes the lines of the exclusions in the first rows.

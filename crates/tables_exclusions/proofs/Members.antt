@@ -37,7 +37,7 @@ exclusion-of s words place w d e x ew ed ee ex = rw (ex, ← ee, ed, ew)
 -- its members, read up to the place `to`
 pub members-of : (s : List ℕ) (words place to m : ℕ) (x : Exclusion) (set : ℕ) → place < words → to ≤ words → place + 1 ≤ to → to ≤ place + 1 + m
     → (to < place + 1 + m → to ≡ words) → set ≡ fold joining (x .members) (entriesFrom s (to - (place + 1)) (place + 1))
-    → record { kind = x .kind; limit = x .limit; members = set } ≡ exclusionBy (Exclude x m) (entriesFrom s (words - (place + 1)) (place + 1))
+    → record { kind = x .kind; n = x .n; members = set } ≡ exclusionBy (Exclude x m) (entriesFrom s (words - (place + 1)) (place + 1))
 unfolding exclusionBy withMembers
 members-of s words place to m x set lt le ge lm all e =
     let k = take-entries s m (words - (place + 1)) (to - (place + 1)) (place + 1) (omega arith) (omega arith) (λ l. let z = all (omega arith) in omega arith) in

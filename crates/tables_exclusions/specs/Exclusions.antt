@@ -11,7 +11,7 @@ use Rattle.model.specs.Policy.{entryAt, entriesFrom, withMembers}
 
 -- no exclusion
 unfoldable pub nothing : Exclusion
-nothing = record { kind = SsDmer; limit = 0; members = 0 }
+nothing = record { kind = SsDmer; n = 0; members = 0 }
 
 -- the exclusion that an exclusion word opens, with the members that the entries behind it name
 unfoldable pub exclusionBy : Entry → List Entry → Exclusion

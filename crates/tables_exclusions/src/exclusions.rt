@@ -19,7 +19,7 @@ pub fn nothing() -> Exclusion
 {
     Exclusion {
         kind: Kind::SsDmer,
-        limit: 0,
+        n: 0,
         members: 0,
     }
 }
@@ -81,7 +81,7 @@ fn exclusion_at(image: &[u8], words: usize, place: usize) -> Exclusion
             let k = x.kind;
             Exclusion {
                 kind: k,
-                limit: x.limit,
+                n: x.n,
                 members,
             }
         }

@@ -324,7 +324,7 @@ module _ (s : List ℕ) (h : Head) (accepted : judge s ≡ Accepted h) (bytes : 
         let ms = members-are h small x bare (g .members) (right .members) low up in
         let c = members-count h small x bare (g .members) (right .members) low up in
         let d : length (g .members) ≡ n = right .whole ∙ ap dueBehind q in
-        let w = written (Exclude x n) q ∙ ap (exclusionWord (kindNumber (x .kind)) (x .limit)) (sym d ∙ c) in
+        let w = written (Exclude x n) q ∙ ap (exclusionWord (kindNumber (x .kind)) (x .n)) (sym d ∙ c) in
         λ i. record { word = w i; members = ms i }
 
     in-exclusions : (x : Exclusion) (n : ℕ) → entryOf (g .word) ≡ Exclude x n → List·Memᴰ g (tidyGroups p)

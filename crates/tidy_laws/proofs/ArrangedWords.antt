@@ -30,7 +30,7 @@ abbrev pub WordFor : Entry → ℕ → Type 0
 WordFor (Assignment u r) w = w ≡ assignWord (u .0) (r .0)
 WordFor (Grant r p) w = w ≡ grantWord (r .0) (p .0)
 WordFor (Senior a b) w = w ≡ seniorWord (a .0) (b .0)
-WordFor (Exclude x m) w = w ≡ exclusionWord (kindNumber (x .kind)) (x .limit) m
+WordFor (Exclude x m) w = w ≡ exclusionWord (kindNumber (x .kind)) (x .n) m
 WordFor (Member r) w = w ≡ memberWord (r .0)
 WordFor (Limit r t) w = w ≡ limitWord (r .0) t
 WordFor End w = w ≡ 15 * 2 ^ 28 + w % 2 ^ 28

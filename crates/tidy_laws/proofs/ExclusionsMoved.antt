@@ -31,7 +31,7 @@ members-moved x z {ms} {ns} p =
     same-members 64 (fold joining (x .members) (map entryOf ms)) (fold joining (x .members) (map entryOf ns))
     (joined-below ms (x .members) low) (joined-below ns (x .members) low)
     (λ r l. bool-ext _ _ (over r p) (over r (permuted-back ℕ p))) in
-    λ i. record { kind = x .kind; limit = x .limit; members = e i }
+    λ i. record { kind = x .kind; n = x .n; members = e i }
   where
     over : (r : ℕ) {us vs : List ℕ} → Permuted ℕ us vs → has (fold joining (x .members) (map entryOf us)) r ≡ true
         → has (fold joining (x .members) (map entryOf vs)) r ≡ true

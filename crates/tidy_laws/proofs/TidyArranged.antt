@@ -84,12 +84,12 @@ module _ (word : ℕ → ℕ → ℕ) (d n : ℕ) where
 
 -- ---- exclusions
 exclusion-stands : (h : Head) → h .roles ≤ 64 → (x : Exclusion) → ExclusionInRange (h .roles) x
-    → standingIn (exclusionGroup x) ≡ standing 5 (kindNumber (x .kind)) (x .limit) (x .members)
+    → standingIn (exclusionGroup x) ≡ standing 5 (kindNumber (x .kind)) (x .n) (x .members)
 unfolding standingIn standingOf memberSet exclusionGroup
 exclusion-stands h small x r =
     ap (λ (e : Entry). standingOf e (memberSet (exclusionGroup x .members))) (group-entry h small x r)
     ∙ (let q : memberSet (exclusionGroup x .members) ≡ x .members = members-read (x .members) (lt-of-lt-of-le (r .members) (pow-mono small)) in
-    λ i. standing 5 (kindNumber (x .kind)) (x .limit) (q i))
+    λ i. standing 5 (kindNumber (x .kind)) (x .n) (q i))
 
 by-earlier : (p q x y s t : ℕ) → Earlier p q x y s t → Precedes (standing 5 p x s) (standing 5 q y t)
 by-earlier p q x y s t (inl h) = inr (refl, inl h)
@@ -101,7 +101,7 @@ exclusions-come : (h : Head) → h .roles ≤ 64 → (xs : List Exclusion) → E
 exclusions-come h small xs r =
     ascending-made Comes (λ x y. before x y ≡ true) (ExclusionInRange (h .roles)) exclusionGroup
     (λ x y p q l. comes-by (exclusionGroup x) (exclusionGroup y) _ _ (exclusion-stands h small x p) (exclusion-stands h small y q)
-    (by-earlier (kindNumber (x .kind)) (kindNumber (y .kind)) (x .limit) (y .limit) (x .members) (y .members) (earlier-true _ _ _ _ _ _ (unfold before in l))))
+    (by-earlier (kindNumber (x .kind)) (kindNumber (y .kind)) (x .n) (y .n) (x .members) (y .members) (earlier-true _ _ _ _ _ _ (unfold before in l))))
     (sorted xs) (each-sorted (ExclusionInRange (h .roles)) xs r) (ascending-sorted xs)
 
 exclusions-sort : (h : Head) → h .roles ≤ 64 → (xs : List Exclusion) → Each (ExclusionInRange (h .roles)) xs

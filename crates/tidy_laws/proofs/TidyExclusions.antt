@@ -65,7 +65,7 @@ members-read s low =
     es = map entryOf (map memberWord (membersTo 64 s))
 
     none : Exclusion
-    none = record { kind = SsDmer; limit = 0; members = 0 }
+    none = record { kind = SsDmer; n = 0; members = 0 }
 
     of-member : (r : ℕ) → List·Memᴰ (Member (role r)) es → has s r ≡ true
     of-member r m =
@@ -86,14 +86,14 @@ members-read s low =
 -- ---- an exclusion in range
 module _ (h : Head) (small : h .roles ≤ 64) (x : Exclusion) (r : ExclusionInRange (h .roles) x) where
   -- its word
-  group-word : decode (exclusionGroup x .word) ≡ says (Exclude (record { kind = x .kind; limit = x .limit; members = 0 }) (count 64 (x .members))) 0
+  group-word : decode (exclusionGroup x .word) ≡ says (Exclude (record { kind = x .kind; n = x .n; members = 0 }) (count 64 (x .members))) 0
   unfolding exclusionGroup
   group-word =
       let a = r .size .1 in
-      let b = r .limit .1 in
-      decode-exclusion (x .kind) (x .limit) (count 64 (x .members)) (omega arith) (omega arith)
+      let b = r .n .1 in
+      decode-exclusion (x .kind) (x .n) (count 64 (x .members)) (omega arith) (omega arith)
 
-  pub group-entry : entryOf (exclusionGroup x .word) ≡ Exclude (record { kind = x .kind; limit = x .limit; members = 0 }) (count 64 (x .members))
+  pub group-entry : entryOf (exclusionGroup x .word) ≡ Exclude (record { kind = x .kind; n = x .n; members = 0 }) (count 64 (x .members))
   group-entry = ap (λ (d : Word). d .entry) group-word
 
   -- read as the exclusion
@@ -102,11 +102,11 @@ module _ (h : Head) (small : h .roles ≤ 64) (x : Exclusion) (r : ExclusionInRa
   group-read zs =
       ap (λ (e : Entry). exclusionIn e (exclusionGroup x .members) zs) group-entry ∙ ap (λ (y : Exclusion). y ∷ zs) whole
     where
-      whole : withMembers (record { kind = x .kind; limit = x .limit; members = 0 }) (map entryOf (exclusionGroup x .members)) ≡ x
+      whole : withMembers (record { kind = x .kind; n = x .n; members = 0 }) (map entryOf (exclusionGroup x .members)) ≡ x
       whole =
           unfold withMembers exclusionGroup in
           (let e = members-read (x .members) (lt-of-lt-of-le (r .members) (pow-mono small)) in
-          λ i. record { kind = x .kind; limit = x .limit; members = e i })
+          λ i. record { kind = x .kind; n = x .n; members = e i })
 
   -- right by itself
   pub group-right : RightGroup h (exclusionGroup x)
@@ -118,7 +118,7 @@ module _ (h : Head) (small : h .roles ≤ 64) (x : Exclusion) (r : ExclusionInRa
             unfold inRange in
             (ap (inRange h) group-entry
             ∙ both _ _ (between-of 1 (count 64 (x .members)) (h .roles) (let k = r .size .0 in omega arith) (r .size .1))
-            (between-of 2 (x .limit) (count 64 (x .members)) (r .limit .0) (r .limit .1)));
+            (between-of 2 (x .n) (count 64 (x .members)) (r .n .0) (r .n .1)));
         apart = unfold repeats in ap (repeats start) group-entry;
         whole =
             unfold dueBehind exclusionGroup in
@@ -146,7 +146,7 @@ module _ (h : Head) (small : h .roles ≤ 64) (x : Exclusion) (r : ExclusionInRa
   unfolding exclusionGroup exclusionWord
   group-low =
       let a = r .size .1 in
-      let b = r .limit .1 in
+      let b = r .n .1 in
       let c = kind-below (x .kind) in (
         omega arith,
         each-map (λ w. w < 2 ^ 32) memberWord (membersTo 64 (x .members))

@@ -33,7 +33,7 @@ decodeBy k w =
     (pick (eqb k 3) (says (Grant (role (field w 22 6)) (permission (field w 14 8))) (w % 2 ^ 14))
     (pick (eqb k 4) (says (Senior (role (field w 22 6)) (role (field w 16 6))) (w % 2 ^ 16))
     (pick (eqb k 5)
-    (says (Exclude (record { kind = kindOf (field w 26 2); limit = field w 19 7; members = 0 }) (field w 12 7)) (w % 2 ^ 12))
+    (says (Exclude (record { kind = kindOf (field w 26 2); n = field w 19 7; members = 0 }) (field w 12 7)) (w % 2 ^ 12))
     (pick (eqb k 6) (says (Member (role (field w 22 6))) (w % 2 ^ 22))
     (pick (eqb k 7) (says (Limit (role (field w 22 6)) (field w 13 9)) (w % 2 ^ 13))
     (pick (eqb k 15) (says End 0) (says Unknown 0)))))))
@@ -81,7 +81,7 @@ kind-below SsHmer = omega arith
 kind-below MsHmer = omega arith
 
 pub decode-exclusion : (k : Kind) (n m : ℕ) → n < 128 → m < 128
-    → decode (exclusionWord (kindNumber k) n m) ≡ says (Exclude (record { kind = k; limit = n; members = 0 }) m) 0
+    → decode (exclusionWord (kindNumber k) n m) ≡ says (Exclude (record { kind = k; n = n; members = 0 }) m) 0
 unfolding decodeBy pick exclusionWord
 decode-exclusion k n m a b =
     let w = exclusionWord (kindNumber k) n m in
@@ -92,7 +92,7 @@ decode-exclusion k n m a b =
     let y : field w 12 7 ≡ m = omega arith in
     let z : w % 2 ^ 12 ≡ 0 = omega arith in
     let q : kindOf (field w 26 2) ≡ k = ap kindOf v ∙ kind-of k in
-    decode-by w 5 t ∙ (λ i. says (Exclude (record { kind = q i; limit = x i; members = 0 }) (y i)) (z i))
+    decode-by w 5 t ∙ (λ i. says (Exclude (record { kind = q i; n = x i; members = 0 }) (y i)) (z i))
 
 pub decode-limit : (r t : ℕ) → r < 64 → t < 512 → decode (limitWord r t) ≡ says (Limit (role r) t) 0
 unfolding decodeBy pick limitWord

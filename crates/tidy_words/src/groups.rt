@@ -68,9 +68,9 @@ fn put_exclusion(out: &mut [u8], from: Cursor, row: [u64; 2]) -> Cursor
     ensures { λ r. ⌜ buffer (now (out .exit)) r ≡ puts (buffer (now (out .entry)) from) (exclusionWords (exclusionOf row)) ⌝ }
 {
     let kind = (row[0] % 4) as u32;
-    let limit = (row[0] / 4 % 256) as u32;
+    let n = (row[0] / 4 % 256) as u32;
     let m = sets::size(row[1]);
-    let w = 1342177280 + 67108864 * kind + 524288 * limit + 4096 * m;
+    let w = 1342177280 + 67108864 * kind + 524288 * n + 4096 * m;
     let c = put_word(out, from, w);
     put_set(out, c, 1610612736, 4194304, row[1])
 }

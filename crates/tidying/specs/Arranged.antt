@@ -1,4 +1,4 @@
--- The order of whole entries in a tidy image: by sort, then by fields; an exclusion by its kind, its limit and the number of its member set,
+-- The order of whole entries in a tidy image: by sort, then by fields; an exclusion by its kind, its n and the number of its member set,
 -- and its member words by role.
 -- Assumes nothing.
 use mathlib.Core.Path.{_≡_, refl}
@@ -39,19 +39,19 @@ By a b rest = (a < b) ⊎ ((a ≡ b) × rest)
 abbrev pub Precedes : Standing → Standing → Type 0
 Precedes x y = By (x .sort) (y .sort) (By (x .first) (y .first) (By (x .second) (y .second) (x .third < y .third)))
 
--- assignments by user and role, grants by role and permission, seniors by both roles, exclusions by kind, limit and member set, limits by
+-- assignments by user and role, grants by role and permission, seniors by both roles, exclusions by kind, n and member set, limits by
 -- role alone, since a role has one
 unfoldable pub standingOf : Entry → ℕ → Standing
 standingOf (Assignment u r) s = standing 2 (u .0) (r .0) 0
 standingOf (Grant r p) s = standing 3 (r .0) (p .0) 0
 standingOf (Senior a b) s = standing 4 (a .0) (b .0) 0
-standingOf (Exclude x m) s = standing 5 (kindNumber (x .kind)) (x .limit) s
+standingOf (Exclude x m) s = standing 5 (kindNumber (x .kind)) (x .n) s
 standingOf (Limit r t) s = standing 7 (r .0) 0 0
 standingOf (Member r) s = standing 15 0 0 0
 standingOf End s = standing 15 0 0 0
 standingOf Unknown s = standing 15 0 0 0
 
--- the set 7 of three roles stands before the set 10 of two, kind and limit being the same
+-- the set 7 of three roles stands before the set 10 of two, kind and n being the same
 pub by-member-set : (x : Exclusion) → Precedes (standingOf (Exclude x 3) 7) (standingOf (Exclude x 2) 10)
 unfolding standingOf
 by-member-set x = inr (refl, inr (refl, inr (refl, lit< tt)))

@@ -49,13 +49,13 @@ tableGroups word d i (row ∷ rows) = map (λ j. single (word i j)) (membersTo d
 unfoldable pub exclusionGroup : Exclusion → Group
 exclusionGroup x =
     record {
-      word = exclusionWord (kindNumber (x .kind)) (x .limit) (count 64 (x .members));
+      word = exclusionWord (kindNumber (x .kind)) (x .n) (count 64 (x .members));
       members = map memberWord (membersTo 64 (x .members));
     }
 
--- the roles 0 and 1 exclude each other, by a kind and a limit
+-- the roles 0 and 1 exclude each other, by a kind and an n
 abbrev pub bothOf : Kind → ℕ → Exclusion
-bothOf kind limit = record { kind = kind; limit = limit; members = 3 }
+bothOf kind n = record { kind = kind; n = n; members = 3 }
 
 -- the roles that have a limit, as a table of one column
 unfoldable pub limitedRows : List ℕ → List ℕ
@@ -147,7 +147,7 @@ loop-refused = refl
 abbrev pub TidyWords : Policy → Type 0
 TidyWords p = length (tidy p) ≡ 4 * (2 + length (spread (tidyGroups p)))
 
--- ascending, and so nothing repeated: words of one kind as numbers, which is by their fields; exclusions by kind, limit and member set;
+-- ascending, and so nothing repeated: words of one kind as numbers, which is by their fields; exclusions by kind, n and member set;
 -- the member words of each exclusion; limit words in range
 pub record TidyOrder (p : Policy) : Type 0 where
   pub assignments : Ascending _<_ (spread (tableGroups assignWord 64 0 (p .assigned)))

@@ -26,8 +26,8 @@ shuffled =
     ∷ 0x60400000 ∷ 0x54103000 ∷ 0x60800000 ∷ 0x60400000 ∷ 0x60000000 ∷ 0x40030000 ∷ 0x40420000 ∷ 0x30400000 ∷ 0x3000C000 ∷ 0x54102000
     ∷ 0x60C00000 ∷ 0x60400000 ∷ 0x54183000 ∷ 0x60000000 ∷ 0x60400000 ∷ 0x60800000 ∷ 0x70200000 ∷ 0x70406000 ∷ 0xF936CF80 ∷ []
 
--- assignments by user, grants by role, seniors, then exclusions: one of kind 0, though its limit is 3; of kind 1 with limit 2 the members
--- 0, 1, 2 (set 7) before 1, 3 (set 10), though they are more; with limit 3 the set 7 again; then the limits, 256 of role 0 and 2 of role 1
+-- assignments by user, grants by role, seniors, then exclusions: one of kind 0, though its n is 3; of kind 1 with n 2 the members
+-- 0, 1, 2 (set 7) before 1, 3 (set 10), though they are more; with n 3 the set 7 again; then the limits, 256 of role 0 and 2 of role 1
 unfoldable pub neat : List ℕ
 neat =
     0x10410080 ∷ 0x20010000 ∷ 0x20400000 ∷ 0x3000C000 ∷ 0x30400000 ∷ 0x40030000 ∷ 0x40420000 ∷ 0x50183000 ∷ 0x60000000 ∷ 0x60800000

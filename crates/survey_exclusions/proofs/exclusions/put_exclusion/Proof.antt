@@ -11,7 +11,7 @@ allowed-requires : tie.Need-allowed-requires
 allowed-requires c κs =
     let z = c .before in
     let p = z .before .before .before .pre .1 in
-    (omega (arith, p .limit, z .size .ensures), omega (arith, p .size, z .size .ensures))
+    (omega (arith, p .n, z .size .ensures), omega (arith, p .size, z .size .ensures))
 
 returns : tie.Need-returns
 returns c =
