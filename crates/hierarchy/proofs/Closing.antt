@@ -11,7 +11,7 @@ use lib.Bits.{or-zero-r}
 use lib.ListN.{length, getD, set, length-map, List·getD-eq-default}
 use Rattle.model.specs.Tests.{pick}
 use Rattle.model.specs.Sets.{has, union}
-use Rattle.model.specs.Policy.{taking, through, closed}
+use Rattle.model.specs.Policy.{taking, through, closureBy}
 use Rattle.model_laws.proofs.UnionLaws.{has-none}
 use Rattle.hierarchy.specs.Upper.{EmptyFrom}
 
@@ -71,29 +71,29 @@ module _ (k other : ℕ) (rows₀ rows : List ℕ) (i : ℕ) (e : rows ≡ mapTo
       let h : i ≡ m = omega arith in
       e ∙ ap (λ (j : ℕ). mapTo (taking k other) j rows₀) h ∙ mapTo-rest (taking k other) (taking-none k other) m rows₀ z ∙ rw eo
 
-pub length-closed : (n : ℕ) (rows : List ℕ) → length (closed n rows) ≡ length rows
-unfolding closed through
-length-closed zero rows = refl
-length-closed (suc n) rows = length-map (closed n rows) (taking n (getD (closed n rows) n 0)) ∙ length-closed n rows
+pub length-closure : (n : ℕ) (rows : List ℕ) → length (closureBy n rows) ≡ length rows
+unfolding closureBy through
+length-closure zero rows = refl
+length-closure (suc n) rows = length-map (closureBy n rows) (taking n (getD (closureBy n rows) n 0)) ∙ length-closure n rows
 
-pub empty-closed : (m n : ℕ) (rows : List ℕ) → EmptyFrom m rows → EmptyFrom m (closed n rows)
-unfolding closed through
-empty-closed m zero rows z = z
-empty-closed m (suc n) rows z = λ r l.
-    let other : ℕ = getD (closed n rows) n 0 in
-    mapped-at (taking n other) (taking-none n other) (closed n rows) r ∙ ap (taking n other) (empty-closed m n rows z r l) ∙ taking-none n other
+pub empty-closure : (m n : ℕ) (rows : List ℕ) → EmptyFrom m rows → EmptyFrom m (closureBy n rows)
+unfolding closureBy through
+empty-closure m zero rows z = z
+empty-closure m (suc n) rows z = λ r l.
+    let other : ℕ = getD (closureBy n rows) n 0 in
+    mapped-at (taking n other) (taking-none n other) (closureBy n rows) r ∙ ap (taking n other) (empty-closure m n rows z r l) ∙ taking-none n other
 
 -- a table of n rows has no more
 pub empty-behind : (n : ℕ) (rows : List ℕ) → length rows ≡ n → EmptyFrom n rows
 empty-behind n rows e = λ r l. List·getD-eq-default rows 0 (omega arith)
 
-pub closed-none : (rows : List ℕ) → rows ≡ closed 0 rows
-unfolding closed
-closed-none rows = refl
+pub closure-none : (rows : List ℕ) → rows ≡ closureBy 0 rows
+unfolding closureBy
+closure-none rows = refl
 
-pub closed-next : (k : ℕ) (rows₀ rows rows′ : List ℕ) → rows ≡ closed k rows₀ → rows′ ≡ through k rows → rows′ ≡ closed (k + 1) rows₀
-unfolding closed
-closed-next k rows₀ rows rows′ e f = rw (f, e, add-one)
+pub closure-next : (k : ℕ) (rows₀ rows rows′ : List ℕ) → rows ≡ closureBy k rows₀ → rows′ ≡ through k rows → rows′ ≡ closureBy (k + 1) rows₀
+unfolding closureBy
+closure-next k rows₀ rows rows′ e f = rw (f, e, add-one)
 
 -- ---- an empty row is passed over
 

@@ -2,7 +2,7 @@
 ghost use mathlib.Core.Path.{_≡_};
 ghost use lib.ListN.{length};
 ghost use Prim.Native.Nat.{_≤_, _<_};
-ghost use Rattle.model.specs.Policy.{taking, through as throughOf, closed};
+ghost use Rattle.model.specs.Policy.{taking, through as throughOf, closureBy};
 ghost use Rattle.hierarchy.specs.Upper.{EmptyFrom};
 use model::Role;
 
@@ -35,7 +35,7 @@ fn through_first(rows: &mut [u64; 64], m: usize, k: usize)
 // Warshall's closure, by the roles below n, of a table whose rows from m on are empty.
 pub fn close_first(rows: &mut [u64; 64], m: usize, n: usize)
     requires { ⌜ (n ≤ 64) × (m ≤ 64) × (length (now rows) ≡ 64) × EmptyFrom m (now rows) ⌝ }
-    ensures { λ r. ⌜ now (rows .exit) ≡ closed n (now (rows .entry)) ⌝ }
+    ensures { λ r. ⌜ now (rows .exit) ≡ closureBy n (now (rows .entry)) ⌝ }
 {
     for k in 0..n {
         through_first(rows, m, k);
@@ -45,7 +45,7 @@ pub fn close_first(rows: &mut [u64; 64], m: usize, n: usize)
 // Warshall's closure, by the roles below n.
 pub fn close(rows: &mut [u64; 64], n: usize)
     requires { ⌜ (n ≤ 64) × (length (now rows) ≡ 64) ⌝ }
-    ensures { λ r. ⌜ now (rows .exit) ≡ closed n (now (rows .entry)) ⌝ }
+    ensures { λ r. ⌜ now (rows .exit) ≡ closureBy n (now (rows .entry)) ⌝ }
 {
     close_first(rows, 64, n);
 }

@@ -13,7 +13,7 @@ use Rattle.model.specs.declared.Checked.{Checked}
 use Rattle.model.specs.declared.Checked.the-variants.{Accepted, Refused}
 use Rattle.model.specs.Tests.{lowest}
 use Rattle.model.specs.Sets.{has}
-use Rattle.model.specs.Policy.{Policy, belowTable, reached, authorized, closed}
+use Rattle.model.specs.Policy.{Policy, belowTable, reached, authorized, closureBy}
 use Rattle.model.specs.Judgement.{lowestOnLoop, lowestOverReach, refusing, judgeMeaning}
 use Rattle.hierarchy_judged.specs.Loops.{Gives, Judged}
 use Rattle.hierarchy_judged.specs.Reach.{reachAt, wideAt, Authorizes}
@@ -40,18 +40,18 @@ judged-refused p c own below n place e =
       own-is = λ h q. never n place h (sym e ∙ q);
     }
 
-module _ (p : Policy) (h : Head) (juniors below : List ℕ) (eh : p .head ≡ h) (ej : juniors ≡ p .juniors) (eb : below ≡ closed (h .roles) juniors) where
+module _ (p : Policy) (h : Head) (juniors below : List ℕ) (eh : p .head ≡ h) (ej : juniors ≡ p .juniors) (eb : below ≡ closureBy (h .roles) juniors) where
   -- the table is the policy's
   pub closed-is : below ≡ belowTable p
   unfolding belowTable
-  closed-is = eb ∙ ap₂ (λ (x : Head) (l : List ℕ). closed (x .roles) l) (sym eh) ej
+  closed-is = eb ∙ ap₂ (λ (x : Head) (l : List ℕ). closureBy (x .roles) l) (sym eh) ej
 
   -- and so is the lowest role on a loop
   pub on-loop : onLoop below (h .roles) ≡ lowestOnLoop p
   unfolding lowestOnLoop
   on-loop = ap₂ (λ (l : List ℕ) (x : Head). lowest (λ a. has (getD l a 0) a) 0 (x .roles)) closed-is (sym eh)
 
-module _ (p : Policy) (h : Head) (assigned juniors below : List ℕ) (g : Gives p h assigned juniors) (eb : below ≡ closed (h .roles) juniors) where
+module _ (p : Policy) (h : Head) (assigned juniors below : List ℕ) (g : Gives p h assigned juniors) (eb : below ≡ closureBy (h .roles) juniors) where
   table-is : below ≡ belowTable p
   table-is = closed-is p h juniors below (g .head-is) (g .juniors-is) eb
 

@@ -9,7 +9,7 @@ use lib.Dec.{ltb}
 use lib.ListN.{length, getD, replicate, length-append}
 use borrow.Author.Tests.{eq-eqb, ne-eqb, lt-ltb, le-ltb}
 use Rattle.model.specs.Sets.{has}
-use Rattle.model.specs.Policy.{Policy, closed}
+use Rattle.model.specs.Policy.{Policy, closureBy}
 use Rattle.model.specs.Session.{Reply, refuse}
 use Rattle.model.specs.Judgement.{lowestOnLoop}
 use Rattle.model.specs.Loop.{loopLength, chainDown, shownChain, loopFrom, loopOn}
@@ -47,10 +47,10 @@ module _ (p : Policy) (room : List ℕ) where
 
   -- ---- by the lowest role on a loop
   module _ (roles r : ℕ) (juniors below : List ℕ) (size : length room ≡ 64) (ej : juniors ≡ p .juniors) (en : p .head .roles ≡ roles)
-      (eb : below ≡ closed roles juniors) (er : r ≡ onLoop below roles) where
+      (eb : below ≡ closureBy roles juniors) (er : r ≡ onLoop below roles) where
     lowest-role : r ≡ lowestOnLoop p
     lowest-role =
-        let k = on-loop p (p .head) juniors below refl ej (eb ∙ ap (λ (n : ℕ). closed n juniors) (sym en)) in
+        let k = on-loop p (p .head) juniors below refl ej (eb ∙ ap (λ (n : ℕ). closureBy n juniors) (sym en)) in
         er ∙ ap (onLoop below) (sym en) ∙ k
 
     -- the reply, by the test

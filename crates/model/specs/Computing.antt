@@ -3,7 +3,7 @@
 use Rattle.model.specs.Tests.{pick, earlier, any, all, first, lowest, ifBelow, orElse, isSome, sameList, sameLists}
 use Rattle.model.specs.Sets.{has, within, meets, setOf, countTo, count, unionTo, unionAt, lowestIn, subsets, sumTo}
 use Rattle.model.specs.Image.{wordAt, behindHead, kindOf, decode, wrongKind, inRange, repeats, crowds, entryFault, fault, assigning, next, balanced, scan, headOf, headRight, lengthRight, emptyRows, start, judgeWords, checkNumber}
-use Rattle.model.specs.Policy.{entryAt, entriesFrom, entriesOf, granting, ordering, fold, joining, withMembers, exclusionsOf, policyOf, taking, through, closed, tableOf, belowTable, withSelves, reached, carriedTable, granterBy, granter, authorized, met, meaning, kindNumber, before, insert, sorted, lesser, limiting, limited, hasLimits}
+use Rattle.model.specs.Policy.{entryAt, entriesFrom, entriesOf, granting, ordering, fold, joining, withMembers, exclusionsOf, policyOf, taking, through, closureBy, tableOf, belowTable, withSelves, reached, carriedTable, granterBy, granter, authorized, met, meaning, kindNumber, before, insert, sorted, lesser, limiting, limited, hasLimits}
 use Rattle.model.specs.Bytes.{number, bytesOf}
 use Rattle.model.specs.Words.{headWord, assignWord, grantWord, seniorWord, exclusionWord, memberWord, sumOf, endWord, ended, imageBytes, limitWord}
 use Rattle.model.specs.Line.{lineSize, readSessions, readLine, writeSessions, writeLine, emptySession, sessionAt, isOpen, activeIn, counted, exclusionsMet, sessionSound, sessionsSound, sound, lowestClosed, opening, closing, putIn, holding, others}
@@ -24,7 +24,7 @@ unfoldable pub computing : Unit {0}
 unfolding pick any all first lowest ifBelow isSome sameList sameLists has within meets setOf countTo count unionTo unionAt lowestIn subsets
     wordAt behindHead kindOf decode wrongKind inRange repeats crowds entryFault fault assigning next balanced scan headOf headRight
     lengthRight emptyRows start judgeWords entryAt entriesFrom entriesOf granting ordering fold joining withMembers exclusionsOf policyOf
-    taking through closed tableOf belowTable withSelves reached carriedTable granterBy granter authorized met meaning number bytesOf
+    taking through closureBy tableOf belowTable withSelves reached carriedTable granterBy granter authorized met meaning number bytesOf
     lineSize readSessions readLine writeSessions writeLine emptySession sessionAt isOpen activeIn counted exclusionsMet sessionSound
     sessionsSound sound lowestClosed opening closing putIn carriedBy admissible cost earlier permissionCost roleCost better bestOf best
     choose shortAim sessionOf queryOf refuse done given refusalNumber canGive chosen isNone carrier twoRoles withGranter explanation applies

@@ -124,9 +124,9 @@ unfoldable pub through : ℕ → List ℕ → List ℕ
 through k rows = map (taking k (getD rows k 0)) rows
 
 -- Warshall's closure, by the roles below n
-unfoldable pub closed : ℕ → List ℕ → List ℕ
-closed zero rows = rows
-closed (suc n) rows = through n (closed n rows)
+unfoldable pub closureBy : ℕ → List ℕ → List ℕ
+closureBy zero rows = rows
+closureBy (suc n) rows = through n (closureBy n rows)
 
 -- the list of f at 0, 1, .. below n
 unfoldable pub tableOf : ℕ → (ℕ → ℕ) → List ℕ
@@ -135,7 +135,7 @@ tableOf (suc n) f = tableOf n f ++ (f n ∷ [])
 
 -- row a: the roles below role a, by a chain of at least one senior word
 unfoldable pub belowTable : Policy → List ℕ
-belowTable p = closed (p .head .roles) (p .juniors)
+belowTable p = closureBy (p .head .roles) (p .juniors)
 
 -- each row with its own number
 unfoldable pub withSelves : List ℕ → List ℕ

@@ -14,7 +14,7 @@ use lib.Seq.{getD-at}
 use borrow.Table.Steps.{cases}
 use Rattle.model.specs.Tests.{pick, isSome}
 use Rattle.model.specs.Sets.{has, union, with, unionAt}
-use Rattle.model.specs.Policy.{Policy, taking, through, closed, tableOf, belowTable, withSelves, reached, carriedTable, granterBy, granter}
+use Rattle.model.specs.Policy.{Policy, taking, through, closureBy, tableOf, belowTable, withSelves, reached, carriedTable, granterBy, granter}
 use Rattle.model.specs.Chains.{over, grants, Chain, here, step, Below, Carries, Provides, Granting, GranterIs}
 use Rattle.model.specs.Ranges.{InRange}
 use Rattle.model_laws.proofs.Bools.{and-l, and-r, both, or-l, or-r, or-cases}
@@ -64,12 +64,12 @@ has-through k rows i j =
 module _ (rows : List ℕ) where
   -- row i holds j after the passes below k
   at : ℕ → ℕ → ℕ → Bool
-  at k i j = has (getD (closed k rows) i 0) j
+  at k i j = has (getD (closureBy k rows) i 0) j
 
   -- pass k
   at-suc : (k i j : ℕ) → at (suc k) i j ≡ (at k i j || (at k i k && at k k j))
-  unfolding at closed
-  at-suc k i j = has-through k (closed k rows) i j
+  unfolding at closureBy
+  at-suc k i j = has-through k (closureBy k rows) i j
 
   -- what pass k leaves was there before it, or goes by k
   at-cases : (k i j : ℕ) → at (suc k) i j ≡ true → (at k i j ≡ true) ⊎ ((at k i k ≡ true) × (at k k j ≡ true))
@@ -147,7 +147,7 @@ module _ (p : Policy) (range : InRange p) where
 
   -- what a row holds after the passes below k stands below its role
   at-below : (k i j : ℕ) → at (p .juniors) k i j ≡ true → Below p i j
-  unfolding at closed over
+  unfolding at closureBy over
   at-below zero i j e = record { junior = j; word = e; chain = here }
   at-below (suc k) i j e =
       elim (at-cases (p .juniors) k i j e)
@@ -155,7 +155,7 @@ module _ (p : Policy) (range : InRange p) where
 
   -- a senior word is held from the first
   word-at : (i j : ℕ) → over p i j ≡ true → at (p .juniors) (p .head .roles) i j ≡ true
-  unfolding at closed over
+  unfolding at closureBy over
   word-at i j e = at-first (p .juniors) (p .head .roles) i j e
 
   -- what a chain of at least one senior word reaches is held after the passes below R

@@ -12,7 +12,7 @@ use Rattle.model.specs.declared.Kind.{Kind}
 use Rattle.model.specs.declared.Exclusion.{Exclusion}
 use Rattle.model.specs.Tests.{pick, any, all}
 use Rattle.model.specs.Sets.{has, unionAt}
-use Rattle.model.specs.Policy.{Policy, Meaning, meaning, authorized, closed, belowTable, withSelves, reached, carriedTable, granterBy, granter, met, sorted, onlyFor, sameExclusion, excludes, Agree}
+use Rattle.model.specs.Policy.{Policy, Meaning, meaning, authorized, closureBy, belowTable, withSelves, reached, carriedTable, granterBy, granter, met, sorted, onlyFor, sameExclusion, excludes, Agree}
 use Rattle.model.specs.Limits.{Others}
 use Rattle.model.specs.Session.{Operation, isText, rule}
 use Rattle.model_laws.proofs.Bools.{and-l, and-r, or-r, or-cases, bool-ext}
@@ -66,9 +66,9 @@ module _ (u : ℕ) (p q : Policy) (h : Agree u p q) where
         user = u;
         roles = h .heads i .roles;
         permissions = h .heads i .permissions;
-        authorized = unionAt (withSelves (closed (h .heads i .roles) (h .seniors i))) (h .own i);
-        carried = map (unionAt (h .grants i)) (withSelves (closed (h .heads i .roles) (h .seniors i)));
-        granter = λ m r. granterBy (withSelves (closed (h .heads i .roles) (h .seniors i))) (λ g. has (getD (h .grants i) g 0) m) r;
+        authorized = unionAt (withSelves (closureBy (h .heads i .roles) (h .seniors i))) (h .own i);
+        carried = map (unionAt (h .grants i)) (withSelves (closureBy (h .heads i .roles) (h .seniors i)));
+        granter = λ m r. granterBy (withSelves (closureBy (h .heads i .roles) (h .seniors i))) (λ g. has (getD (h .grants i) g 0) m) r;
         allMet = λ counted. agree-met counted i;
         exclusions = e i;
         ordered = agree-ordered i;

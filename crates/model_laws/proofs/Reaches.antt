@@ -9,7 +9,7 @@ use Prim.Native.Nat.{ℕ, zero, suc, _^_, _≤_, _<_, zero-le}
 use native.Mathlib.Nat.{lt-of-lt-of-le}
 use lib.ListN.{getD}
 use Rattle.model.specs.Sets.{has, with, unionAt}
-use Rattle.model.specs.Policy.{Policy, taking, through, closed, belowTable, withSelves, reached, authorized, meaning}
+use Rattle.model.specs.Policy.{Policy, taking, through, closureBy, belowTable, withSelves, reached, authorized, meaning}
 use Rattle.model.specs.Chains.{Chain, here, step, Authorized}
 use Rattle.model.specs.Ranges.{InRange}
 use Rattle.model.specs.Ordered.{FewRoles}
@@ -43,8 +43,8 @@ reaches-itself rows s small none = same-sets (unionAt (withSelves rows) s) s (λ
         has-unionAt (withSelves rows) s k .1 (record { member = k; below = l; chosen = e; holds = rw (self k l) (with-new (getD rows k 0) k) })
 
 -- the empty table is closed
-closed-empty : (n : ℕ) → closed n [] ≡ []
-unfolding closed through
+closed-empty : (n : ℕ) → closureBy n [] ≡ []
+unfolding closureBy through
 closed-empty zero = refl
 closed-empty (suc n) = ap (λ (rows : List ℕ). map (taking n (getD rows n 0)) rows) (closed-empty n)
 
@@ -53,7 +53,7 @@ pub authorized-alone : (p : Policy) (u : ℕ) → p .juniors ≡ [] → getD (p 
 unfolding authorized reached belowTable
 authorized-alone p u e l =
     reaches-itself (belowTable p) (getD (p .assigned) u 0) l
-    (λ r h. ap (λ (rows : List ℕ). getD rows r 0) (ap (closed (p .head .roles)) e ∙ closed-empty (p .head .roles)))
+    (λ r h. ap (λ (rows : List ℕ). getD rows r 0) (ap (closureBy (p .head .roles)) e ∙ closed-empty (p .head .roles)))
 
 -- ---- chains
 
