@@ -90,7 +90,7 @@ module _ (s : List ℕ) (h : Head) where
           words = a .words ∙ ap (λ (l : List ℕ). l ++ (spread (a .groups) ++ (a .last ∷ []))) (nil-of (a .due) (a .size));
         };
         groups = a .right;
-        closed = a .closed;
+        ends = a .ends;
         limits = record {
           few-roles = r .few-roles;
           few-exclusions = r .few-exclusions;
@@ -106,7 +106,7 @@ module _ (s : List ℕ) (h : Head) where
   acceptable-room a =
       let n = subst (λ (k : Head). OneTo 64 (k .users) × OneTo 64 (k .roles) × OneTo 256 (k .permissions)) (a .numbers) (head-numbers (wordAt s 0) (a .head)) in
       room-of h (n .0 .1) (n .1 .1) (entriesOf s) emptyRows start empty-length
-      (entries-range s h (a .parts) (a .groups) (a .closed))
+      (entries-range s h (a .parts) (a .groups) (a .ends))
       (a .limits .few-roles)
       (subst (λ (n : ℕ). n ≤ 32) (sym (zero-add (length (exclusionsOf (entriesOf s))))) (a .limits .few-exclusions))
 
@@ -119,7 +119,7 @@ module _ (s : List ℕ) (h : Head) where
         numbers = a .numbers;
         scans =
             subst (Scans h emptyRows start) (sym (a .parts .words))
-            (groups-scan h (a .parts .groups) (a .parts .last) emptyRows start (unfold start in refl) (a .groups) (a .closed)
+            (groups-scan h (a .parts .groups) (a .parts .last) emptyRows start (unfold start in refl) (a .groups) (a .ends)
             (subst (λ (l : List ℕ). Room emptyRows start (map entryOf l)) (a .parts .words)
             (subst (Room emptyRows start) (entries-behind s) (acceptable-room a))));
         balance = a .balance;

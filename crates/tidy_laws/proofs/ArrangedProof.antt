@@ -112,7 +112,7 @@ one-standing (j ∷ gs) a g k m n e = go (List·Memᴰ·cases-cons m) (List·Mem
     go (inr u) (inr v) ih = ih u v
 
 -- an entry that can begin a group, among those of right groups and an end, begins one of them
-module _ (h : Head) (last : ℕ) (closed : entryOf last ≡ End) (e : Entry) (lead : leads e ≡ true) where
+module _ (h : Head) (last : ℕ) (ends : entryOf last ≡ End) (e : Entry) (lead : leads e ≡ true) where
   no-member : (ms : List ℕ) → Each (RightMember h) ms → ¬ List·Memᴰ e (map entryOf ms)
   unfolding leads
   no-member ms r m =
@@ -123,7 +123,7 @@ module _ (h : Head) (last : ℕ) (closed : entryOf last ≡ End) (e : Entry) (le
       → (g : Group) × List·Memᴰ g gs × (entryOf (g .word) ≡ e)
   unfolding spread leads
   begun [] r m =
-      absurd (elim (List·Memᴰ·cases-cons m) [ inl q ↦ true≢false (sym lead ∙ ap leads (q ∙ closed)) | inr k ↦ List·Memᴰ·not-nil k ])
+      absurd (elim (List·Memᴰ·cases-cons m) [ inl q ↦ true≢false (sym lead ∙ ap leads (q ∙ ends)) | inr k ↦ List·Memᴰ·not-nil k ])
   begun (g ∷ gs) r m = go (List·Memᴰ·cases-cons m) (λ k. begun gs (r .1) k)
     where
       go : (e ≡ entryOf (g .word)) ⊎ List·Memᴰ e (map entryOf ((g .members ++ spread gs) ++ (last ∷ [])))
@@ -295,7 +295,7 @@ module _ (s : List ℕ) (h : Head) (accepted : judge s ≡ Accepted h) (bytes : 
       where
         least : (n : ℕ) → List·Memᴰ (Limit (role r) n) (entriesOf s) → t ≤ n
         least n k =
-            let (j, u, e) = begun h last (a .closed) (Limit (role r) n) refl gs (a .groups) (subst (List·Memᴰ (Limit (role r) n)) entries-are k) in
+            let (j, u, e) = begun h last (a .ends) (Limit (role r) n) refl gs (a .groups) (subst (List·Memᴰ (Limit (role r) n)) entries-are k) in
             let alike =
             ap (λ (v : Entry). standingOf v (memberSet (g .members))) q ∙ sym (ap (λ (v : Entry). standingOf v (memberSet (j .members))) e) in
             let same = one-standing gs (o .entries) g j m u alike in
@@ -342,7 +342,7 @@ module _ (s : List ℕ) (h : Head) (accepted : judge s ≡ Accepted h) (bytes : 
         policy-has : List·Memᴰ (withMembers x (map entryOf (g .members))) (p .exclusions)
         policy-has =
             unfold policyOf in
-            (subst (List·Memᴰ (withMembers x (map entryOf (g .members)))) (sym (ap exclusionsOf entries-are ∙ exclusions-in h gs last (a .groups) (a .closed)))
+            (subst (List·Memᴰ (withMembers x (map entryOf (g .members)))) (sym (ap exclusionsOf entries-are ∙ exclusions-in h gs last (a .groups) (a .ends)))
             (own-exclusion gs g m x n q))
 
     kept : List·Memᴰ g (tidyGroups p)
@@ -399,7 +399,7 @@ module _ (s : List ℕ) (h : Head) (accepted : judge s ≡ Accepted h) (bytes : 
   last-is =
       let low = split-each (λ w. w < 2 ^ 32) (spread gs) (last ∷ []) lows .1 .0 in
       let w : last ≡ 15 * 2 ^ 28 + last % 2 ^ 28 =
-      subst (λ (e : Entry). WordFor e last) (a .closed) (word-for last low (end-spare last (a .closed))) in
+      subst (λ (e : Entry). WordFor e last) (a .ends) (word-for last low (end-spare last (a .ends))) in
       let t : (wordAt s 0 + sumOf (spread gs ++ (last ∷ []))) % 2 ^ 28 ≡ 0 =
       subst (λ (ws : List ℕ). (wordAt s 0 + sumOf ws) % 2 ^ 28 ≡ 0) (a .parts .words) (a .balance) in
       let f = first-is in

@@ -34,7 +34,7 @@ pub record Ahead (h : Head) (t : Scan) (ws : List ℕ) : Type 0 where
   pub distinct : Distinct (map memberRole due)
   pub fresh : Each (λ w. has (t .members) (memberRole w) ≡ false) due
   pub right : Each (RightGroup h) groups
-  pub closed : entryOf last ≡ End
+  pub ends : entryOf last ≡ End
 
 -- ---- a member word names its role field
 memberOr : Entry → ℕ → ℕ
@@ -99,7 +99,7 @@ module _ (h : Head) (t : Scan) (w : ℕ) (ws : List ℕ) (spare : decode w .spar
           },
           a .right,
         );
-        closed = a .closed;
+        ends = a .ends;
       }
 
   ahead-more : (e : Entry) → entryOf w ≡ e → wrongKind false (t .due) e ≡ false → inRange h e ≡ true → repeats t e ≡ false
@@ -130,7 +130,7 @@ module _ (h : Head) (t : Scan) (w : ℕ) (ws : List ℕ) (spare : decode w .spar
           },
           a .right,
         );
-        closed = a .closed;
+        ends = a .ends;
       }
   ahead-more (Member r) q k g f a =
       let i = member-role w r q in
@@ -162,7 +162,7 @@ module _ (h : Head) (t : Scan) (w : ℕ) (ws : List ℕ) (spare : decode w .spar
               (λ v e. or-false-l _ _ (sym (has-with (t .members) (r .0) (memberRole v)) ∙ e)) (a .due) (a .fresh),
         );
         right = a .right;
-        closed = a .closed;
+        ends = a .ends;
       }
     where
       more : (d : ℕ) {n : ℕ} → (d ≡ 0 → ⊥) → n ≡ d - 1 → suc n ≡ d
@@ -192,7 +192,7 @@ module _ (h : Head) (t : Scan) (w : ℕ) (ws : List ℕ) (spare : decode w .spar
         distinct = tt;
         fresh = tt;
         right = tt;
-        closed = q;
+        ends = q;
       }
   ahead-last Unknown q k = absurd (true≢false k)
 

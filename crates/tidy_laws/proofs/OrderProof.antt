@@ -126,7 +126,7 @@ module _ (s t : List ℕ) (h : Head) (accepted : judge s ≡ Accepted h) (order 
   right-to = moved-each Group SameGroup (RightGroup h) (right-moved h) (order .moved) right-from
 
   end-from : entryOf (order .from .last) ≡ End
-  end-from = ap entryOf (parted .1) ∙ found .closed
+  end-from = ap entryOf (parted .1) ∙ found .ends
 
   end-to : entryOf (order .to .last) ≡ End
   end-to = ap entryOf (sym (order .last)) ∙ end-from
@@ -183,7 +183,7 @@ module _ (s t : List ℕ) (h : Head) (accepted : judge s ≡ Accepted h) (order 
         numbers = ap headOf (sym (order .head)) ∙ found .numbers;
         parts = order .to;
         groups = right-to;
-        closed = end-to;
+        ends = end-to;
         limits =
             limits-same (policyOf s) (policyOf t) same-moved
             (subst (λ (n : ℕ). n ≤ 32) (moved-length Exclusion (λ (x y : Exclusion). x ≡ y) exclusions-permuted) (found .limits .few-exclusions))

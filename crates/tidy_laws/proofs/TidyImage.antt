@@ -79,7 +79,7 @@ module _ (s : List ℕ) (h : Head) (accepted : judge s ≡ Accepted h) where
         each-by (RightMember h) (λ w. repeats start (entryOf w) ≡ false) (λ w m. ap (repeats start) (m .says) ∙ has-none _) (g .members) (r .members),
       ))
       (found .parts .groups) (found .groups)))
-      (ap (repeats start) (found .closed), tt))
+      (ap (repeats start) (found .ends), tt))
 
   apart : (a b : ℕ) → List·Memᴰ (Senior (role a) (role b)) (entriesOf s) → eqb a b ≡ false
   unfolding repeats
@@ -214,7 +214,7 @@ module _ (s : List ℕ) (h : Head) (accepted : judge s ≡ Accepted h) where
   limits-said : policyOf s .limits ≡ policyOf image .limits
   unfolding policyOf
   limits-said =
-      limits-matched h (p .head) (entriesOf s) (entriesOf image) (entries-range s h (found .parts) (found .groups) (found .closed))
+      limits-matched h (p .head) (entriesOf s) (entriesOf image) (entries-range s h (found .parts) (found .groups) (found .ends))
       (entries-range image (p .head) (record { groups = groups; last = last; words = unfold behind in image-behind }) all-right last-end) there back
     where
       read : LimitsRead s
@@ -274,9 +274,9 @@ module _ (s : List ℕ) (h : Head) (accepted : judge s ≡ Accepted h) where
   unfolding groups p policyOf
   groups-short =
       let e = entries-behind s ∙ ap (map entryOf) (found .parts .words) in
-      tidy-size h p (found .parts .groups) (found .parts .last) (found .groups) (found .closed) (ap (fold assigning emptyRows) e)
+      tidy-size h p (found .parts .groups) (found .parts .last) (found .groups) (found .ends) (ap (fold assigning emptyRows) e)
       (ap (fold granting emptyRows) e) (ap (fold ordering emptyRows) e) (ap (fold limiting emptyRows) e)
-      (ap exclusionsOf e ∙ exclusions-in h (found .parts .groups) (found .parts .last) (found .groups) (found .closed))
+      (ap exclusionsOf e ∙ exclusions-in h (found .parts .groups) (found .parts .last) (found .groups) (found .ends))
 
   image-short : length image ≤ length s
   image-short = let a = image-length in let b = groups-short in let c = behind-length in omega arith
@@ -313,7 +313,7 @@ module _ (s : List ℕ) (h : Head) (accepted : judge s ≡ Accepted h) where
         groups =
             subst (λ (k : Head). Each (RightGroup k) groups) same-head
             all-right;
-        closed = last-end;
+        ends = last-end;
         limits =
             limits-same (policyOf s) (policyOf image) image-same
             (subst (λ (l : List Exclusion). length l ≤ 32) (sym image-exclusions) (le-trans (length-sorted (p .exclusions)) (rng .few-exclusions)))

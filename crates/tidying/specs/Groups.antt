@@ -112,6 +112,6 @@ pub record Acceptable (s : List ℕ) (h : Head) : Type 0 where
   pub numbers : headOf (wordAt s 0) ≡ h
   pub parts : Parted s
   pub groups : Each (RightGroup h) (parts .groups)
-  pub closed : entryOf (parts .last) ≡ End
+  pub ends : entryOf (parts .last) ≡ End
   pub limits : Limits (policyOf s)
   pub balance : (wordAt s 0 + sumOf (wordsBehind s)) % 2 ^ 28 ≡ 0
