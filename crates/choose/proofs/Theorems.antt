@@ -4,7 +4,7 @@ use mathlib.Core.Path.{_≡_}
 use Prim.Native.Nat.{ℕ, _+_, _*_, _/_, _^_, _≤_, _<_}
 use lib.ListN.{getD}
 use Rattle.model.specs.declared.Exclusion.{Exclusion}
-use Rattle.choose.specs.Choose.{choose, sumBelow}
+use Rattle.choose.specs.Binomial.{binomial, sumBelow}
 use Rattle.choose.specs.Allowed.{SubsetsCounted, AllowedAlone}
 use Rattle.choose.proofs.Entries.{entries}
 use Rattle.choose.proofs.Rule
@@ -12,11 +12,11 @@ use Rattle.choose.proofs.Sums
 use Rattle.choose.proofs.SubsetCount
 
 -- an entry of the table is "m choose k"
-pub entry-is : (m k : ℕ) → k ≤ m → m ≤ 64 → getD entries (m * (m + 1) / 2 + k) 0 ≡ choose m k
+pub entry-is : (m k : ℕ) → k ≤ m → m ≤ 64 → getD entries (m * (m + 1) / 2 + k) 0 ≡ binomial m k
 entry-is = Rule.entry-is
 
 -- the sum of these below n fits 64 bits
-pub sum-fits : (m n : ℕ) → n ≤ m → m ≤ 64 → sumBelow (choose m) n < 2 ^ 64
+pub sum-fits : (m n : ℕ) → n ≤ m → m ≤ 64 → sumBelow (binomial m) n < 2 ^ 64
 sum-fits = Sums.sum-fits
 
 -- and is the number of subsets with fewer than n members

@@ -14,7 +14,7 @@ use Rattle.model.specs.Sets.{one}
 use Rattle.model.specs.Session.{Reply}
 use Rattle.model.specs.Ranges.{Each}
 use Rattle.script.specs.Script.{linesOf, firstLedger}
-use Rattle.choose.specs.Choose.{sumBelow}
+use Rattle.choose.specs.Binomial.{sumBelow}
 use Rattle.survey.specs.Survey.{answersOf, countOf}
 use Rattle.survey.proofs.Answers.{Small, all-small}
 

@@ -14,7 +14,7 @@ use Rattle.model.specs.Policy.{policyOf, kindNumber}
 use Rattle.model.specs.Session.{Reply}
 use Rattle.script.specs.Script.{ascii, linesOf, numeral, printed, answerTo, firstLedger}
 use Rattle.script.proofs.Computing.{scripting}
-use Rattle.choose.specs.Choose.{choose, sumBelow}
+use Rattle.choose.specs.Binomial.{binomial, sumBelow}
 
 -- ---- the answers of a script
 
@@ -49,7 +49,7 @@ fourFigures a b c d = numeral 10 a ++ (32 ∷ numeral 10 b) ++ (32 ∷ numeral 1
 
 -- how many sets of its members the exclusion allows alone: the sum of "m choose k" for k below n
 unfoldable pub allowed : Exclusion → ℕ
-allowed x = sumBelow (choose (count 64 (x .members))) (x .n)
+allowed x = sumBelow (binomial (count 64 (x .members))) (x .n)
 
 -- which (01: 0 to 3), n, m, and the number of sets that are allowed
 unfoldable pub exclusionLine : Exclusion → List ℕ

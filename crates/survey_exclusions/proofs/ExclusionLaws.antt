@@ -18,14 +18,14 @@ use Rattle.rows.specs.Rows.{exclusionOf}
 use Rattle.tables.specs.Tables.{Tables}
 use Rattle.text.specs.Writing.{Puts}
 use Rattle.text.proofs.TextLaws.{put-nothing, text-put}
-use Rattle.choose.specs.Choose.{choose, sumBelow}
+use Rattle.choose.specs.Binomial.{binomial, sumBelow}
 use Rattle.survey.specs.Survey.{twoFigures, fourFigures, allowed, exclusionLine, exclusionLines}
 use Rattle.survey.specs.Parts.{openingOf, isAccepted}
 use Rattle.survey_exclusions.specs.Writing.{Fitting, RowsFit, Opens}
 use Rattle.survey_exclusions.proofs.Fit.{figures-fit}
 
 -- the line of an exclusion by its figures
-pub exclusion-is : (x : Exclusion) (k m s : ℕ) → k ≡ kindNumber (x .kind) → m ≡ count 64 (x .members) → s ≡ sumBelow (choose m) (x .n)
+pub exclusion-is : (x : Exclusion) (k m s : ℕ) → k ≡ kindNumber (x .kind) → m ≡ count 64 (x .members) → s ≡ sumBelow (binomial m) (x .n)
     → fourFigures k (x .n) m s ≡ exclusionLine x
 unfolding exclusionLine allowed
 exclusion-is x k m s e f g = rw (g, e, f)

@@ -5,11 +5,11 @@ use mathlib.Core.Bool.{true}
 use Rattle.model.specs.Tests.{all}
 use Rattle.model.specs.Policy.{kindNumber}
 use Rattle.script.proofs.Computing.{scripting}
-use Rattle.choose.specs.Choose.{choose, sumBelow}
+use Rattle.choose.specs.Binomial.{binomial, sumBelow}
 use Rattle.survey.specs.Survey.{answersFor, answersOf, countOf, twoFigures, fourFigures, allowed, exclusionLine, exclusionLines, countLine, countLines, surveyBy, survey}
 use Rattle.survey_theorems.specs.Cases.{surveyed, of, fiveRoles, cases}
 
 pub cases-print : all surveyed cases ≡ true
-unfolding scripting kindNumber choose sumBelow answersFor answersOf countOf twoFigures fourFigures allowed exclusionLine exclusionLines
+unfolding scripting kindNumber binomial sumBelow answersFor answersOf countOf twoFigures fourFigures allowed exclusionLine exclusionLines
     countLine countLines surveyBy survey surveyed of fiveRoles cases
 cases-print = refl

@@ -14,7 +14,7 @@ use Rattle.model.specs.Judgement.{judge}
 use Rattle.model.specs.Policy.{policyOf}
 use Rattle.model.specs.Ranges.{Each}
 use Rattle.script.specs.Script.{linesOf, transcript}
-use Rattle.choose.specs.Choose.{sumBelow}
+use Rattle.choose.specs.Binomial.{sumBelow}
 use Rattle.choose.specs.Allowed.{allowsAlone}
 use Rattle.chunks.specs.Joined.{joined, TakesAll}
 use Rattle.survey.specs.Survey.{answersOf, linesFor, countOf, allowed, survey}
