@@ -159,8 +159,8 @@ case image calls answers = record { image = image; ledger = replicate 144 0; cal
 unfoldable pub lines : List Call
 lines = opens ∷ asks 0 0x3 0x1f 1 0 ∷ opens ∷ asks 1 0x12 0x1f 1 0 ∷ closes 0 ∷ asks 1 0x12 0x1f 1 0 ∷ []
 
-unfoldable pub opened : ℕ → List ℕ
-opened k = 0 ∷ k ∷ 0 ∷ 0 ∷ []
+unfoldable pub doneWith : ℕ → List ℕ
+doneWith k = 0 ∷ k ∷ 0 ∷ 0 ∷ []
 
 unfoldable pub chose : ℕ → ℕ → List ℕ
 chose roles permissions = 0 ∷ 0 ∷ roles ∷ permissions ∷ []
@@ -177,21 +177,21 @@ twoAsks = opens ∷ asks 0 0x3 0x1f 0 0 ∷ asks 0 0x12 0x1f 0 0 ∷ []
 
 unfoldable pub starred : List Case
 starred =
-    case imageA (take 1 lines) (opened 0 ∷ [])
-    ∷ case imageA (take 2 lines) (opened 0 ∷ chose 1 0xf ∷ [])
-    ∷ case imageA (take 4 lines) (opened 0 ∷ chose 1 0xf ∷ opened 1 ∷ refused 20 ∷ [])
-    ∷ case imageA lines (opened 0 ∷ chose 1 0xf ∷ opened 1 ∷ refused 20 ∷ opened 0 ∷ chose 2 0x12 ∷ [])
-    ∷ case (imageOfKind 3) lines (opened 0 ∷ chose 1 0xf ∷ opened 1 ∷ refused 20 ∷ opened 0 ∷ refused 20 ∷ [])
-    ∷ case (imageOfKind 2) twoAsks (opened 0 ∷ chose 1 0xf ∷ refused 20 ∷ [])
-    ∷ case (imageOfKind 2) (twoAsks ++ (opens ∷ asks 1 0x12 0x1f 0 0 ∷ [])) (opened 0 ∷ chose 1 0xf ∷ refused 20 ∷ opened 1 ∷ chose 2 0x12 ∷ [])
-    ∷ case imageA (opens ∷ asks 0 0x3 0x3 0 0 ∷ []) (opened 0 ∷ refused 20 ∷ [])
-    ∷ case imageA (opens ∷ asks 0 0 0 1 0 ∷ []) (opened 0 ∷ chose 0 0 ∷ [])
+    case imageA (take 1 lines) (doneWith 0 ∷ [])
+    ∷ case imageA (take 2 lines) (doneWith 0 ∷ chose 1 0xf ∷ [])
+    ∷ case imageA (take 4 lines) (doneWith 0 ∷ chose 1 0xf ∷ doneWith 1 ∷ refused 20 ∷ [])
+    ∷ case imageA lines (doneWith 0 ∷ chose 1 0xf ∷ doneWith 1 ∷ refused 20 ∷ doneWith 0 ∷ chose 2 0x12 ∷ [])
+    ∷ case (imageOfKind 3) lines (doneWith 0 ∷ chose 1 0xf ∷ doneWith 1 ∷ refused 20 ∷ doneWith 0 ∷ refused 20 ∷ [])
+    ∷ case (imageOfKind 2) twoAsks (doneWith 0 ∷ chose 1 0xf ∷ refused 20 ∷ [])
+    ∷ case (imageOfKind 2) (twoAsks ++ (opens ∷ asks 1 0x12 0x1f 0 0 ∷ [])) (doneWith 0 ∷ chose 1 0xf ∷ refused 20 ∷ doneWith 1 ∷ chose 2 0x12 ∷ [])
+    ∷ case imageA (opens ∷ asks 0 0x3 0x3 0 0 ∷ []) (doneWith 0 ∷ refused 20 ∷ [])
+    ∷ case imageA (opens ∷ asks 0 0 0 1 0 ∷ []) (doneWith 0 ∷ chose 0 0 ∷ [])
     ∷ case imageOfOne (opens ∷ asks 0 0x3 0x1f 0 0 ∷ asks 0 0 0 0 0 ∷ []) (replicate 3 (refusedFor 5 9))
     ∷ case imageA (replicate 9 opens)
-    (opened 0 ∷ opened 1 ∷ opened 2 ∷ opened 3 ∷ opened 4 ∷ opened 5 ∷ opened 6 ∷ opened 7 ∷ refused 14 ∷ [])
-    ∷ case threeRoles (opens ∷ asks 0 0x1 0xf 2 0 ∷ []) (opened 0 ∷ chose 3 0xf ∷ [])
-    ∷ case threeRoles (opens ∷ asks 0 0x1 0xf 2 2 ∷ []) (opened 0 ∷ chose 7 0xf ∷ [])
-    ∷ case threeRoles (opens ∷ asks 0 0x1 0xf 1 2 ∷ []) (opened 0 ∷ chose 1 0x5 ∷ [])
+    (doneWith 0 ∷ doneWith 1 ∷ doneWith 2 ∷ doneWith 3 ∷ doneWith 4 ∷ doneWith 5 ∷ doneWith 6 ∷ doneWith 7 ∷ refused 14 ∷ [])
+    ∷ case threeRoles (opens ∷ asks 0 0x1 0xf 2 0 ∷ []) (doneWith 0 ∷ chose 3 0xf ∷ [])
+    ∷ case threeRoles (opens ∷ asks 0 0x1 0xf 2 2 ∷ []) (doneWith 0 ∷ chose 7 0xf ∷ [])
+    ∷ case threeRoles (opens ∷ asks 0 0x1 0xf 1 2 ∷ []) (doneWith 0 ∷ chose 1 0x5 ∷ [])
     ∷ []
 
 -- a line with two open sessions, which have Doctor active
@@ -220,42 +220,42 @@ carded =
     -- the t - 1st session is given the role, and the t-th is refused, over two users, until one closes; a set without the role is given
     caseOfTwo (doctors 2 ∷ []) (replicate 288 0)
     (opens ∷ asksShort 0 0x3 0x1f ∷ openBy 1 ∷ asksDoctor 0 ∷ asksManager 0 ∷ closes 0 ∷ asksDoctor 0 ∷ [])
-    (opened 0 ∷ chose 1 0xf ∷ opened 0 ∷ refused 20 ∷ chose 2 0x12 ∷ opened 0 ∷ chose 1 0xf ∷ [])
+    (doneWith 0 ∷ chose 1 0xf ∷ doneWith 0 ∷ refused 20 ∷ chose 2 0x12 ∷ doneWith 0 ∷ chose 1 0xf ∷ [])
     -- the user's own other sessions count, the roles replaced do not
     ∷ caseOfTwo (doctors 2 ∷ []) (replicate 288 0)
     (opens ∷ asksShort 0 0x3 0x1f ∷ asksShort 0 0x3 0x1f ∷ opens ∷ asksShort 1 0x3 0x1f ∷ [])
-    (opened 0 ∷ chose 1 0xf ∷ chose 1 0xf ∷ opened 1 ∷ refused 20 ∷ [])
+    (doneWith 0 ∷ chose 1 0xf ∷ chose 1 0xf ∷ doneWith 1 ∷ refused 20 ∷ [])
     -- t of 3 lets two sessions hold the role; the limit is that of the role named
     ∷ caseOfTwo (doctors 3 ∷ managers 2 ∷ []) (replicate 288 0)
     (opens ∷ asksShort 0 0x3 0x1f ∷ opens ∷ asksShort 1 0x3 0x1f ∷ openBy 1 ∷ asksDoctor 0 ∷ asksManager 0 ∷ [])
-    (opened 0 ∷ chose 1 0xf ∷ opened 1 ∷ chose 1 0xf ∷ opened 0 ∷ refused 20 ∷ chose 2 0x12 ∷ [])
+    (doneWith 0 ∷ chose 1 0xf ∷ doneWith 1 ∷ chose 1 0xf ∷ doneWith 0 ∷ refused 20 ∷ chose 2 0x12 ∷ [])
     -- of several limits for a role the smallest counts, in either order
     ∷ caseOfTwo (doctors 2 ∷ doctors 3 ∷ []) (replicate 288 0)
-    (opens ∷ asksShort 0 0x3 0x1f ∷ openBy 1 ∷ asksDoctor 0 ∷ []) (opened 0 ∷ chose 1 0xf ∷ opened 0 ∷ refused 20 ∷ [])
+    (opens ∷ asksShort 0 0x3 0x1f ∷ openBy 1 ∷ asksDoctor 0 ∷ []) (doneWith 0 ∷ chose 1 0xf ∷ doneWith 0 ∷ refused 20 ∷ [])
     ∷ caseOfTwo (doctors 3 ∷ doctors 2 ∷ []) (replicate 288 0)
-    (opens ∷ asksShort 0 0x3 0x1f ∷ openBy 1 ∷ asksDoctor 0 ∷ []) (opened 0 ∷ chose 1 0xf ∷ opened 0 ∷ refused 20 ∷ [])
+    (opens ∷ asksShort 0 0x3 0x1f ∷ openBy 1 ∷ asksDoctor 0 ∷ []) (doneWith 0 ∷ chose 1 0xf ∷ doneWith 0 ∷ refused 20 ∷ [])
     -- a closed session's history does not count
     ∷ caseOfTwo (doctors 2 ∷ []) (replicate 288 0)
     (opens ∷ asksShort 0 0x3 0x1f ∷ asksShort 0 0x10 0x1f ∷ openBy 1 ∷ asksDoctor 0 ∷ [])
-    (opened 0 ∷ chose 1 0xf ∷ chose 2 0x12 ∷ opened 0 ∷ chose 1 0xf ∷ [])
+    (doneWith 0 ∷ chose 1 0xf ∷ chose 2 0x12 ∷ doneWith 0 ∷ chose 1 0xf ∷ [])
     -- a damaged line of a higher user: an ask and a clause text name it, before 12, and the other calls do not look at it
     ∷ caseOfTwo (doctors 2 ∷ []) (replicate 144 0 ++ damaged)
     (opens ∷ asksShort 0 0x3 0x1f ∷ asks 8 0 0 3 3 ∷ textsLow 0 0 ∷ shows 0 ∷ explains 0 4 ∷ closes 0 ∷ openBy 1 ∷ asksDoctor 0 ∷ [])
-    (opened 0 ∷ refusedFor 11 2 ∷ refusedFor 11 2 ∷ refusedFor 11 2 ∷ chose 0 0 ∷ refused 20 ∷ opened 0 ∷ refused 11 ∷ refused 11 ∷ [])
+    (doneWith 0 ∷ refusedFor 11 2 ∷ refusedFor 11 2 ∷ refusedFor 11 2 ∷ chose 0 0 ∷ refused 20 ∷ doneWith 0 ∷ refused 11 ∷ refused 11 ∷ [])
     -- a clause text bars the role too, by one line more than there is room for
     ∷ caseOfTwo (managers 2 ∷ []) (replicate 288 0) (openBy 1 ∷ asksManager 0 ∷ opens ∷ textsLow 0 258 ∷ [])
-    (opened 0 ∷ chose 2 0x12 ∷ opened 0 ∷ refused 19 ∷ [])
+    (doneWith 0 ∷ chose 2 0x12 ∷ doneWith 0 ∷ refused 19 ∷ [])
     -- of a lower user, and of both
     ∷ caseOfTwo (doctors 2 ∷ []) (damaged ++ replicate 144 0)
-    (openBy 1 ∷ asksDoctor 0 ∷ asksShort 0 0x3 0x1f ∷ []) (opened 0 ∷ refusedFor 11 1 ∷ refused 11 ∷ [])
+    (openBy 1 ∷ asksDoctor 0 ∷ asksShort 0 0x3 0x1f ∷ []) (doneWith 0 ∷ refusedFor 11 1 ∷ refused 11 ∷ [])
     ∷ caseOfTwo (doctors 2 ∷ []) (damaged ++ damaged) (asksDoctor 0 ∷ asksShort 0 0x3 0x1f ∷ openBy 1 ∷ []) (refusedFor 11 1 ∷ refused 11 ∷ refused 11 ∷ [])
     -- a line over a limit is sound, and asks for other roles go on; without a limit nobody else's line is looked at
     ∷ caseOfTwo (doctors 2 ∷ []) (doctorLine ++ replicate 144 0)
     (shows 0 ∷ asksShort 0 0x3 0x1f ∷ openBy 1 ∷ asksDoctor 0 ∷ asksManager 0 ∷ closes 1 ∷ asksShort 0 0x3 0x1f ∷ [])
-    (chose 1 0xf ∷ refused 20 ∷ opened 0 ∷ refused 20 ∷ chose 2 0x12 ∷ opened 0 ∷ chose 1 0xf ∷ [])
-    ∷ caseOfTwo [] (replicate 144 0 ++ damaged) (opens ∷ asksShort 0 0x3 0x1f ∷ []) (opened 0 ∷ chose 1 0xf ∷ [])
+    (chose 1 0xf ∷ refused 20 ∷ doneWith 0 ∷ refused 20 ∷ chose 2 0x12 ∷ doneWith 0 ∷ chose 1 0xf ∷ [])
+    ∷ caseOfTwo [] (replicate 144 0 ++ damaged) (opens ∷ asksShort 0 0x3 0x1f ∷ []) (doneWith 0 ∷ chose 1 0xf ∷ [])
     -- the middle one of three users asks: sessions of the user below and of the user above count
-    ∷ caseOfThree 3 (activeRole 1) (activeRole 0) (activeRole 1) (asksMiddle ∷ closeBy 2 0 ∷ asksMiddle ∷ []) (refused 20 ∷ opened 0 ∷ chose 1 1 ∷ [])
+    ∷ caseOfThree 3 (activeRole 1) (activeRole 0) (activeRole 1) (asksMiddle ∷ closeBy 2 0 ∷ asksMiddle ∷ []) (refused 20 ∷ doneWith 0 ∷ chose 1 1 ∷ [])
     -- a damaged line of the user above, of the one below, and of both; the asker's own and that of the user above, and of the one below
     ∷ caseOfThree 2 (activeRole 0) (activeRole 0) damaged (asksMiddle ∷ textsMiddle ∷ []) (refusedFor 11 3 ∷ refusedFor 11 3 ∷ [])
     ∷ caseOfThree 2 damaged (activeRole 0) (activeRole 0) (asksMiddle ∷ []) (refusedFor 11 1 ∷ [])
@@ -304,75 +304,75 @@ fewer =
 unfoldable pub settled : List Case
 settled =
     -- the replaced set does not count, in kinds 0 and 1
-    case (imageOfKind 0) twoAsks (opened 0 ∷ chose 1 0xf ∷ chose 2 0x12 ∷ [])
-    ∷ case (imageOfKind 1) twoAsks (opened 0 ∷ chose 1 0xf ∷ chose 2 0x12 ∷ [])
+    case (imageOfKind 0) twoAsks (doneWith 0 ∷ chose 1 0xf ∷ chose 2 0x12 ∷ [])
+    ∷ case (imageOfKind 1) twoAsks (doneWith 0 ∷ chose 1 0xf ∷ chose 2 0x12 ∷ [])
     -- kind 0 counts this session alone
-    ∷ case (imageOfKind 0) (take 4 lines) (opened 0 ∷ chose 1 0xf ∷ opened 1 ∷ chose 2 0x12 ∷ [])
+    ∷ case (imageOfKind 0) (take 4 lines) (doneWith 0 ∷ chose 1 0xf ∷ doneWith 1 ∷ chose 2 0x12 ∷ [])
     -- a closed session's roles still count in kind 3, and no longer in kind 2, where a session begins anew
     ∷ case (imageOfKind 3) (opens ∷ asks 0 0x3 0x1f 0 0 ∷ closes 0 ∷ opens ∷ asks 0 0x12 0x1f 0 0 ∷ [])
-    (opened 0 ∷ chose 1 0xf ∷ opened 0 ∷ opened 0 ∷ refused 20 ∷ [])
+    (doneWith 0 ∷ chose 1 0xf ∷ doneWith 0 ∷ doneWith 0 ∷ refused 20 ∷ [])
     ∷ case (imageOfKind 2) (opens ∷ asks 0 0x3 0x1f 0 0 ∷ closes 0 ∷ opens ∷ asks 0 0x12 0x1f 0 0 ∷ [])
-    (opened 0 ∷ chose 1 0xf ∷ opened 0 ∷ opened 0 ∷ chose 2 0x12 ∷ [])
+    (doneWith 0 ∷ chose 1 0xf ∷ doneWith 0 ∷ doneWith 0 ∷ chose 2 0x12 ∷ [])
     -- a member that two sessions hold counts once
-    ∷ case imageA (opens ∷ asks 0 0x3 0x1f 0 0 ∷ opens ∷ asks 1 0x3 0x1f 0 0 ∷ []) (opened 0 ∷ chose 1 0xf ∷ opened 1 ∷ chose 1 0xf ∷ [])
+    ∷ case imageA (opens ∷ asks 0 0x3 0x1f 0 0 ∷ opens ∷ asks 1 0x3 0x1f 0 0 ∷ []) (doneWith 0 ∷ chose 1 0xf ∷ doneWith 1 ∷ chose 1 0xf ∷ [])
     -- a replaced set stays in the session's history and in the user's, and the session goes on
     ∷ case imageA (twoAsks ++ (shows 0 ∷ opens ∷ asks 1 0x3 0x1f 0 0 ∷ shows 1 ∷ closes 0 ∷ asks 1 0x3 0x1f 0 0 ∷ shows 0 ∷ []))
-    (opened 0 ∷ chose 1 0xf ∷ chose 2 0x12 ∷ chose 2 0x12 ∷ opened 1 ∷ refused 20 ∷ chose 0 0 ∷ opened 0 ∷ chose 1 0xf ∷ refused 13 ∷ [])
+    (doneWith 0 ∷ chose 1 0xf ∷ chose 2 0x12 ∷ chose 2 0x12 ∷ doneWith 1 ∷ refused 20 ∷ chose 0 0 ∷ doneWith 0 ∷ chose 1 0xf ∷ refused 13 ∷ [])
     -- seniority passes permissions, through every step of a chain, and the right to activate a junior
     ∷ case hierarchy (opens ∷ asks 0 0x4 0x7 2 1 ∷ asks 0 0x4 0x7 1 1 ∷ asks 0 0x2 0x6 1 1 ∷ [])
-    (opened 0 ∷ chose 1 0x7 ∷ chose 4 0x4 ∷ chose 2 0x6 ∷ [])
+    (doneWith 0 ∷ chose 1 0x7 ∷ chose 4 0x4 ∷ chose 2 0x6 ∷ [])
     -- the ward head may take Nurse and not Surgeon, and a line is sound with the one active and not with the other
-    ∷ case wardHead (opens ∷ asks 0 0x2 0x2 1 1 ∷ shows 0 ∷ asks 0 0x4 0x7 0 0 ∷ []) (opened 0 ∷ chose 2 0x2 ∷ chose 2 0x2 ∷ refused 20 ∷ [])
+    ∷ case wardHead (opens ∷ asks 0 0x2 0x2 1 1 ∷ shows 0 ∷ asks 0 0x4 0x7 0 0 ∷ []) (doneWith 0 ∷ chose 2 0x2 ∷ chose 2 0x2 ∷ refused 20 ∷ [])
     ∷ record { image = wardHead; ledger = activeRole 0x2; calls = shows 0 ∷ []; answers = chose 2 0x2 ∷ [] }
     ∷ record { image = wardHead; ledger = activeRole 0x4; calls = shows 0 ∷ []; answers = refused 11 ∷ [] }
     -- a loop is refused, before the ledger's length is looked at
     ∷ case loop (opens ∷ asks 0 0x1 0x7 1 1 ∷ []) (refused 22 ∷ refused 22 ∷ [])
     ∷ record { image = loop; ledger = replicate 143 0; calls = opens ∷ []; answers = refused 22 ∷ [] }
     -- a short ask takes the fewest permissions, and of sets with as many the fewest roles, where the objectives 0, 0 take the lowest number
-    ∷ case threeRoles (opens ∷ asks 0 0x6 0xf 0 0 ∷ asksShort 0 0x6 0xf ∷ []) (opened 0 ∷ chose 3 0xf ∷ chose 4 0x6 ∷ [])
+    ∷ case threeRoles (opens ∷ asks 0 0x6 0xf 0 0 ∷ asksShort 0 0x6 0xf ∷ []) (doneWith 0 ∷ chose 3 0xf ∷ chose 4 0x6 ∷ [])
     ∷ case twoAndBoth (opens ∷ asks 0 0x3 0x3 0 0 ∷ asks 0 0x3 0x3 1 0 ∷ asksShort 0 0x3 0x3 ∷ [])
-    (opened 0 ∷ chose 3 0x3 ∷ chose 3 0x3 ∷ chose 4 0x3 ∷ [])
+    (doneWith 0 ∷ chose 3 0x3 ∷ chose 3 0x3 ∷ chose 4 0x3 ∷ [])
     -- permissions come first: two roles that carry 0 and 1 rank before one that carries 2 also
-    ∷ case threeOrTwo (opens ∷ asks 0 0x3 0x7 0 1 ∷ asksShort 0 0x3 0x7 ∷ []) (opened 0 ∷ chose 1 0x7 ∷ chose 6 0x3 ∷ [])
+    ∷ case threeOrTwo (opens ∷ asks 0 0x3 0x7 0 1 ∷ asksShort 0 0x3 0x7 ∷ []) (doneWith 0 ∷ chose 1 0x7 ∷ chose 6 0x3 ∷ [])
     -- an explain names the lowest active role that carries the permission, and the lowest granting role at or below it; it changes nothing
-    ∷ case twoGrants (opens ∷ explains 0 0 ∷ asks 0 0x1 0x1 0 2 ∷ explains 0 0 ∷ []) (opened 0 ∷ refused 20 ∷ chose 14 0x1 ∷ opened 65 ∷ [])
+    ∷ case twoGrants (opens ∷ explains 0 0 ∷ asks 0 0x1 0x1 0 2 ∷ explains 0 0 ∷ []) (doneWith 0 ∷ refused 20 ∷ chose 14 0x1 ∷ doneWith 65 ∷ [])
     ∷ record {
       image = twoGrants;
       ledger = activeRole 12;
       calls = explains 0 0 ∷ explains 0 1 ∷ explains 0 2 ∷ shows 0 ∷ [];
-      answers = opened 129 ∷ refused 20 ∷ refused 16 ∷ chose 12 0x1 ∷ [];
+      answers = doneWith 129 ∷ refused 20 ∷ refused 16 ∷ chose 12 0x1 ∷ [];
     }
     ∷ case hierarchy (opens ∷ asks 0 0x4 0x7 2 1 ∷ explains 0 0 ∷ explains 0 2 ∷ explains 0 (2 ^ 64 - 1) ∷ explains 1 3 ∷ explains 8 3 ∷ [])
-    (opened 0 ∷ chose 1 0x7 ∷ opened 0 ∷ opened 2 ∷ refused 16 ∷ refused 13 ∷ refused 12 ∷ [])
+    (doneWith 0 ∷ chose 1 0x7 ∷ doneWith 0 ∷ doneWith 2 ∷ refused 16 ∷ refused 13 ∷ refused 12 ∷ [])
     ∷ case widest
     (opens ∷ asks 0 (2 ^ 255) (2 ^ 255 + 2 ^ 64) 0 2 ∷ explains 0 64 ∷ explains 0 255 ∷ explains 0 1 ∷ explains 0 256 ∷ asks 0 (2 ^ 255) (2 ^ 255 + 2 ^ 64) 2 1
     ∷ explains 0 64 ∷ [])
-    (opened 0 ∷ chose (2 ^ 63 + 2 ^ 62 + 2 ^ 16) (2 ^ 255 + 2 ^ 64) ∷ opened (64 * 16 + 16) ∷ opened (64 * 62 + 62) ∷ refused 20 ∷ refused 16
-    ∷ chose (2 ^ 63) (2 ^ 255 + 2 ^ 64) ∷ opened (64 * 63 + 16) ∷ [])
+    (doneWith 0 ∷ chose (2 ^ 63 + 2 ^ 62 + 2 ^ 16) (2 ^ 255 + 2 ^ 64) ∷ doneWith (64 * 16 + 16) ∷ doneWith (64 * 62 + 62) ∷ refused 20 ∷ refused 16
+    ∷ chose (2 ^ 63) (2 ^ 255 + 2 ^ 64) ∷ doneWith (64 * 63 + 16) ∷ [])
     ∷ case loop (explains 0 0 ∷ []) (refused 22 ∷ [])
     -- another user's damaged line does not refuse this one's calls
     ∷ record {
       image = imageOfTwo;
       ledger = replicate 144 0 ++ damaged;
       calls = opens ∷ asks 0 0x3 0x1f 0 0 ∷ openBy 1 ∷ openBy 2 ∷ shows 0 ∷ [];
-      answers = opened 0 ∷ chose 1 0xf ∷ refused 11 ∷ refused 10 ∷ chose 1 0xf ∷ [];
+      answers = doneWith 0 ∷ chose 1 0xf ∷ refused 11 ∷ refused 10 ∷ chose 1 0xf ∷ [];
     }
     ∷ record {
       image = imageOfTwo;
       ledger = damaged ++ replicate 144 0;
       calls = opens ∷ openBy 1 ∷ [];
-      answers = refused 11 ∷ opened 0 ∷ [];
+      answers = refused 11 ∷ doneWith 0 ∷ [];
     }
     -- a refused call leaves the line as it was
-    ∷ case imageA (opens ∷ askBy 0 0 (bytesOf 32 0x3) (bytesOf 32 0x1f) 0 0 39 ∷ shows 0 ∷ []) (opened 0 ∷ refused 19 ∷ chose 0 0 ∷ [])
+    ∷ case imageA (opens ∷ askBy 0 0 (bytesOf 32 0x3) (bytesOf 32 0x1f) 0 0 39 ∷ shows 0 ∷ []) (doneWith 0 ∷ refused 19 ∷ chose 0 0 ∷ [])
     -- tests run in number order
     ∷ record { image = imageA; ledger = replicate 143 0; calls = openBy 1 ∷ []; answers = refused 9 ∷ [] }
     ∷ case imageA (openBy 1 ∷ closes 8 ∷ closes 0 ∷ showBy 0 0 39 ∷ opens ∷ showBy 0 0 39 ∷ [])
-    (refused 10 ∷ refused 12 ∷ refused 13 ∷ refused 13 ∷ opened 0 ∷ refused 19 ∷ [])
+    (refused 10 ∷ refused 12 ∷ refused 13 ∷ refused 13 ∷ doneWith 0 ∷ refused 19 ∷ [])
     ∷ case imageA
     (opens ∷ askBy 0 0 (bytesOf 31 0) (bytesOf 32 0x20) 3 3 0 ∷ askBy 0 0 (bytesOf 32 0) (bytesOf 33 0) 3 3 0 ∷ asks 0 0x3f 0x3 3 3
     ∷ asks 0 0 0x20 3 3 ∷ asks 0 0x3 0x1 3 3 ∷ askBy 0 0 (bytesOf 32 0) (bytesOf 32 0) 3 0 39 ∷ askBy 0 0 (bytesOf 32 0) (bytesOf 32 0) 0 3 39
     ∷ askBy 0 0 (bytesOf 32 0x3) (bytesOf 32 0x3) 0 0 39 ∷ shortAskBy 0 0 (bytesOf 32 0x3) (bytesOf 32 0x3) 41 ∷ asksShort 0 0x3 0x3 ∷ [])
-    (opened 0 ∷ refused 15 ∷ refused 15 ∷ refused 16 ∷ refused 16 ∷ refused 17 ∷ refused 18 ∷ refused 18 ∷ refused 19 ∷ refused 19 ∷ refused 20 ∷ [])
+    (doneWith 0 ∷ refused 15 ∷ refused 15 ∷ refused 16 ∷ refused 16 ∷ refused 17 ∷ refused 18 ∷ refused 18 ∷ refused 19 ∷ refused 19 ∷ refused 20 ∷ [])
     -- n below m
     ∷ fewer
