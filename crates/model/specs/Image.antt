@@ -55,7 +55,16 @@ kindOf k = pick (eqb k 0) SsDmer (pick (eqb k 1) MsDmer (pick (eqb k 2) SsHmer M
 abbrev pub says : Entry → ℕ → Word
 says e spare = record { entry = e; spare = spare }
 
--- a word behind the head decoded, by the table of word kinds: what it says, and its spare bits
+-- A word behind the head decoded: what it says, and its spare bits. Bits 31 to 28 are its kind. From bit 27 down, by 01's
+-- table of kinds:
+--   2  assignment  user 27 to 22, role 21 to 16; spare 15 to 0
+--   3  grant       role 27 to 22, permission 21 to 14; spare 13 to 0
+--   4  senior      senior 27 to 22, junior 21 to 16; spare 15 to 0
+--   5  exclusion   kind 27 to 26, n 25 to 19, m 18 to 12; spare 11 to 0
+--   6  member      role 27 to 22; spare 21 to 0
+--   7  limit       role 27 to 22, t 21 to 13; spare 12 to 0
+--   15 end         the balance, 27 to 0; none is spare
+-- Any other kind says nothing.
 unfoldable pub decode : ℕ → Word
 decode w =
     pick (isKind w 2) (says (Assignment (user (field w 22 6)) (role (field w 16 6))) (w % 2 ^ 16))
@@ -142,6 +151,7 @@ scan s h (suc n) place rows t sum =
 
 -- ---- the head, and the whole
 
+-- the head's numbers, from bit 27 down: U 27 to 21, R 20 to 14, P 13 to 5; spare 4 to 0
 unfoldable pub headOf : ℕ → Head
 headOf w = record { users = field w 21 7; roles = field w 14 7; permissions = field w 5 9 }
 
