@@ -103,31 +103,36 @@ uncounted x base = variablesIn (maskOf (x .members) base)
 unfoldable pub room : Exclusion → ℕ → ℕ
 room x base = roomOf (x .members) (x .n) base
 
--- The counter of the variables x₁, .., xₘ up to n: a row of n helpers for each. Where a row stands behind number a, its helper a + j says
--- that at least j of the variables up to the row's own are true. The next row, of the variable x, stands behind a + n.
+-- The counter of the variables x(1), .., x(e) up to t, as docs/CLAUSES.md has it: helper (i, j), for j from 1 to t, says
+-- that at least j of x(1), .., x(i) are true. Where row i of helpers stands behind the number a, (i, j) is variable a + j,
+-- and row i + 1 stands behind a + t.
+abbrev pub helper : ℕ → ℕ → ℕ
+helper a j = a + j
 
--- what was counted stays counted
+-- what was counted stays counted, row i - 1 behind a: for each j from 1 to t, `-(i - 1, j)` `(i, j)`; the list counts j from 0
 unfoldable pub keeping : ℕ → ℕ → List Clause
-keeping n a = listTo n (λ j. gives (a + j + 1) (a + n + j + 1) ∷ [])
+keeping t a = listTo t (λ j. gives (helper a j + 1) (helper (a + t) j + 1) ∷ [])
 
--- x counts one more
+-- x(i) counts one more: for each j from 2 to t, `-x(i)` `-(i - 1, j - 1)` `(i, j)`
 unfoldable pub adding : ℕ → ℕ → ℕ → List Clause
-adding n a x = listTo (n - 1) (λ j. give x (a + j + 1) (a + n + j + 2) ∷ [])
+adding t a x = listTo (t - 1) (λ j. give x (helper a j + 1) (helper (a + t) j + 2) ∷ [])
 
+-- the clauses of x(i): `-x(i)` `(i, 1)`, then these
 unfoldable pub row : ℕ → ℕ → ℕ → List Clause
-row n a x = gives x (a + n + 1) ∷ (keeping n a ++ adding n a x)
+row t a x = gives x (helper (a + t) 1) ∷ (keeping t a ++ adding t a x)
 
--- the rows behind the row at a, and that the last helper of the last row is false
+-- those of the variables behind the row at a, and last `-(e, t)`
 unfoldable pub rows : ℕ → ℕ → List ℕ → List Clause
-rows n a [] = mustNot (a + n) ∷ []
-rows n a (x ∷ xs) = row n a x ++ rows n (a + n) xs
+rows t a [] = mustNot (helper a t) ∷ []
+rows t a (x ∷ xs) = row t a x ++ rows t (a + t) xs
 
--- fewer than n of the variables are true, by helpers behind a; with no variable no clause is needed
+-- fewer than t of the variables are true, by helpers behind a: `-x(1)` `(1, 1)`, then the rows; with no variable no clause
+-- is needed
 unfoldable pub counter : ℕ → ℕ → List ℕ → List Clause
-counter n a [] = []
-counter n a (x ∷ xs) = gives x (a + 1) ∷ rows n a xs
+counter t a [] = []
+counter t a (x ∷ xs) = gives x (helper a 1) ∷ rows t a xs
 
--- one exclusion, its helpers behind a
+-- one exclusion, its helpers behind a: t is its room, x(1), .., x(e) are its members that are not counted
 unfoldable pub excluding : Line → ℕ → ℕ → Exclusion → List Clause
 excluding l k a x = let base = stays l k (x .kind) in counter (room x base) a (uncounted x base)
 
