@@ -1,4 +1,5 @@
 -- What is claimed of the clauses of an ask and of their text.
+pub mod Premises
 pub mod Satisfied
 pub mod Texts
 pub mod Reading
