@@ -1,6 +1,6 @@
--- Images and how they are judged: image A with words replaced, put in or left out, each with the number and the place of its refusal
--- (0, 0: accepted). The words are written as in specs/Words.antt of model. Each clause of the register's lines 1 to 8 has a case, and so
--- has each tie; 22 comes after them with a role, 23 with a user.
+-- Images and how they are judged: image A with words replaced, put in or left out, each with its refusal's number and place
+-- (0, 0: accepted). The words are written as in specs/Words.antt of model. Each clause of the register's lines 1 to 8 has a
+-- case, and so has each tie; 22 comes after them with a role, 23 with a user.
 -- Assumes nothing.
 use mathlib.Core.Bool.{Bool}
 use mathlib.Core.List.{List, [], _∷_, _++_}
@@ -237,7 +237,7 @@ judgedImages =
     -- 3 before 4 and 5; 4 before 5
     ∷ judged (replaced 10 (spare 0 (limitWord 2 1))) 3 10
     ∷ judged (replaced 3 (spare 0 (limitWord 2 1))) 4 3
-    -- 8, balance: the lowest bit of the end word, the highest of its 28 (the sum with 32 exclusions, above, drops its carries)
+    -- 8, balance: the lowest bit of the end word, the highest of its 28; the sum with 32 exclusions drops its carries
     ∷ judged (endedBy (balance + wordOfKind 15 + 1)) 8 12
     ∷ judged (endedBy (balance + wordOfKind 15 - 2 ^ 27)) 8 12
     -- two faults of one word, the lower number: 3 before 4 and 5

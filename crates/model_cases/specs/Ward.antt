@@ -8,13 +8,14 @@ use lib.Dec.{eqb}
 use lib.ListN.{replicate, take, drop}
 use Rattle.model.specs.Tests.{sameLists}
 use Rattle.model.specs.Bytes.{number, bytesOf}
-use Rattle.model.specs.Words.{imageBytes, ended}
+use Rattle.model.specs.Words.{headWord, assignWord, grantWord, seniorWord, exclusionWord, memberWord, limitWord, imageBytes, ended}
 use Rattle.model.specs.Line.{SESSIONS}
 use Rattle.model.specs.Run.{Call, Event, run, openBy, closeBy, askBy, shortAskBy, showBy, explainBy, clausesBy}
 
 -- ---- images as words
 
--- image A: Doctor carries 0 to 3, Data_Manager 1 and 4; one user has both, and no two may be active in any of her sessions
+-- image A, in 01's own words: Doctor carries 0 to 3, Data_Manager 1 and 4; one user has both, and no two may be active in
+-- any of her sessions
 unfoldable pub imageA : List ℕ
 imageA =
     0x102080A0 ∷ 0x20000000 ∷ 0x20010000 ∷ 0x30000000 ∷ 0x30004000 ∷ 0x30008000 ∷ 0x3000C000 ∷ 0x30404000 ∷ 0x30410000 ∷ 0x54102000
@@ -22,81 +23,81 @@ imageA =
 
 -- image A with another exclusion word
 unfoldable pub imageWith : ℕ → List ℕ
-imageWith x = ended (take 9 imageA ++ (x ∷ 0x60000000 ∷ 0x60400000 ∷ []))
+imageWith x = ended (take 9 imageA ++ (x ∷ memberWord 0 ∷ memberWord 1 ∷ []))
 
 -- image A with kind k, and with n of 1, which is refused
 unfoldable pub imageOfKind : ℕ → List ℕ
-imageOfKind k = imageWith (0x50102000 + k * 2 ^ 26)
+imageOfKind k = imageWith (exclusionWord k 2 2)
 
 unfoldable pub imageOfOne : List ℕ
-imageOfOne = imageWith 0x54082000
+imageOfOne = imageWith (exclusionWord 1 1 2)
 
 -- image A for two users, the second with the same roles
 unfoldable pub imageOfTwo : List ℕ
-imageOfTwo = ended (0x104080A0 ∷ 0x20400000 ∷ 0x20410000 ∷ drop 1 (take 12 imageA))
+imageOfTwo = ended (headWord 2 2 5 ∷ assignWord 1 0 ∷ assignWord 1 1 ∷ drop 1 (take 12 imageA))
 
 -- the same with limit words
 unfoldable pub imageLimited : List ℕ → List ℕ
-imageLimited ws = ended (0x104080A0 ∷ 0x20400000 ∷ 0x20410000 ∷ (drop 1 (take 12 imageA) ++ ws))
+imageLimited ws = ended (headWord 2 2 5 ∷ assignWord 1 0 ∷ assignWord 1 1 ∷ (drop 1 (take 12 imageA) ++ ws))
 
 -- the limit t on Doctor, and on Data_Manager
 unfoldable pub doctors : ℕ → ℕ
-doctors t = 0x70000000 + t * 2 ^ 13
+doctors t = limitWord 0 t
 
 unfoldable pub managers : ℕ → ℕ
-managers t = 0x70400000 + t * 2 ^ 13
+managers t = limitWord 1 t
 
 -- four roles that carry nothing, three of them the user's; by kind k fewer than n of the first m roles may be counted
 unfoldable pub fewerOf : ℕ → ℕ → ℕ → List ℕ
 fewerOf k n m =
     ended
-    (0x10210020 ∷ 0x20000000 ∷ 0x20010000 ∷ 0x20020000 ∷ (0x50000000 + k * 2 ^ 26 + n * 2 ^ 19 + m * 2 ^ 12)
-    ∷ take m (0x60000000 ∷ 0x60400000 ∷ 0x60800000 ∷ 0x60C00000 ∷ []))
+    (headWord 1 4 1 ∷ assignWord 0 0 ∷ assignWord 0 1 ∷ assignWord 0 2 ∷ exclusionWord k n m
+    ∷ take m (memberWord 0 ∷ memberWord 1 ∷ memberWord 2 ∷ memberWord 3 ∷ []))
 
 -- three users with one role, which carries the one permission; fewer than t sessions may hold it
 unfoldable pub oneRole : ℕ → List ℕ
-oneRole t = ended (0x10604020 ∷ 0x20000000 ∷ 0x20400000 ∷ 0x20800000 ∷ 0x30000000 ∷ doctors t ∷ [])
+oneRole t = ended (headWord 3 1 1 ∷ assignWord 0 0 ∷ assignWord 1 0 ∷ assignWord 2 0 ∷ grantWord 0 0 ∷ doctors t ∷ [])
 
 -- 003's three roles, which carry 0 and 2, 1 and 3, 1 and 2
 unfoldable pub threeRoles : List ℕ
 threeRoles =
     ended
-    (0x1020C080 ∷ 0x20000000 ∷ 0x20010000 ∷ 0x20020000 ∷ 0x30000000 ∷ 0x30008000 ∷ 0x30404000 ∷ 0x3040C000 ∷ 0x30804000 ∷ 0x30808000 ∷ [])
+    (headWord 1 3 4 ∷ assignWord 0 0 ∷ assignWord 0 1 ∷ assignWord 0 2 ∷ grantWord 0 0 ∷ grantWord 0 2 ∷ grantWord 1 1 ∷ grantWord 1 3 ∷ grantWord 2 1 ∷ grantWord 2 2 ∷ [])
 
 -- three roles, which carry 0, 1, and both
 unfoldable pub twoAndBoth : List ℕ
-twoAndBoth = ended (0x1020C040 ∷ 0x20000000 ∷ 0x20010000 ∷ 0x20020000 ∷ 0x30000000 ∷ 0x30404000 ∷ 0x30800000 ∷ 0x30804000 ∷ [])
+twoAndBoth = ended (headWord 1 3 2 ∷ assignWord 0 0 ∷ assignWord 0 1 ∷ assignWord 0 2 ∷ grantWord 0 0 ∷ grantWord 1 1 ∷ grantWord 2 0 ∷ grantWord 2 1 ∷ [])
 
 -- three roles, which carry all of 0 to 2, 0, and 1
 unfoldable pub threeOrTwo : List ℕ
 threeOrTwo =
     ended
-    (0x1020C060 ∷ 0x20000000 ∷ 0x20010000 ∷ 0x20020000 ∷ 0x30000000 ∷ 0x30004000 ∷ 0x30008000 ∷ 0x30400000 ∷ 0x30804000 ∷ [])
+    (headWord 1 3 3 ∷ assignWord 0 0 ∷ assignWord 0 1 ∷ assignWord 0 2 ∷ grantWord 0 0 ∷ grantWord 0 1 ∷ grantWord 0 2 ∷ grantWord 1 0 ∷ grantWord 2 1 ∷ [])
 
 -- role 0 over 1 over 2, role r granted permission r; the user has role 0 alone
 unfoldable pub hierarchy : List ℕ
-hierarchy = ended (0x1020C060 ∷ 0x20000000 ∷ 0x30000000 ∷ 0x30404000 ∷ 0x30808000 ∷ 0x40010000 ∷ 0x40420000 ∷ [])
+hierarchy = ended (headWord 1 3 3 ∷ assignWord 0 0 ∷ grantWord 0 0 ∷ grantWord 1 1 ∷ grantWord 2 2 ∷ seniorWord 0 1 ∷ seniorWord 1 2 ∷ [])
 
 -- Head, Nurse and Surgeon, Head over Nurse, role r granted permission r; the user is assigned to Head alone
 unfoldable pub wardHead : List ℕ
-wardHead = ended (0x1020C060 ∷ 0x20000000 ∷ 0x30000000 ∷ 0x30404000 ∷ 0x30808000 ∷ 0x40010000 ∷ [])
+wardHead = ended (headWord 1 3 3 ∷ assignWord 0 0 ∷ grantWord 0 0 ∷ grantWord 1 1 ∷ grantWord 2 2 ∷ seniorWord 0 1 ∷ [])
 
 -- the hierarchy with role 2 over 0, a loop; the user has roles 1 and 2
 unfoldable pub loop : List ℕ
-loop = ended (0x1020C060 ∷ 0x20010000 ∷ 0x20020000 ∷ 0x30000000 ∷ 0x30404000 ∷ 0x30808000 ∷ 0x40010000 ∷ 0x40420000 ∷ 0x40800000 ∷ [])
+loop = ended (headWord 1 3 3 ∷ assignWord 0 1 ∷ assignWord 0 2 ∷ grantWord 0 0 ∷ grantWord 1 1 ∷ grantWord 2 2 ∷ seniorWord 0 1 ∷ seniorWord 1 2 ∷ seniorWord 2 0 ∷ [])
 
 -- role 0 over 3 over 2 over 1; roles 1 and 2 are granted permission 0, role 0 permission 1; the user has roles 2 and 3
 unfoldable pub twoGrants : List ℕ
 twoGrants =
     ended
-    (0x10210040 ∷ 0x20020000 ∷ 0x20030000 ∷ 0x30400000 ∷ 0x30800000 ∷ 0x30004000 ∷ 0x40C20000 ∷ 0x40810000 ∷ 0x40030000 ∷ [])
+    (headWord 1 4 2 ∷ assignWord 0 2 ∷ assignWord 0 3 ∷ grantWord 1 0 ∷ grantWord 2 0 ∷ grantWord 0 1 ∷ seniorWord 3 2 ∷ seniorWord 2 1 ∷ seniorWord 0 3 ∷ [])
 
 -- the widest numbers: 64 roles and 256 permissions; role 63 over 62 and 16, permission 64 granted to roles 16 and 63, permission 255 to
 -- roles 62 and 63; the user has roles 16 and 63
 unfoldable pub widest : List ℕ
 widest =
     ended
-    (0x10302000 ∷ 0x20100000 ∷ 0x203F0000 ∷ 0x34100000 ∷ 0x3FD00000 ∷ 0x3FBFC000 ∷ 0x3FFFC000 ∷ 0x4FD00000 ∷ 0x4FFE0000 ∷ [])
+    (headWord 1 64 256 ∷ assignWord 0 16 ∷ assignWord 0 63 ∷ grantWord 16 64 ∷ grantWord 63 64 ∷ grantWord 62 255 ∷ grantWord 63 255 ∷ seniorWord 63 16 ∷ seniorWord 63 62 ∷ [])
 
 -- ---- calls by user 0, with the bounds as set numbers
 
@@ -159,9 +160,12 @@ case image calls answers = record { image = image; ledger = replicate 144 0; cal
 unfoldable pub lines : List Call
 lines = opens ∷ asks 0 0x3 0x1f 1 0 ∷ opens ∷ asks 1 0x12 0x1f 1 0 ∷ closes 0 ∷ asks 1 0x12 0x1f 1 0 ∷ []
 
+-- done, with an extra and nothing filled in: the session that an open took, or the two roles of an explain, 64 times the
+-- active one plus the granting one
 unfoldable pub doneWith : ℕ → List ℕ
-doneWith k = 0 ∷ k ∷ 0 ∷ 0 ∷ []
+doneWith x = 0 ∷ x ∷ 0 ∷ 0 ∷ []
 
+-- done, with roles and the permissions that they carry
 unfoldable pub chose : ℕ → ℕ → List ℕ
 chose roles permissions = 0 ∷ 0 ∷ roles ∷ permissions ∷ []
 
