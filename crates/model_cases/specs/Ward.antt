@@ -62,17 +62,22 @@ oneRole t = ended (headWord 3 1 1 ∷ assignWord 0 0 ∷ assignWord 1 0 ∷ assi
 unfoldable pub threeRoles : List ℕ
 threeRoles =
     ended
-    (headWord 1 3 4 ∷ assignWord 0 0 ∷ assignWord 0 1 ∷ assignWord 0 2 ∷ grantWord 0 0 ∷ grantWord 0 2 ∷ grantWord 1 1 ∷ grantWord 1 3 ∷ grantWord 2 1 ∷ grantWord 2 2 ∷ [])
+    (headWord 1 3 4 ∷ assignWord 0 0 ∷ assignWord 0 1 ∷ assignWord 0 2 ∷ grantWord 0 0 ∷ grantWord 0 2 ∷ grantWord 1 1 ∷ grantWord 1 3
+    ∷ grantWord 2 1 ∷ grantWord 2 2 ∷ [])
 
 -- three roles, which carry 0, 1, and both
 unfoldable pub twoAndBoth : List ℕ
-twoAndBoth = ended (headWord 1 3 2 ∷ assignWord 0 0 ∷ assignWord 0 1 ∷ assignWord 0 2 ∷ grantWord 0 0 ∷ grantWord 1 1 ∷ grantWord 2 0 ∷ grantWord 2 1 ∷ [])
+twoAndBoth =
+    ended
+    (headWord 1 3 2 ∷ assignWord 0 0 ∷ assignWord 0 1 ∷ assignWord 0 2 ∷ grantWord 0 0 ∷ grantWord 1 1 ∷ grantWord 2 0 ∷ grantWord 2 1
+    ∷ [])
 
 -- three roles, which carry all of 0 to 2, 0, and 1
 unfoldable pub threeOrTwo : List ℕ
 threeOrTwo =
     ended
-    (headWord 1 3 3 ∷ assignWord 0 0 ∷ assignWord 0 1 ∷ assignWord 0 2 ∷ grantWord 0 0 ∷ grantWord 0 1 ∷ grantWord 0 2 ∷ grantWord 1 0 ∷ grantWord 2 1 ∷ [])
+    (headWord 1 3 3 ∷ assignWord 0 0 ∷ assignWord 0 1 ∷ assignWord 0 2 ∷ grantWord 0 0 ∷ grantWord 0 1 ∷ grantWord 0 2 ∷ grantWord 1 0
+    ∷ grantWord 2 1 ∷ [])
 
 -- role 0 over 1 over 2, role r granted permission r; the user has role 0 alone
 unfoldable pub hierarchy : List ℕ
@@ -84,20 +89,25 @@ wardHead = ended (headWord 1 3 3 ∷ assignWord 0 0 ∷ grantWord 0 0 ∷ grantW
 
 -- the hierarchy with role 2 over 0, a loop; the user has roles 1 and 2
 unfoldable pub loop : List ℕ
-loop = ended (headWord 1 3 3 ∷ assignWord 0 1 ∷ assignWord 0 2 ∷ grantWord 0 0 ∷ grantWord 1 1 ∷ grantWord 2 2 ∷ seniorWord 0 1 ∷ seniorWord 1 2 ∷ seniorWord 2 0 ∷ [])
+loop =
+    ended
+    (headWord 1 3 3 ∷ assignWord 0 1 ∷ assignWord 0 2 ∷ grantWord 0 0 ∷ grantWord 1 1 ∷ grantWord 2 2 ∷ seniorWord 0 1 ∷ seniorWord 1 2
+    ∷ seniorWord 2 0 ∷ [])
 
 -- role 0 over 3 over 2 over 1; roles 1 and 2 are granted permission 0, role 0 permission 1; the user has roles 2 and 3
 unfoldable pub twoGrants : List ℕ
 twoGrants =
     ended
-    (headWord 1 4 2 ∷ assignWord 0 2 ∷ assignWord 0 3 ∷ grantWord 1 0 ∷ grantWord 2 0 ∷ grantWord 0 1 ∷ seniorWord 3 2 ∷ seniorWord 2 1 ∷ seniorWord 0 3 ∷ [])
+    (headWord 1 4 2 ∷ assignWord 0 2 ∷ assignWord 0 3 ∷ grantWord 1 0 ∷ grantWord 2 0 ∷ grantWord 0 1 ∷ seniorWord 3 2 ∷ seniorWord 2 1
+    ∷ seniorWord 0 3 ∷ [])
 
 -- the widest numbers: 64 roles and 256 permissions; role 63 over 62 and 16, permission 64 granted to roles 16 and 63, permission 255 to
 -- roles 62 and 63; the user has roles 16 and 63
 unfoldable pub widest : List ℕ
 widest =
     ended
-    (headWord 1 64 256 ∷ assignWord 0 16 ∷ assignWord 0 63 ∷ grantWord 16 64 ∷ grantWord 63 64 ∷ grantWord 62 255 ∷ grantWord 63 255 ∷ seniorWord 63 16 ∷ seniorWord 63 62 ∷ [])
+    (headWord 1 64 256 ∷ assignWord 0 16 ∷ assignWord 0 63 ∷ grantWord 16 64 ∷ grantWord 63 64 ∷ grantWord 62 255 ∷ grantWord 63 255
+    ∷ seniorWord 63 16 ∷ seniorWord 63 62 ∷ [])
 
 -- ---- calls by user 0, with the bounds as set numbers
 

@@ -32,7 +32,9 @@ loop-again : tie.Need-loop-again Inv-loop μ-loop
 loop-again c = (omega arith, closure-next _ _ _ _ (c .before .before .before .loop .inv .1) (c .through-first .ensures))
 
 returns : tie.Need-returns Inv-loop μ-loop
-returns c = c .before .loop .inv .1 ∙ ap (λ (j : ℕ). closureBy j (c .before .before .args .rows .now)) (le-antisymm (c .before .loop .inv .0) (c .loop-test .left))
+returns c =
+    c .before .loop .inv .1 ∙ ap (λ (j : ℕ). closureBy j (c .before .before .args .rows .now))
+    (le-antisymm (c .before .loop .inv .0) (c .loop-test .left))
 
 pub close-first-spec : {M : Type 1} → statement M
 close-first-spec = tie.close (tie.spec Inv-loop μ-loop loop-holds through-first-requires (λ c. search needs) (λ c. search needs) loop-again returns)
