@@ -1,2 +1,4 @@
 -- What the contracts of the words' code say, beside the model's definitions.
+
+-- Helpers of code and proofs: no theorem and no exported contract is stated in these.
 pub mod Bounds

@@ -1,3 +1,6 @@
+-- The definitions of the session kit, and what is claimed of them.
+
+-- Believed: theorems or the contracts of exported functions are stated in these. First what there is, in 01's order.
 pub mod Tests
 pub mod Sets
 pub mod Kinds
@@ -16,6 +19,8 @@ pub mod Dimacs
 pub mod Session
 pub mod Loop
 pub mod Run
+
+-- Believed: what the theorems claim of it.
 pub mod OwnWords
 pub mod Independence
 pub mod Frames
@@ -29,6 +34,10 @@ pub mod Kept
 pub mod Explained
 pub mod Obstacles
 pub mod Moves
+
+-- Helpers of code and proofs: no theorem and no exported contract is stated in these.
 pub mod Computing
+
+-- Computed: facts at small values; a definition that is changed shows here.
 pub mod Facts
 pub mod Pinned

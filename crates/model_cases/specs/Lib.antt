@@ -1,3 +1,4 @@
+-- Believed: theorems or the contracts of exported functions are stated in these.
 pub mod Ward
 pub mod ObstacleCases
 pub mod Refusals

@@ -1,4 +1,6 @@
 -- What the register of refusals says.
+
+-- Believed: theorems or the contracts of exported functions are stated in these.
 pub mod Bits
 pub mod Ledger
 pub mod Entries

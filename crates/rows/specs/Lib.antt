@@ -1,2 +1,4 @@
 -- What the contracts of the rows' code say, beside the model's definitions.
+
+-- Believed: theorems or the contracts of exported functions are stated in these.
 pub mod Rows

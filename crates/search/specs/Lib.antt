@@ -1,2 +1,4 @@
 -- What a query's answer says, over the model's definitions.
+
+-- Helpers of code and proofs: no theorem and no exported contract is stated in these.
 pub mod Answer
