@@ -1,7 +1,6 @@
 -- The rows and the reduced exclusions stand for the ask, and its text is short.
 -- Assumes nothing.
-use mathlib.Core.Path.{_≡_, refl, sym, ap, ap₂, subst, _∙_}
-use mathlib.Core.Bool.{true}
+use mathlib.Core.Path.{_≡_, sym, ap, ap₂, subst, _∙_}
 use mathlib.Core.List.{List}
 use Prim.Native.Nat.{ℕ, _≤_, _<_}
 use native.Mathlib.Omega.{arith}
@@ -13,7 +12,6 @@ use Rattle.model.specs.declared.Head.{Head}
 use Rattle.model.specs.declared.Exclusion.{Exclusion}
 use Rattle.model.specs.declared.Exclusions.{Exclusions}
 use Rattle.model.specs.declared.Line.{Line}
-use Rattle.model.specs.Sets.{has}
 use Rattle.model.specs.Policy.{Policy, belowTable, meaning}
 use Rattle.model.specs.Line.{SESSIONS, readLine, exclusionsMet}
 use Rattle.model.specs.Limits.{Others, unbarred}
@@ -23,9 +21,8 @@ use Rattle.model_laws.proofs.LineLaws.{length-readSessions}
 use Rattle.sets.specs.Words.{values}
 use Rattle.tables_rows.specs.Carried.{carriedRows}
 use Rattle.query.specs.Carry.{rowsOf}
-use Rattle.query_rooms.specs.Rooms.{allBelow}
 use Rattle.query_rooms.specs.Reduction.{Reduces}
-use Rattle.query_rooms.proofs.RoomLaws.{below-at}
+use Rattle.query_rooms.proofs.RoomLaws.{every-has, every}
 use Rattle.asks.specs.Asks.{leftTo, Searched}
 use Rattle.asks.proofs.Rows.{carry-rows}
 use Rattle.encoding.specs.Texts.{TEXT_ROOM}
@@ -35,14 +32,6 @@ use Rattle.clauses.specs.Writing.{Written}
 use Rattle.clauses_text.specs.Whole.{textBy}
 use Rattle.clauses.specs.Stands.{Reduced, Stands}
 use Rattle.clauses.proofs.Meant.{text-is}
-
--- the set of all roles
-abbrev pub every : ℕ
-every = 18446744073709551615
-
-every-has : (r : ℕ) → r < 64 → has every r ≡ true
-unfolding allBelow has
-every-has r h = below-at (has every) 64 r refl h
 
 -- a line has as many sessions as are read
 pub line-sessions : (W : ℕ) (ledger : List ℕ) (u : ℕ) → length (lineOf W ledger u .sessions) ≡ W

@@ -18,7 +18,7 @@ use Rattle.sets.specs.Words.{value, joined}
 use Rattle.sets.proofs.Taken.{without-lt, without-gone, without-other, count-without}
 use Rattle.query.specs.Carry.{Turned}
 use Rattle.query_rooms.specs.Rooms.{allBelow}
-use Rattle.query_rooms.proofs.RoomLaws.{below-at}
+use Rattle.query_rooms.proofs.RoomLaws.{below-at, every}
 use Rattle.clauses_bytes.specs.Putting.{Puts}
 use Rattle.clauses_lines.specs.Lines.{lineOf, linesOf}
 use Rattle.clauses_hard.specs.Parts.{rolesIn, Columns, carrier, carriersTo, carriedOne}
@@ -73,10 +73,6 @@ module _ (R s : ℕ) where
     roles-fewer = omega (arith, ap (count R) e, count-without R s k small inside (low .member))
 
 -- ---- a column
-
--- a word of all numbers below 64
-abbrev every : ℕ
-every = 18446744073709551615
 
 -- all permissions are wanted, of the roles below R
 pub columns-are : (R : ℕ) (row : ℕ → ℕ) (t : List ℕ) (low : ℕ) → R ≤ 64 → low ≡ every % 2 ^ R

@@ -1,9 +1,9 @@
 -- The members of a set from a number on: those in the number's word, the next one, and how many there are.
 -- Assumes nothing.
-use mathlib.Core.Path.{_≡_, refl, sym, ap, _∙_}
-use mathlib.Core.Bool.{Bool, true, false}
+use mathlib.Core.Path.{_≡_, sym, ap, _∙_}
+use mathlib.Core.Bool.{false}
 use mathlib.Core.List.{List}
-use Prim.Native.Nat.{ℕ, zero, suc, _+_, _-_, _*_, _/_, _%_, _^_, _≤_, _<_}
+use Prim.Native.Nat.{ℕ, _+_, _-_, _*_, _/_, _%_, _^_, _≤_, _<_}
 use native.Mathlib.Nat.{mod-lt, mod-eq-of-lt}
 use native.Mathlib.Decide.{decLt}
 use native.Mathlib.Omega.{arith}
@@ -13,13 +13,14 @@ use lib.ListN.{getD}
 use mir.Val.{Fits}
 use mir.Syntax.{w64}
 use Rattle.model.specs.Sets.{has, one, countTo, count}
-use Rattle.model_laws.proofs.SetLaws.{has-low, has-high, has-beyond, ones-count, shl-one, count-cong}
+use Rattle.model_laws.proofs.SetLaws.{has-low, has-high, has-beyond, ones-count, shl-one, count-cong, count-split}
 use Rattle.sets.specs.Members.{Lowest}
 use Rattle.sets.specs.Words.{value}
 use Rattle.sets.proofs.Machine.{value-has}
 use Rattle.sets.proofs.Taken.{lowest-least}
 use Rattle.clauses_hard.specs.Members.{Rest, Next, Smaller}
 use Rattle.model_laws.proofs.Ranks.{count-most}
+use Rattle.model_laws.proofs.Bools.{fails}
 
 -- ---- in a number's word
 
@@ -43,11 +44,6 @@ Between s from at = (k : ℕ) → from ≤ k → k < at → has s k ≡ false
 pub between-none : (s at : ℕ) → Between s at at
 between-none s at k g h = absurd (omega arith)
 
--- a test that is not true is false
-not-true : (b : Bool) → (b ≡ true → ⊥) → b ≡ false
-not-true true h = absurd (h refl)
-not-true false h = refl
-
 module _ (s from at rest : ℕ) (none : Between s from at) (part : Rest s at rest) where
   -- none before the place, and none in the d numbers from there on: none in all
   between-more : (d : ℕ) → d ≤ 64 - at % 64 → ((k : ℕ) → k < d → has rest k ≡ false) → Between s from (at + d)
@@ -70,7 +66,7 @@ module _ (s from at rest : ℕ) (none : Between s from at) (part : Rest s at res
         inside = cut .second;
         member = λ h. ap (has s) (cut .reached h) ∙ part .same r inside ∙ low .member;
         between =
-            λ k a b. between-more r (omega arith) (λ j h. not-true (has rest j) (λ m. omega (arith, lowest-least rest r j low m))) k a
+            λ k a b. between-more r (omega arith) (λ j h. fails (has rest j) (λ m. omega (arith, lowest-least rest r j low m))) k a
             (omega (arith, cut .first));
       }
     where
@@ -105,16 +101,11 @@ module _ (word n : ℕ) where
 pub ones-fit : (n : ℕ) → Fits w64 n → Fits w64 (ones n)
 ones-fit n h = omega (arith, ones-le 64 n (h .fits))
 
-counted-on : (f : ℕ → Bool) (a b : ℕ) → countTo f (a + b) ≡ countTo f a + countTo (λ k. f (a + k)) b
-unfolding countTo
-counted-on f a zero = let e : a + 0 ≡ a = omega arith in rw e (omega arith)
-counted-on f a (suc b) = let e : a + suc b ≡ suc (a + b) = omega arith in rw e (omega (arith, counted-on f a b))
-
 -- the members of m numbers more, which stand in one word
 pub count-more : (s from rest m n t : ℕ) → Rest s from rest → m ≤ 64 - from % 64 → n ≡ count from s → t ≡ count m rest → n + t ≡ count (from + m) s
 unfolding count
 count-more s from rest m n t part small e f =
-    omega (arith, counted-on (has s) from m, count-cong (λ k. has s (from + k)) (has rest) m (λ k h. part .same k (omega arith)))
+    omega (arith, count-split (has s) from m, count-cong (λ k. has s (from + k)) (has rest) m (λ k h. part .same k (omega arith)))
 
 pub smaller-some : (a b r : ℕ) → 0 < a → 0 < b → Smaller a b r → 0 < r
 smaller-some a b r ha hb h = elim (decLt r b) [ yes q ↦ omega (arith, h .reached q) | no q ↦ omega arith ]

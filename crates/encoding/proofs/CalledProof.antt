@@ -26,13 +26,13 @@ use Rattle.model.specs.Limits.{Others, unbarred}
 use Rattle.model.specs.Choice.{carriedBy, admissible}
 use Rattle.model.specs.Chosen.{Unbarred}
 use Rattle.model.specs.Conditions.{Permitted}
-use Rattle.model.specs.Session.{Query, ask, short-ask, shortAim, clauses, isAsk, Reply, refuse, given, wrote, Result, Refusal, bad-other, bad-line, bad-session, is-closed, is-full, bad-set, bad-permission, bad-bounds, bad-aim, bad-room, no-set, not-below, not-carried, bad-pair, no-obstacle, too-long, refusalNumber, refusalExtra, canGive, chosen, textFor, isNone, applies, asked, perform, sessionOf, queryOf, unless, rule}
+use Rattle.model.specs.Session.{Query, ask, short-ask, shortAim, clauses, isAsk, Reply, refuse, given, wrote, Result, Refusal, bad-other, bad-line, bad-session, is-closed, bad-set, bad-permission, bad-bounds, bad-aim, bad-room, no-set, refusalNumber, refusalExtra, canGive, chosen, textFor, isNone, applies, asked, perform, sessionOf, queryOf, unless, rule}
 use Rattle.model.specs.Run.{Call, Event, lineAt, lineOf, heldByOthers, othersOf, told, ruled, stepOn, stepBy, step, askBy, shortAskBy, clausesBy}
 use Rattle.model_laws.proofs.Bools.{and-l}
-use Rattle.model_laws.proofs.CallLaws.{first-none}
+use Rattle.model_laws.proofs.CallLaws.{first-none, refusal-number}
 use Rattle.model_laws.proofs.LineLaws.{length-readSessions}
 use Rattle.model_laws.proofs.SoundLaws.{sound-parts}
-use Rattle.model_laws.proofs.LedgerLaws.{step-below}
+use Rattle.model_laws.proofs.LedgerLaws.{step-below, step-on}
 use Rattle.model_laws.proofs.Barred.{some-limited, admissible-unbarred}
 use Rattle.model_laws.proofs.ImageNumbers.{Numbered}
 use Rattle.model_laws.proofs.Judgements.{judge-numbered, accepted-in-range}
@@ -47,26 +47,6 @@ use Rattle.encoding.proofs.ClauseProof
 use Rattle.encoding.proofs.ClauseWeights
 use Rattle.encoding.proofs.DimacsProof
 use Rattle.encoding.proofs.ReadingProof
-
--- no refusal has the number 0
-refusal-number : (f : Refusal) → ¬ (refusalNumber f ≡ 0)
-unfolding refusalNumber
-refusal-number bad-other e = omega arith
-refusal-number bad-line e = omega arith
-refusal-number bad-session e = omega arith
-refusal-number is-closed e = omega arith
-refusal-number is-full e = omega arith
-refusal-number bad-set e = omega arith
-refusal-number bad-permission e = omega arith
-refusal-number bad-bounds e = omega arith
-refusal-number bad-aim e = omega arith
-refusal-number bad-room e = omega arith
-refusal-number no-set e = omega arith
-refusal-number (not-below n) e = omega arith
-refusal-number (not-carried n) e = omega arith
-refusal-number bad-pair e = omega arith
-refusal-number no-obstacle e = omega arith
-refusal-number too-long e = omega arith
 
 skip : (f : Refusal → Bool) (r : Refusal) (rs : List Refusal) → f r ≡ false → first f (r ∷ rs) ≡ first f rs
 unfolding first
@@ -190,12 +170,6 @@ unfolding asked refuse
 asked-given m l bs k none e = absurd (omega arith)
 asked-given m l bs k (some s) e = (s, refl, refl)
 
--- under an accepted image
-step-accepted : (W : ℕ) (image : List ℕ) (h : Head) → judge image ≡ Accepted h → (ledger : List ℕ) (c : Call)
-    → step W image ledger c ≡ stepOn W (policyOf image) ledger c
-unfolding step stepBy
-step-accepted W image h e ledger c = ap (λ v. stepBy W v (policyOf image) ledger c) e
-
 -- a call that is done is of a user with a line, on a ledger that fits
 done-fits : (W : ℕ) (p : Policy) (ledger : List ℕ) (c : Call) → stepOn W p ledger c .reply .number ≡ 0
     → (length ledger ≡ lineSize W * p .head .users) × (c .user < p .head .users)
@@ -218,7 +192,7 @@ by-rules : (W : ℕ) (image : List ℕ) (h : Head) → judge image ≡ Accepted 
     ≡ rule W (meaning (policyOf image) (c .user)) (told W (policyOf image) ledger c) (lineAt (lineSize W) (c .user) ledger) (c .operation) .reply
 unfolding ruled
 by-rules W image h e ledger c fits below =
-    ap (λ (v : Event). v .reply) (step-accepted W image h e ledger c ∙ step-below W (policyOf image) ledger fits c below)
+    ap (λ (v : Event). v .reply) (step-on W image h e ledger c ∙ step-below W (policyOf image) ledger fits c below)
 
 module _ (W : ℕ) (image : List ℕ) (h : Head) (accepted : judge image ≡ Accepted h) (ledger : List ℕ) (u k : ℕ) (lower upper : List ℕ) (a b room : ℕ)
     (fits : length ledger ≡ lineSize W * policyOf image .head .users) (below : u < policyOf image .head .users) where
@@ -448,4 +422,4 @@ call-says W image ledger u k lower upper a b room z =
     fitting h accepted =
         unfold clausesBy in
         (done-fits W (policyOf image) ledger (clausesBy u k lower upper a b room)
-        (sym (ap (λ (v : Event). v .reply .number) (step-accepted W image h accepted ledger (clausesBy u k lower upper a b room))) ∙ z))
+        (sym (ap (λ (v : Event). v .reply .number) (step-on W image h accepted ledger (clausesBy u k lower upper a b room))) ∙ z))

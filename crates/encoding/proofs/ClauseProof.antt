@@ -9,9 +9,8 @@ use Prim.Native.Nat.{ℕ, zero, suc, _+_, _-_, _*_, _^_, _≤_, _<_}
 use native.Mathlib.Nat.{mul-le-mul-right}
 use native.Mathlib.Omega.{arith}
 use lib.Dec.{ltb}
-use lib.Bits.{or-zero-l, or-comm}
 use lib.ListN.{length, getD, length-append}
-use borrow.Author.Tests.{eq-eqb, lt-ltb, le-ltb}
+use borrow.Author.Tests.{lt-ltb, le-ltb}
 use Rattle.model.specs.declared.Kind.{Kind}
 use Rattle.model.specs.declared.Kind.the-variants.{SsDmer, MsDmer, SsHmer, MsHmer}
 use Rattle.model.specs.declared.Exclusion.{Exclusion}
@@ -32,12 +31,13 @@ use Rattle.model_laws.proofs.Bools.{and-l, or-l, or-r, or-cases, not-both, bool
 use Rattle.model_laws.proofs.SetLaws.{has-union, has-inter, count-within}
 use Rattle.model_laws.proofs.UnionLaws.{has-below, has-unionAt, unionTo-lt}
 use Rattle.model_laws.proofs.Inclusion.{within-refl, none-within, inter-within}
-use Rattle.model_laws.proofs.AnyWidth.{same-sets, within-iff, members-below}
+use Rattle.model_laws.proofs.AnyWidth.{same-sets, within-iff}
 use Rattle.model_laws.proofs.Actives.{active-elsewhere, at-active}
 use Rattle.model_laws.proofs.ConditionsProof.{Met}
 use Rattle.sets.proofs.Taken.{has-lacking}
 use Rattle.encoding.proofs.Meant.{Solved, Meant}
 use Rattle.model_laws.proofs.LowestLaws.{setOf-has, has-setOf}
+use Rattle.model_laws.proofs.MetLaws.{counted-then}
 use Rattle.encoding.proofs.ClauseLaws.{listTo-same, all-join, all-front, all-back, all-one, one-all, all-when, when-all, all-listTo, listTo-all, any-listTo, listTo-any, any-when, when-any, must-says, says-must, mustNot-says, says-mustNot, gives-says, says-gives, counter-length, chosen, counter-counts, counted-counter, SameTo, UpTo, up-more, chosen-same, counted-same, filled, filled-same, filled-counted}
 
 -- ---- the members of an exclusion that are not counted yet
@@ -137,14 +137,6 @@ all-few l k a roles [] h = tt
 all-few l k a roles (x ∷ xs) h = (few-clauses l k a roles x (h .0), all-few l k a roles xs (h .1))
 
 -- ---- one exclusion, reduced
-
--- what each kind counts at session k once s is put in: what stays, and s
-counted-then : (l : Line) (k s : ℕ) (c : Kind) → countedAfter l k s k c ≡ union (stays l k c) s
-unfolding countedAfter stay pick
-counted-then l k s SsDmer = rw (eq-eqb k k refl) (sym (or-zero-l s))
-counted-then l k s MsDmer = or-comm s (activeIn (others k (l .sessions)))
-counted-then l k s SsHmer = rw (eq-eqb k k refl)
-counted-then l k s MsHmer = refl
 
 -- what stays is counted now
 stays-counted : (l : Line) (k : ℕ) (c : Kind) → within (stays l k c) (counted l (sessionAt l k) c) ≡ true
@@ -246,9 +238,6 @@ all-fewer v l k a (x ∷ xs) e h =
 module _ (f : ℕ → Bool) where
   has-set : (d r : ℕ) → (has (setOf f d) r ≡ true) ↔ ((r < d) × (f r ≡ true))
   has-set d r = (λ e. let w = setOf-has f d r e in (w .1, w .0), λ h. has-setOf f d r (h .0) (h .1))
-
-  pub set-below : (d : ℕ) → setOf f d < 2 ^ d
-  set-below d = members-below d (setOf f d) (λ r e. setOf-has f d r e .1)
 
 -- ---- what roles carry
 module _ (p : Meaning) (range : Meant p) where

@@ -24,8 +24,9 @@ use Rattle.model_laws.proofs.Ranks.{count-most, is-earlier}
 use Rattle.model_laws.proofs.Bools.{not-both}
 use Rattle.model_laws.proofs.SetLaws.{has-beyond, count-cong}
 use Rattle.model_laws.proofs.Choices.{choice}
+use Rattle.model_laws.proofs.LowestLaws.{setOf-below}
 use Rattle.encoding.proofs.Meant.{Meant}
-use Rattle.encoding.proofs.ClauseProof.{set-below, carriedBy-below, hard-is}
+use Rattle.encoding.proofs.ClauseProof.{carriedBy-below, hard-is}
 
 -- ---- counts
 -- a set has no members beyond its width
@@ -223,7 +224,7 @@ module _ (p : Meaning) (range : Meant p) where
 
   named-below : (v : Valuation) → named p v < 2 ^ p .roles
   unfolding named
-  named-below v = set-below (λ r. v (roleVariable r)) (p .roles)
+  named-below v = setOf-below (λ r. v (roleVariable r)) (p .roles)
 
   pub soft-is : (l : Line) (k lower upper : ℕ) → k < length (l .sessions) → exclusionsMet p l ≡ true → lower < 2 ^ p .permissions
       → (a b : ℕ) → SoftIs p l k lower upper a b

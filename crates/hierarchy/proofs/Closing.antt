@@ -12,7 +12,7 @@ use lib.ListN.{length, getD, set, length-map, List·getD-eq-default}
 use Rattle.model.specs.Tests.{pick}
 use Rattle.model.specs.Sets.{has, union}
 use Rattle.model.specs.Policy.{taking, through, closureBy}
-use Rattle.model_laws.proofs.UnionLaws.{has-none}
+use Rattle.model_laws.proofs.Closure.{taking-none}
 use Rattle.hierarchy.specs.Upper.{EmptyFrom}
 
 -- ---- a table mapped in place, row by row
@@ -54,11 +54,6 @@ mapped-at f e [] zero = sym e
 mapped-at f e [] (suc r) = sym e
 mapped-at f e (x ∷ l) zero = refl
 mapped-at f e (x ∷ l) (suc r) = mapped-at f e l r
-
--- an empty row takes nothing in
-taking-none : (k other : ℕ) → taking k other 0 ≡ 0
-unfolding taking pick
-taking-none k other = rw (has-none k)
 
 module _ (k other : ℕ) (rows₀ rows : List ℕ) (i : ℕ) (e : rows ≡ mapTo (taking k other) i rows₀) where
   pub row-taken : (row : ℕ) → i < length rows₀ → row ≡ taking k other (getD rows i 0) → set rows i row ≡ mapTo (taking k other) (i + 1) rows₀

@@ -4,7 +4,6 @@ use mathlib.Core.Path.{_≡_, refl, sym, ap, ap₂, subst, _∙_}
 use mathlib.Core.Bool.{Bool, true, false}
 use mathlib.Core.List.{List}
 use Prim.Native.Nat.{ℕ, _≤_, _<_}
-use native.Mathlib.Omega.{arith}
 use lib.Dec.{ltb}
 use lib.ListN.{getD}
 use borrow.Author.Tests.{lt-ltb, le-ltb}
@@ -15,16 +14,13 @@ use Rattle.model.specs.Tests.{lowest}
 use Rattle.model.specs.Sets.{has}
 use Rattle.model.specs.Policy.{Policy, belowTable, reached, authorized, closureBy}
 use Rattle.model.specs.Judgement.{lowestOnLoop, lowestOverReach, refusing, judgeMeaning}
+use Rattle.model_laws.proofs.Accepted.{not-accepted}
 use Rattle.hierarchy_judged.specs.Loops.{Gives, Judged}
 use Rattle.hierarchy_judged.specs.Reach.{reachAt, wideAt, Authorizes}
 
 -- the lowest role that stands below itself in a table
 abbrev pub onLoop : List ℕ → ℕ → ℕ
 onLoop below roles = lowest (λ a. has (getD below a 0) a) 0 roles
-
--- a refusal is no acceptance
-never : {X : Type 0} (n place : ℕ) (h : Head) → Refused n place ≡ Accepted h → X
-never n place h e = let z : _≡_ {A = ℕ} 0 1 = cc in absurd (omega arith)
 
 -- the order of the tests: a role on a loop, then a user with more than 16 roles
 abbrev verdict : Bool → Bool → ℕ → ℕ → Checked → Checked
@@ -36,8 +32,8 @@ unfolding judgeMeaning
 judged-refused p c own below n place e =
     record {
       verdict = e ∙ sym (ap (judgeMeaning p) e);
-      below-is = λ h q. never n place h (sym e ∙ q);
-      own-is = λ h q. never n place h (sym e ∙ q);
+      below-is = λ h q. not-accepted n place h (sym e ∙ q);
+      own-is = λ h q. not-accepted n place h (sym e ∙ q);
     }
 
 module _ (p : Policy) (h : Head) (juniors below : List ℕ) (eh : p .head ≡ h) (ej : juniors ≡ p .juniors) (eb : below ≡ closureBy (h .roles) juniors) where
@@ -87,8 +83,8 @@ module _ (p : Policy) (h : Head) (assigned juniors below : List ℕ) (g : Gives 
       judged-loop own l =
           record {
             verdict = judging r (lowestOverReach p) true _ (er ∙ loop-is) refl (lt-ltb r (h .roles) l) refl;
-            below-is = λ k q. never 22 r k q;
-            own-is = λ k q. never 22 r k q;
+            below-is = λ k q. not-accepted 22 r k q;
+            own-is = λ k q. not-accepted 22 r k q;
           }
 
       module _ (l : h .roles ≤ r) (u : ℕ) (own : List ℕ) (w : Authorizes below (h .users) assigned u own) where
@@ -100,8 +96,8 @@ module _ (p : Policy) (h : Head) (assigned juniors below : List ℕ) (g : Gives 
         judged-reach k =
             record {
               verdict = judged-by true (lt-ltb u (h .users) k);
-              below-is = λ x q. never 23 u x q;
-              own-is = λ x q. never 23 u x q;
+              below-is = λ x q. not-accepted 23 u x q;
+              own-is = λ x q. not-accepted 23 u x q;
             }
 
         -- else the image is accepted

@@ -4,18 +4,12 @@ use mathlib.Core.Path.{_≡_, ap, ap₂, _∙_}
 use mathlib.Core.Bool.{Bool, true, false, _&&_}
 use mathlib.Core.List.{List}
 use Prim.Native.Nat.{ℕ, _-_, _/_, _%_, _≤_, _<_}
-use native.Mathlib.Omega.{arith}
 use lib.Dec.{leb}
 use lib.ListN.{length}
 use borrow.Author.Tests.{eq-eqb, ne-eqb, le-leb, lt-leb}
-use Rattle.model.specs.declared.Head.{Head}
 use Rattle.model.specs.declared.Checked.{Checked}
-use Rattle.model.specs.declared.Checked.the-variants.{Accepted, Refused}
+use Rattle.model.specs.declared.Checked.the-variants.{Refused}
 use Rattle.model.specs.Image.{wordAt, behindHead, scan, headOf, headRight, lengthRight, emptyRows, start, judgeWords}
-
--- a refusal is no acceptance
-pub never : {X : Type 0} (n place : ℕ) (g : Head) → Refused n place ≡ Accepted g → X
-never n place g e = let z : _≡_ {A = ℕ} 0 1 = cc in absurd (omega arith)
 
 -- ---- the length
 module _ (n : ℕ) where

@@ -1,7 +1,7 @@
 -- One word judged and taken in, and the tables so filled.
 -- Assumes nothing.
 use mathlib.Core.Path.{_≡_, refl, sym, ap, _∙_}
-use mathlib.Core.Bool.{Bool, true, false, not, _||_, false≢true}
+use mathlib.Core.Bool.{Bool, true, false, not}
 use mathlib.Core.List.{List, [], _∷_}
 use Prim.Native.Nat.{ℕ, _-_, _/_, _<_}
 use native.Mathlib.Omega.{arith}
@@ -18,6 +18,7 @@ use Rattle.model.specs.Tests.{pick}
 use Rattle.model.specs.Image.{wrongKind, inRange, repeats, crowds, entryFault, sparing, fault, assigning, behindHead, emptyRows}
 use Rattle.model.specs.Policy.{entriesFrom, entriesOf, fold, ordering, policyOf}
 use Rattle.model_laws.proofs.Tables.{assigning-length, ordering-length}
+use Rattle.model_laws.proofs.Bools.{or-false-r}
 use Rattle.image.specs.Taken.{Due, Taken}
 
 -- ---- a word without fault is due
@@ -31,17 +32,13 @@ none-of false false false true e z = absurd (omega arith)
 none-of false false false false true z = absurd (omega arith)
 none-of false false false false false z = (refl, refl)
 
-not-first : (a b : Bool) → (a || b) ≡ false → b ≡ false
-not-first false b e = e
-not-first true b e = absurd (false≢true (sym e))
-
 due-entry : (rows : List ℕ) (t : Scan) (final : Bool) (e : Entry) → wrongKind final (t .due) e ≡ false → crowds rows t e ≡ false → Due t e
 unfolding wrongKind crowds Due
 due-entry rows t final (Assignment u r) k x = omega arith
 due-entry rows t final (Grant r p) k x = omega arith
 due-entry rows t final (Senior a b) k x = omega arith
 due-entry rows t final (Exclude y m) k x = leb-false 32 (t .exclusions) x
-due-entry rows t final (Member r) k x = let n = eqb-false (t .due) 0 (not-first final (eqb (t .due) 0) k) in omega arith
+due-entry rows t final (Member r) k x = let n = eqb-false (t .due) 0 (or-false-r final (eqb (t .due) 0) k) in omega arith
 due-entry rows t final (Limit r n) k x = omega arith
 due-entry rows t final End k x = omega arith
 due-entry rows t final Unknown k x = omega arith

@@ -21,7 +21,7 @@ use Rattle.model.specs.Judgement.{judge}
 use Rattle.model.specs.Policy.{Policy, policyOf, limited, hasLimits, Meaning, meaning, authorized}
 use Rattle.model.specs.Line.{lineSize, readLine, sessionAt, holding, sound}
 use Rattle.model.specs.Limits.{Others}
-use Rattle.model.specs.Session.{Operation, open-session, close-session, ask, short-ask, show, explain, obstacle, clauses, sessionOf, queryOf, isAsk, putsIn, refuse, Result, Refusal, bad-other, bad-line, bad-session, is-closed, is-full, bad-set, bad-permission, bad-bounds, bad-aim, bad-room, no-set, not-below, not-carried, bad-pair, no-obstacle, too-long, refusalNumber, canGive, applies, perform, unless, rule}
+use Rattle.model.specs.Session.{Operation, open-session, close-session, ask, short-ask, show, explain, obstacle, clauses, sessionOf, queryOf, isAsk, putsIn, refuse, Result, Refusal, bad-other, bad-line, canGive, applies, perform, unless, rule}
 use Rattle.model.specs.Run.{Call, Event, lineAt, lineOf, holdingOf, heldByOthers, othersOf, told, ruled, stepOn, step, run}
 use Rattle.model.specs.Ranges.{Each, InRange}
 use Rattle.model.specs.Kept.{Antitone}
@@ -32,7 +32,7 @@ use Rattle.model_laws.proofs.Reaches.{few-roles, own-below}
 use Rattle.model_laws.proofs.Judgements.{accepted-in-range}
 use Rattle.model_laws.proofs.MetLaws.{meaning-antitone}
 use Rattle.model_laws.proofs.ZeroLaws.{zero-holding, zero-lines}
-use Rattle.model_laws.proofs.CallLaws.{first-none}
+use Rattle.model_laws.proofs.CallLaws.{first-none, refusal-number}
 use Rattle.model_laws.proofs.Barred.{some-limited}
 use Rattle.model_laws.proofs.CallsKept.{Carded, RoleKept, line, performed-kept, performed-card}
 
@@ -63,26 +63,6 @@ sum-split f u (suc n) h =
     cases (eqb n u)
     (λ e. rw e (ap (λ (k : ℕ). f k + sumTo f n) (eqb-true n u e) ∙ omega (arith, eqb-true n u e, sum-none f u n (omega (arith, eqb-true n u e)))))
     (λ e. let q = eqb-false n u e in rw e (omega (arith, sum-split f u n (omega arith))))
-
--- no refusal has the number 0
-refusal-number : (f : Refusal) → ¬ (refusalNumber f ≡ 0)
-unfolding refusalNumber
-refusal-number bad-other e = omega arith
-refusal-number bad-line e = omega arith
-refusal-number bad-session e = omega arith
-refusal-number is-closed e = omega arith
-refusal-number is-full e = omega arith
-refusal-number bad-set e = omega arith
-refusal-number bad-permission e = omega arith
-refusal-number bad-bounds e = omega arith
-refusal-number bad-aim e = omega arith
-refusal-number bad-room e = omega arith
-refusal-number no-set e = omega arith
-refusal-number (not-below n) e = omega arith
-refusal-number (not-carried n) e = omega arith
-refusal-number bad-pair e = omega arith
-refusal-number no-obstacle e = omega arith
-refusal-number too-long e = omega arith
 
 -- a call that puts roles in looks at the other users
 putting-asks : (op : Operation) → putsIn op ≡ true → isAsk op ≡ true

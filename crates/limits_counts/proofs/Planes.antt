@@ -2,20 +2,15 @@
 -- Assumes nothing.
 use mathlib.Core.Path.{_≡_, refl, ap, _∙_}
 use mathlib.Core.Bool.{Bool, true, false, _&&_}
-use Prim.Native.Nat.{ℕ, zero, suc, _+_, _*_, _≤_, _<_}
+use Prim.Native.Nat.{ℕ, _+_, _*_, _<_}
 use native.Mathlib.Omega.{arith}
-use lib.Dec.{eqb}
 use lib.Bits.{bitAnd, bitXor}
 use Rattle.model.specs.Sets.{has, one}
-use Rattle.model_laws.proofs.SetLaws.{has-inter}
+use Rattle.model_laws.proofs.SetLaws.{has-inter, one-most}
 use Rattle.model_laws.proofs.UnionLaws.{has-none}
 use Rattle.sets.proofs.Taken.{apart, has-xor}
 use Rattle.limits_counts.specs.declared.Counts.{Counts}
 use Rattle.limits_counts.specs.Counted.{countAt}
-
-pub one-le : (b : Bool) → one b ≤ 1
-one-le true = omega arith
-one-le false = omega arith
 
 -- a plane and what is carried into it: what stays and what is carried on
 half : (p k r : ℕ) → one (has (bitXor p k) r) + 2 * one (has (bitAnd p k) r) ≡ one (has p r) + one (has k r)
@@ -78,19 +73,13 @@ added c w r h =
       half (c .p7) k7 r,
       half (c .p8) k8 r,
       half (c .p9) k9 r,
-      one-le (has w r),
+      one-most (has w r),
       h,
     )
 
 -- the empty word adds nothing
 pub unchanged : (c : Counts) (w r : ℕ) → w ≡ 0 → countAt c r ≡ countAt c r + one (has w r)
 unchanged c w r e = let z : one (has w r) ≡ 0 = rw (e, has-none r) in omega arith
-
--- a bit is the one of its test
-pub bit-one : (x : ℕ) → x < 2 → x ≡ one (eqb x 1)
-bit-one zero h = refl
-bit-one (suc zero) h = refl
-bit-one (suc (suc x)) h = absurd (omega arith)
 
 -- nothing is counted in empty planes
 pub none-counted : (r : ℕ) → countAt (record { p0 = 0; p1 = 0; p2 = 0; p3 = 0; p4 = 0; p5 = 0; p6 = 0; p7 = 0; p8 = 0; p9 = 0 }) r ≡ 0

@@ -307,3 +307,7 @@ module _ (s : List ℕ) (h : Head) (accepted : judgeWords s ≡ Accepted h) wher
   words-members before x m after e =
       due-behind (headOf (wordAt s 0)) (head-in-range .1 .1) before emptyRows start x m after
       (subst (Valid (headOf (wordAt s 0)) emptyRows start) e (facts .1))
+
+-- a refusal is no acceptance
+pub not-accepted : {X : Type 0} (n place : ℕ) (h : Head) → Refused n place ≡ Accepted h → X
+not-accepted n place h e = let z : _≡_ {A = ℕ} 0 1 = cc in absurd (omega arith)

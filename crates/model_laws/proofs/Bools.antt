@@ -77,3 +77,11 @@ pub elim-case {ℓ κ} : {X : Type ℓ} (P : X → Type κ) (b : Bool) (x y : X)
     → P (elim b [ true ↦ x | false ↦ y ])
 elim-case P true x y f g = f refl
 elim-case P false x y f g = g refl
+
+pub or-false-l : (a b : Bool) → (a || b) ≡ false → a ≡ false
+or-false-l true b e = e
+or-false-l false b e = refl
+
+pub or-false-r : (a b : Bool) → (a || b) ≡ false → b ≡ false
+or-false-r true b e = absurd (true≢false e)
+or-false-r false b e = e

@@ -20,6 +20,7 @@ use Rattle.model.specs.Line.{isOpen, lowestClosed}
 use Rattle.model_laws.proofs.Bools.{elim-case}
 use Rattle.model_laws.proofs.UnionLaws.{below-or-last}
 use Rattle.model_laws.proofs.LowestLaws.{LowestIs, lowest-is}
+use Rattle.model.specs.Session.{Refusal, refusalNumber, bad-other, bad-line, bad-session, is-closed, is-full, bad-set, bad-permission, bad-bounds, bad-aim, bad-room, no-set, not-below, not-carried, bad-pair, no-obstacle, too-long}
 
 -- ---- the first refusal that applies
 module _ {A : Type 0} (f : A → Bool) where
@@ -101,3 +102,23 @@ lowest-closed W l e =
       | yes h ↦ (h, not-true _ (w .passes (omega arith)))
       | no h ↦ absurd (eqb-false _ W e (count-full W (l .opened) (λ j i. not-false _ (w .before j zero-le (omega arith)))))
     ]
+
+-- no refusal has the number 0
+pub refusal-number : (f : Refusal) → ¬ (refusalNumber f ≡ 0)
+unfolding refusalNumber
+refusal-number bad-other e = omega arith
+refusal-number bad-line e = omega arith
+refusal-number bad-session e = omega arith
+refusal-number is-closed e = omega arith
+refusal-number is-full e = omega arith
+refusal-number bad-set e = omega arith
+refusal-number bad-permission e = omega arith
+refusal-number bad-bounds e = omega arith
+refusal-number bad-aim e = omega arith
+refusal-number bad-room e = omega arith
+refusal-number no-set e = omega arith
+refusal-number (not-below n) e = omega arith
+refusal-number (not-carried n) e = omega arith
+refusal-number bad-pair e = omega arith
+refusal-number no-obstacle e = omega arith
+refusal-number too-long e = omega arith

@@ -47,7 +47,7 @@ has-taking k other row j =
     cases (has row k) (λ e. rw (e, pick) (has-union row other j)) (λ e. rw (e, pick) (sym (or-false (has row j))))
 
 -- the empty row takes in nothing
-taking-none : (k other : ℕ) → taking k other 0 ≡ 0
+pub taking-none : (k other : ℕ) → taking k other 0 ≡ 0
 unfolding taking pick
 taking-none k other = ap (λ (b : Bool). pick b (union 0 other) 0) (has-none k)
 

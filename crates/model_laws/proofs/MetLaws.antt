@@ -1,17 +1,17 @@
 -- Exclusions and counts: fewer roles counted keep an exclusion met, and none counted meets every exclusion of a policy in range.
 -- Assumes nothing.
-use mathlib.Core.Path.{_≡_, refl, ap, _∙_}
+use mathlib.Core.Path.{_≡_, refl, ap, _∙_, sym}
 use mathlib.Core.Bool.{true}
 use mathlib.Core.List.{List, [], _∷_}
 use Prim.Native.Nat.{ℕ}
 use native.Mathlib.Nat.{lt-of-le-of-lt}
 use native.Mathlib.Omega.{arith}
-use lib.Bits.{and-zero-r}
-use borrow.Author.Tests.{ltb-true, lt-ltb}
+use lib.Bits.{and-zero-r, or-zero-l, or-comm}
+use borrow.Author.Tests.{ltb-true, lt-ltb, eq-eqb}
 use Rattle.model.specs.declared.Kind.{Kind}
 use Rattle.model.specs.declared.Exclusion.{Exclusion}
-use Rattle.model.specs.Tests.{all}
-use Rattle.model.specs.Sets.{inter, count}
+use Rattle.model.specs.Tests.{all, pick}
+use Rattle.model.specs.Sets.{inter, count, union}
 use Rattle.model.specs.Policy.{Policy, met, meaning}
 use Rattle.model.specs.Ranges.{Each, ExclusionInRange, InRange}
 use Rattle.model.specs.Kept.{Fewer, Antitone}
@@ -20,6 +20,11 @@ use Rattle.model_laws.proofs.SetLaws.{count-within}
 use Rattle.model_laws.proofs.TableLaws.{count-empty}
 use Rattle.model_laws.proofs.Inclusion.{inter-within}
 use Rattle.model_laws.proofs.Every.{all-mem, mem-all}
+use Rattle.model.specs.Reduced.{stay, stays}
+use Rattle.model.specs.Conditions.{countedAfter}
+use Rattle.model.specs.Line.{activeIn, others}
+use Rattle.model.specs.declared.Line.{Line}
+use Rattle.model.specs.declared.Kind.the-variants.{SsDmer, MsDmer, SsHmer, MsHmer}
 
 module _ (f g : Kind → ℕ) (h : Fewer f g) where
   -- fewer roles counted keep an exclusion met
@@ -57,3 +62,11 @@ all-none roles (x ∷ xs) r = both (met (λ k. 0) x) (all (met (λ k. 0)) xs) (m
 pub meaning-none : (p : Policy) (u : ℕ) → InRange p → meaning p u .allMet (λ k. 0) ≡ true
 unfolding meaning
 meaning-none p u r = all-none (p .head .roles) (p .exclusions) (r .exclusions)
+
+-- what each kind counts at session k once s is put in: what stays, and s
+pub counted-then : (l : Line) (k s : ℕ) (c : Kind) → countedAfter l k s k c ≡ union (stays l k c) s
+unfolding countedAfter stay pick
+counted-then l k s SsDmer = rw (eq-eqb k k refl) (sym (or-zero-l s))
+counted-then l k s MsDmer = or-comm s (activeIn (others k (l .sessions)))
+counted-then l k s SsHmer = rw (eq-eqb k k refl)
+counted-then l k s MsHmer = refl

@@ -107,6 +107,11 @@ unfolding countTo
 count-most f zero = omega arith
 count-most f (suc d) = omega (arith, one-most (f d), count-most f d)
 
+-- a set has at most d members below d
+pub count-le : (d s : ℕ) → count d s ≤ d
+unfolding count
+count-le d s = count-most (has s) d
+
 module _ (n k : ℕ) (small : n ≤ 256) (short : k ≤ 256) where
   -- up to 256, the lower distance from 256 is the higher number
   most-first : ltb (256 - n) (256 - k) ≡ ltb k n
@@ -129,13 +134,10 @@ module _ (n k : ℕ) (small : n ≤ 256) (short : k ≤ 256) where
 pub rank-is : (m : Meaning) → RankIs m
 unfolding better earlier permissionCost roleCost
 rank-is m a b s t =
-    by-cost (count 256 (carriedBy m s)) (count 256 (carriedBy m t)) (most 256 (carriedBy m s)) (most 256 (carriedBy m t)) a
+    by-cost (count 256 (carriedBy m s)) (count 256 (carriedBy m t)) (count-le 256 (carriedBy m s)) (count-le 256 (carriedBy m t)) a
     (ltb (roleCost b s) (roleCost b t) || (eqb (roleCost b s) (roleCost b t) && ltb s t))
     ∙ ap (before a (count 256 (carriedBy m s)) (count 256 (carriedBy m t)))
     (by-cost (count 64 s) (count 64 t) (few s) (few t) b (ltb s t))
   where
-    most : (d x : ℕ) → count d x ≤ d
-    most d x = unfold count in count-most (has x) d
-
     few : (x : ℕ) → count 64 x ≤ 256
-    few x = omega (arith, most 64 x)
+    few x = omega (arith, count-le 64 x)

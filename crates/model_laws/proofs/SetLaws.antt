@@ -5,7 +5,7 @@ use mathlib.Core.Path.{_≡_, refl, sym, ap, ap₂, _∙_}
 use mathlib.Core.Logic.{_⊎_, inl, inr}
 use mathlib.Core.Bool.{Bool, true, false, _&&_, _||_, or-false, false≢true}
 use Prim.Native.Nat.{ℕ, zero, suc, _+_, _-_, _*_, _/_, _%_, _^_, _≤_, _<_, zero-le, suc-le-suc}
-use native.Mathlib.Nat.{add-le-add, div-self, mul-mod-left, mod-one, lt-of-le-of-lt, mod-lt, zero-lt-suc, not-suc-le-zero, div-add-mod', div-one, mod-eq-of-lt, div-eq-of-lt, one-mul, lt-of-lt-of-le, le-refl, le-suc}
+use native.Mathlib.Nat.{add-le-add, div-self, mul-mod-left, mod-one, lt-of-le-of-lt, mod-lt, zero-lt-suc, not-suc-le-zero, div-add-mod', div-one, mod-eq-of-lt, div-eq-of-lt, one-mul, lt-of-lt-of-le, le-refl, le-suc, add-zero, add-suc}
 use native.Mathlib.Numerals.{one-add, add-one}
 use native.Mathlib.Decide.{decLt}
 use native.Mathlib.Omega.{arith}
@@ -66,11 +66,11 @@ pub inter-both : (a b k : ℕ) → has a k ≡ true → has b k ≡ true → has
 inter-both a b k e f = has-inter a b k ∙ both (has a k) (has b k) e f
 
 -- ---- sets of d numbers are equal where their members are
-has-half : (n k : ℕ) → has (n / 2) k ≡ has n (suc k)
+pub has-half : (n k : ℕ) → has (n / 2) k ≡ has n (suc k)
 unfolding has
 has-half n k = ap (λ (x : ℕ). eqb (x % 2) 1) (shr-shr n 1 k ∙ ap (λ (j : ℕ). n / 2 ^ j) (one-add k))
 
-digit : (x : ℕ) → x < 2 → x ≡ one (eqb x 1)
+pub digit : (x : ℕ) → x < 2 → x ≡ one (eqb x 1)
 digit = digit-case (λ x. x ≡ one (eqb x 1)) refl refl
 
 bit-of : (x y : ℕ) → x < 2 → y < 2 → eqb x 1 ≡ eqb y 1 → x ≡ y
@@ -230,3 +230,10 @@ pub with-member : (d n k : ℕ) → n < 2 ^ d → k < d → has n k ≡ true →
 with-member d n k l q h =
     same-members d (with n k) n (or-lt d n (2 ^ k) l (pow-lt q)) l
     (λ j m. bool-ext (has (with n k) j) (has n j) (λ e. elim (with-cases n k j e) [ inl p ↦ p | inr p ↦ ap (has n) p ∙ h ]) (union-l n (2 ^ k) j))
+
+-- those below a, and those from a on
+pub count-split : (f : ℕ → Bool) (a b : ℕ) → countTo f (a + b) ≡ countTo f a + countTo (λ k. f (a + k)) b
+unfolding countTo
+count-split f a zero = ap (countTo f) (add-zero a) ∙ sym (add-zero (countTo f a))
+count-split f a (suc b) =
+    ap (countTo f) (add-suc a b) ∙ omega (arith, count-split f a b)

@@ -1,6 +1,6 @@
--- Laws of tables, lists of sets by number: a row changed, empty tables, and entries taken into a table one by one.
+-- Laws of tables, lists of sets by number: a row changed, empty tables, entries taken in and rows filled one by one.
 -- Assumes nothing.
-use mathlib.Core.Path.{_≡_, refl, ap, _∙_}
+use mathlib.Core.Path.{_≡_, refl, ap, _∙_, sym}
 use mathlib.Core.Logic.{inl, inr}
 use mathlib.Core.Bool.{Bool, true}
 use mathlib.Core.List.{List, [], _∷_}
@@ -8,13 +8,16 @@ use Prim.Native.Nat.{ℕ, zero, suc, _+_, _^_, _<_}
 use native.Mathlib.Nat.{zero-add}
 use lib.Pow.{pow-lt}
 use lib.Bits.{or-lt}
-use lib.ListN.{getD, set, replicate}
+use lib.ListN.{getD, set, replicate, length}
 use Rattle.model.specs.declared.Entry.{Entry}
 use Rattle.model.specs.Sets.{has, with, one, countTo, count}
 use Rattle.model.specs.Policy.{fold}
 use Rattle.model.specs.Ranges.{Each, TableInRange, RowsBelow}
 use Rattle.model_laws.proofs.SetLaws.{with-cases}
 use Rattle.model_laws.proofs.UnionLaws.{has-none}
+use lib.Seq.{getD-set-same, getD-set-other}
+use native.Mathlib.Decide.{decLt}
+use native.Mathlib.Omega.{arith}
 
 -- at any place of a list with one element replaced: what holds of the new element and of the one that was there holds of what is there
 pub set-case : {A : Type 0} (P : ℕ → A → Type 0) (xs : List A) (d : A) (k : ℕ) (v : A) (j : ℕ) → P k v → P j (getD xs j d)
@@ -62,3 +65,13 @@ pub fold-keeps : (step : List ℕ → Entry → List ℕ) (Q : Entry → Type 0)
 unfolding fold
 fold-keeps step Q P f [] q rows p = p
 fold-keeps step Q P f (e ∷ es) q rows p = fold-keeps step Q P f es (q .1) (step rows e) (f rows e (q .0) p)
+
+-- ---- a list filled in order: one element more
+pub fill-next : (f : ℕ → ℕ) (out : List ℕ) (k v : ℕ) → k < length out → ((i : ℕ) → i < k → getD out i 0 ≡ f i) → v ≡ f k
+    → (i : ℕ) → i < k + 1 → getD (set out k v) i 0 ≡ f i
+fill-next f out k v h e q i l =
+    elim (decLt i k) [
+      | yes j ↦ getD-set-other out k i v 0 (λ s. omega arith) ∙ e i j
+      | no j ↦ let s : i ≡ k = omega arith in
+          ap (λ (x : ℕ). getD (set out k v) x 0) s ∙ getD-set-same out k v 0 h ∙ q ∙ ap f (sym s)
+    ]

@@ -22,8 +22,7 @@ use Rattle.sets.proofs.Unions.{values-at}
 use Rattle.tables_rows.specs.Carried.{carriedRows}
 use Rattle.tables_rows.specs.Holding.{holdersOf}
 use Rattle.query.specs.Carry.{rowsOf, Carry, Keeps}
-use Rattle.query_rooms.specs.Rooms.{allBelow}
-use Rattle.query_rooms.proofs.RoomLaws.{below-at}
+use Rattle.query_rooms.proofs.RoomLaws.{every-has, every}
 use Rattle.asks.proofs.Rows.{carry-rows}
 use Rattle.obstacle_lacks.specs.declared.found.Found.the-variants.{Nothing, One}
 use Rattle.obstacle_lacks.specs.Founds.{foundOf}
@@ -72,13 +71,6 @@ pub carry-less : (m : Meaning) (all less : ℕ) (row : ℕ → ℕ) → Carry m 
 carry-less m all less row h w r e = h r (within-has less all w r e)
 
 -- ---- all roles
-
-abbrev every : ℕ
-every = 18446744073709551615
-
-every-has : (r : ℕ) → r < 64 → has every r ≡ true
-unfolding allBelow has
-every-has r h = below-at (has every) 64 r refl h
 
 -- by rows of all roles
 pub carry-all : (p : Policy) (u : ℕ) (rows : List (List ℕ)) (granted below : List ℕ) → granted ≡ p .granted → below ≡ belowTable p

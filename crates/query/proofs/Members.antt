@@ -4,13 +4,13 @@ use mathlib.Core.Path.{_≡_, refl, sym, subst, _∙_}
 use mathlib.Core.Bool.{Bool, true, false, not}
 use mathlib.Core.Logic.{_⊎_, inl, inr}
 use Prim.Native.Nat.{ℕ, _≤_}
-use borrow.Author.Tests.{eqb-true, eq-eqb}
+use borrow.Author.Tests.{eqb-true}
 use lib.Dec.{eqb}
 use lib.Bits.{and-le-r}
-use Rattle.model.specs.Sets.{has, union, inter, with, within, count}
+use Rattle.model.specs.Sets.{has, union, inter, within, count}
 use Rattle.model_laws.proofs.Bools.{and-l, or-l, or-r, not-both}
 use Rattle.model_laws.proofs.AnyWidth.{within-iff}
-use Rattle.model_laws.proofs.SetLaws.{has-with, has-union, count-within}
+use Rattle.model_laws.proofs.SetLaws.{has-union, count-within}
 use Rattle.model_laws.proofs.UnionLaws.{has-none}
 use Rattle.sets.specs.Members.{without}
 use Rattle.sets.proofs.Taken.{has-without}
@@ -51,8 +51,5 @@ module _ (a b : ℕ) where
   right-sub i m = has-union a b i ∙ or-r (has a i) (has b i) m
 
 -- ---- one member more or fewer
-pub with-new : (s r : ℕ) → has (with s r) r ≡ true
-with-new s r = has-with s r r ∙ or-r (has s r) (eqb r r) (eq-eqb r r refl)
-
 pub fewer-sub : (s r : ℕ) → has s r ≡ true → Sub (without s r) s
 fewer-sub s r m i n = and-l (has s i) (not (eqb i r)) (sym (has-without s r i m) ∙ n)

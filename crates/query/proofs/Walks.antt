@@ -10,12 +10,12 @@ use borrow.Author.Tests.{eqb-true, eqb-false, ne-eqb}
 use Rattle.model.specs.Tests.{pick}
 use Rattle.model.specs.Sets.{has, with, count}
 use Rattle.model_laws.proofs.Bools.{not-both}
-use Rattle.model_laws.proofs.SetLaws.{has-with}
+use Rattle.model_laws.proofs.SetLaws.{has-with, with-new}
 use Rattle.model_laws.proofs.UnionLaws.{has-none}
 use Rattle.sets.specs.Members.{without, Lowest}
 use Rattle.sets.proofs.Taken.{without-gone, without-other, count-without}
 use Rattle.query.specs.Carry.{Sub, Keeps}
-use Rattle.query.proofs.Members.{with-new, fewer-sub, sub-le}
+use Rattle.query.proofs.Members.{fewer-sub, sub-le}
 
 -- of the set s the members of left are still to come, and found has those before them that pass
 pub record Walk (test : ℕ → Bool) (s left found : ℕ) : Type 0 where

@@ -10,13 +10,13 @@ use borrow.Author.Tests.{leb-true}
 use Rattle.model.specs.Sets.{has, union, within, count}
 use Rattle.model.specs.Choice.{cost}
 use Rattle.model_laws.proofs.Bools.{not-both}
+use Rattle.model_laws.proofs.Ranks.{count-le}
 use Rattle.sets.specs.Words.{value}
 use Rattle.query.specs.Carry.{Sub}
 use Rattle.query.proofs.Members.{sub-within, within-sub, sub-le, sub-count, left-sub, right-sub}
 use Rattle.query_rank.specs.declared.Best.{Best}
 use Rattle.query_rank.specs.declared.Job.{Job}
 use Rattle.query_rank.specs.Ranks.{keyBy, rank, rankAt, Between, LeastCost, LeastKey, Settled}
-use Rattle.query_rank.proofs.Ranks.{count-le}
 
 between-sub : (chosen free s : ℕ) → Between chosen free s → Sub s (union chosen free)
 between-sub chosen free s b i m = go (b .most i m)

@@ -9,7 +9,7 @@ use native.Mathlib.Omega.{arith}
 use lib.Dec.{eqb, ltb, leb}
 use borrow.Author.Tests.{eqb-true, eqb-false, ltb-true, ltb-false, leb-true, leb-false, le-leb, lt-leb}
 use lib.Arith.{lt-of-le-ne}
-use Rattle.model.specs.Sets.{has, within, one, countTo, count}
+use Rattle.model.specs.Sets.{within, count}
 use Rattle.model.specs.Choice.{cost}
 use Rattle.model_laws.proofs.Bools.{not-both}
 use Rattle.sets.specs.Words.{value}
@@ -36,20 +36,6 @@ module _ (a n : ℕ) where
       go (suc (suc x)) f g = record { same = unfold cost in refl; small = omega arith }
 
 -- ---- the key
-at-most : (f : ℕ → Bool) (d : ℕ) → countTo f d ≤ d
-unfolding countTo
-at-most f zero = zero-le
-at-most f (suc d) = omega (arith, at-most f d, single (f d))
-  where
-    single : (b : Bool) → one b ≤ 1
-    single true = le-refl 1
-    single false = zero-le
-
--- a set of members below d has at most d
-pub count-le : (d s : ℕ) → count d s ≤ d
-unfolding count
-count-le d s = at-most (has s) d
-
 pub key-joins : (a b c s x y m n : ℕ) → m ≡ count 256 c → n ≡ count 64 s → Costs a m x → Costs b n y → x * 512 + y ≡ keyBy a b c s
 unfolding keyBy
 key-joins a b c s x y m n em en p q = rw (p .same, q .same, em, en)

@@ -7,17 +7,15 @@ use mathlib.Core.List.{List, [], _∷_, _++_, map}
 use Prim.Native.Nat.{ℕ, zero, suc, _+_, _-_, _≤_, _<_}
 use native.Mathlib.Omega.{arith}
 use lib.Dec.{ltb}
-use lib.Bits.{or-zero-l, or-comm}
+use lib.Bits.{or-zero-l}
 use lib.ListN.{length, getD, set, take, drop, length-take, length-set}
-use lib.Seq.{set-split, getD-take, getD-set-same, getD-set-other}
-use borrow.Author.Tests.{eq-eqb, ltb-true, ltb-false, lt-ltb, le-ltb}
-use Rattle.model.specs.declared.Kind.{Kind}
-use Rattle.model.specs.declared.Kind.the-variants.{SsDmer, MsDmer, SsHmer, MsHmer}
+use lib.Seq.{set-split, getD-take}
+use borrow.Author.Tests.{ltb-true, ltb-false, lt-ltb, le-ltb}
 use Rattle.model.specs.declared.Exclusion.{Exclusion}
 use Rattle.model.specs.declared.Exclusions.{Exclusions}
 use Rattle.model.specs.declared.Session.{Session}
 use Rattle.model.specs.declared.Line.{Line}
-use Rattle.model.specs.Tests.{pick, all}
+use Rattle.model.specs.Tests.{all}
 use Rattle.model.specs.Sets.{has, union, inter, within, one, countTo, count}
 use Rattle.model.specs.Policy.{Policy, authorized, meaning}
 use Rattle.model.specs.Line.{emptySession, sessionAt, activeIn, others, exclusionsMet, putIn}
@@ -29,6 +27,8 @@ use Rattle.model_laws.proofs.Every.{all-mem, mem-all, all-at, at-all}
 use Rattle.model_laws.proofs.SetLaws.{has-union, has-inter}
 use Rattle.model_laws.proofs.Actives.{active-middle}
 use Rattle.model_laws.proofs.ConditionsProof.{solution}
+use Rattle.model_laws.proofs.MetLaws.{counted-then}
+use Rattle.model_laws.proofs.TableLaws.{fill-next}
 use Rattle.sets.proofs.Taken.{has-lacking}
 use Rattle.query_rooms.specs.Rooms.{fits, roomy}
 use Rattle.query_rooms.specs.Reduction.{Reduces}
@@ -72,13 +72,6 @@ module _ (m b s : ℕ) where
           e ∙ sym (le-ltb (count 64 (inter m (union b s))) n (omega (arith, apart 64)))
 
 -- ---- what each kind counts at session k then: what stays, and s
-counted-then : (l : Line) (k s : ℕ) (c : Kind) → countedAfter l k s k c ≡ union (stays l k c) s
-unfolding countedAfter stay pick
-counted-then l k s SsDmer = rw (eq-eqb k k refl) (sym (or-zero-l s))
-counted-then l k s MsDmer = or-comm s (activeIn (others k (l .sessions)))
-counted-then l k s SsHmer = rw (eq-eqb k k refl)
-counted-then l k s MsHmer = refl
-
 -- the exclusion is met at session k once s is put in
 unfoldable metThen : Line → ℕ → ℕ → Exclusion → Bool
 metThen l k s x = fits (maskOf (x .members) (stays l k (x .kind))) (roomOf (x .members) (x .n) (stays l k (x .kind))) s
@@ -146,16 +139,6 @@ pub record Filled (xs : List Exclusion) (d : Exclusion) (elsewhere session user 
   pub mask : (i : ℕ) → i < n → getD masks i 0 ≡ maskOf (getD xs i d .members) (stay (getD xs i d .kind) elsewhere session user)
   pub room : (i : ℕ) → i < n → getD rooms i 0 ≡ roomOf (getD xs i d .members) (getD xs i d .n) (stay (getD xs i d .kind) elsewhere session user)
 
--- what holds below n and, stored, at n holds below n + 1
-stored : (f : ℕ → ℕ) (l : List ℕ) (n v : ℕ) → n < length l → ((i : ℕ) → i < n → getD l i 0 ≡ f i) → v ≡ f n → (i : ℕ) → i < n + 1 → getD (set l n v) i 0 ≡ f i
-stored f l n v h old new i q = go (ltb i n) refl
-  where
-    go : (b : Bool) → ltb i n ≡ b → getD (set l n v) i 0 ≡ f i
-    go true e = let m = ltb-true i n e in getD-set-other l n i v 0 (λ x. omega arith) ∙ old i m
-    go false e =
-        let m : i ≡ n = omega (arith, ltb-false i n e) in
-        ap (λ (x : ℕ). getD (set l n v) x 0) m ∙ getD-set-same l n v 0 h ∙ new ∙ ap f (sym m)
-
 module _ (xs : List Exclusion) (d : Exclusion) (elsewhere session user : ℕ) where
   pub filled-none : (masks rooms : List ℕ) → length masks ≡ 32 → length rooms ≡ 32 → Filled xs d elsewhere session user masks rooms 0
   filled-none masks rooms a b = record { long = a; wide = b; mask = λ i q. absurd (omega arith); room = λ i q. absurd (omega arith) }
@@ -170,10 +153,10 @@ module _ (xs : List Exclusion) (d : Exclusion) (elsewhere session user : ℕ) wh
       record {
         long = length-set masks n v ∙ f .long;
         wide = length-set rooms n w ∙ f .wide;
-        mask = stored (λ i. maskOf (getD xs i d .members) (stay (getD xs i d .kind) elsewhere session user)) masks n v
+        mask = fill-next (λ i. maskOf (getD xs i d .members) (stay (getD xs i d .kind) elsewhere session user)) masks n v
             (subst (λ (x : ℕ). n < x) (sym (f .long)) q) (f .mask)
             (kv ∙ ap (maskOf (getD xs n d .members)) kb);
-        room = stored (λ i. roomOf (getD xs i d .members) (getD xs i d .n) (stay (getD xs i d .kind) elsewhere session user)) rooms n w
+        room = fill-next (λ i. roomOf (getD xs i d .members) (getD xs i d .n) (stay (getD xs i d .kind) elsewhere session user)) rooms n w
             (subst (λ (x : ℕ). n < x) (sym (f .wide)) q) (f .room)
             (kw ∙ ap (roomOf (getD xs n d .members) (getD xs n d .n)) kb);
       }

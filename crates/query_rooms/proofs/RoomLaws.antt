@@ -70,3 +70,11 @@ unfolding roomy
 roomy-less masks rooms n a b h m =
     at-below (λ k. fits (getD masks k 0) (getD rooms k 0) a) n (λ k l.
     fits-less (getD masks k 0) (getD rooms k 0) a b h (below-at (λ j. fits (getD masks j 0) (getD rooms j 0) b) n k m l))
+
+-- ---- the set of all roles
+abbrev pub every : ℕ
+every = 18446744073709551615
+
+pub every-has : (r : ℕ) → r < 64 → has every r ≡ true
+unfolding allBelow has
+every-has r h = below-at (has every) 64 r refl h

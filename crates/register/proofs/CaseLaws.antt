@@ -4,7 +4,6 @@ use mathlib.Core.Path.{_≡_, refl, sym, ap, _∙_}
 use mathlib.Core.Logic.{_⊎_, inl, inr}
 use mathlib.Core.Bool.{Bool, true, false, _&&_, _||_, not, true≢false}
 use Prim.Native.Nat.{ℕ, zero, suc, _+_, _^_, _≤_, _<_}
-use native.Mathlib.Nat.{le-refl}
 use native.Mathlib.Decide.{decLt}
 use native.Mathlib.Omega.{arith}
 use lib.Dec.{eqb, ltb, leb}
@@ -19,6 +18,7 @@ use Rattle.model_laws.proofs.Bools.{and-l, and-r, both, not-both}
 use Rattle.model_laws.proofs.UnionLaws.{has-below, below-or-last}
 use Rattle.model_laws.proofs.AnyWidth.{lt-two-pow, members-below, within-iff}
 use Rattle.model_laws.proofs.CallLaws.{lowest-closed}
+use Rattle.model_laws.proofs.Ranks.{count-le}
 use Rattle.register.specs.Calls.{WrongSize, TooHigh, NotWithin, WrongAim}
 use Rattle.register.proofs.Decided.{Decides, decides-as, not-decides, or-decides, nand-decides, equal-decides, below-decides}
 
@@ -115,19 +115,10 @@ pub aim-decides : (q : Query) → Decides (ltb 2 (q .permissionAim) || ltb 2 (q 
 aim-decides q = or-decides (ltb 2 (q .permissionAim)) (ltb 2 (q .roleAim)) (below-decides 2 (q .permissionAim)) (below-decides 2 (q .roleAim))
 
 -- ---- 14, and the session that an open takes
-count-most : (d s : ℕ) → count d s ≤ d
-unfolding count countTo
-count-most zero s = le-refl 0
-count-most (suc d) s = let h = count-most d s in go (has s d) h
-  where
-    go : (b : Bool) → count d s ≤ d → one b + count d s ≤ suc d
-    go true h = omega arith
-    go false h = omega arith
-
 all-counted : (d s : ℕ) → count d s ≡ d → (j : ℕ) → j < d → has s j ≡ true
 unfolding count countTo
 all-counted zero s e j l = absurd (omega arith)
-all-counted (suc d) s e j l = go (has s d) refl e (count-most d s) (all-counted d s)
+all-counted (suc d) s e j l = go (has s d) refl e (count-le d s) (all-counted d s)
   where
     go : (b : Bool) → has s d ≡ b → one b + count d s ≡ suc d → count d s ≤ d → (count d s ≡ d → (j : ℕ) → j < d → has s j ≡ true) → has s j ≡ true
     go true p e h ih = elim (below-or-last j d l) [ inl i ↦ ih (omega arith) j i | inr i ↦ ap (has s) i ∙ p ]

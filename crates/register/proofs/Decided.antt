@@ -13,6 +13,7 @@ use borrow.Author.Tests.{eqb-true, eqb-false, ltb-true, ltb-false, leb-true, leb
 use Rattle.model.specs.Sets.{has, inter, one, countTo, count}
 use Rattle.model.specs.Ranges.{Each}
 use Rattle.model_laws.proofs.SetLaws.{count-cong, count-more, inter-both, inter-parts}
+use Rattle.model_laws.proofs.Eachs.{each-by, each-two}
 use Rattle.register.specs.Faults.{Distinct, Many}
 
 -- the test holds where the fact does, and fails where it does not
@@ -71,16 +72,8 @@ above-decides a b =
 
 -- ---- so many different numbers
 
-each-map : {P Q : ℕ → Type 0} (xs : List ℕ) → ((x : ℕ) → P x → Q x) → Each P xs → Each Q xs
-each-map [] f e = tt
-each-map (x ∷ xs) f e = (f x (e .0), each-map xs f (e .1))
-
-each-both : (P Q : ℕ → Type 0) (xs : List ℕ) → Each P xs → Each Q xs → Each (λ x. P x × Q x) xs
-each-both P Q [] e f = tt
-each-both P Q (x ∷ xs) e f = ((e .0, f .0), each-both P Q xs (e .1) (f .1))
-
 pub many-map : {P Q : ℕ → Type 0} (n : ℕ) → ((x : ℕ) → P x → Q x) → Many n P → Many n Q
-many-map n f w = record { list = w .list; size = w .size; different = w .different; each = each-map (w .list) f (w .each) }
+many-map n f w = record { list = w .list; size = w .size; different = w .different; each = each-by _ _ f (w .list) (w .each) }
 
 -- below d, and passing the test
 abbrev Passes : (ℕ → Bool) → ℕ → ℕ → Type 0
@@ -93,8 +86,8 @@ listed-count d (x ∷ xs) f q e =
     let g : ℕ → Bool = λ j. f j && not (eqb j x) in
     let out : g x ≡ false = ap (λ (b : Bool). f x && not b) (eq-eqb x x refl) ∙ false-r (f x) in
     let more = count-cong f (λ j. g j || eqb j x) d (λ j l. split j (eqb j x) refl) ∙ count-more g d x (e .0 .0) out in
-    let others = each-both (λ y. ¬ (x ≡ y)) (Passes f d) xs (q .0) (e .1) in
-    let rest = listed-count d xs g (q .1) (each-map xs (λ y w. (w .1 .0, kept y (w .0) (w .1 .1))) others) in
+    let others = each-two (λ y. ¬ (x ≡ y)) (Passes f d) (λ y. ¬ (x ≡ y) × Passes f d y) (λ y g h. (g, h)) xs (q .0) (e .1) in
+    let rest = listed-count d xs g (q .1) (each-by _ _ (λ y w. (w .1 .0, kept y (w .0) (w .1 .1))) xs others) in
     omega arith
   where
     false-r : (b : Bool) → (b && not true) ≡ false
@@ -133,8 +126,8 @@ count-listed f (suc d) (suc n) l = go (f d) refl l (count-listed f d (suc n)) (c
         record {
           list = d ∷ v .list;
           size = ap suc (v .size);
-          different = (each-map (v .list) (λ x (a, b) z. omega arith) (v .each), v .different);
-          each = ((le-refl (suc d), p), each-map (v .list) (λ x (a, b). (omega arith, b)) (v .each));
+          different = (each-by _ _ (λ x (a, b) z. omega arith) (v .list) (v .each), v .different);
+          each = ((le-refl (suc d), p), each-by _ _ (λ x (a, b). (omega arith, b)) (v .list) (v .each));
         }
     go false p q ih jh = wider (ih (omega arith))
 
@@ -143,7 +136,7 @@ pub many-decides : {P : ℕ → Type 0} (f : ℕ → Bool) (d n : ℕ) → ((x :
     → Decides (leb n (countTo f d)) (Many n P)
 many-decides f d n to back =
     decides-as (leb n (countTo f d)) (most-decides n (countTo f d)) (λ l. many-map n (λ x (a, b). back x a b) (count-listed f d n l))
-    (λ w. subst (λ (m : ℕ). m ≤ countTo f d) (w .size) (listed-count d (w .list) f (w .different) (each-map (w .list) to (w .each))))
+    (λ w. subst (λ (m : ℕ). m ≤ countTo f d) (w .size) (listed-count d (w .list) f (w .different) (each-by _ _ to (w .list) (w .each))))
 
 -- a number is below t exactly if what a test against t decides is not so
 pub below-is-not : {A : Type 0} (t n : ℕ) → Decides (leb t n) A → (n < t) ↔ (¬ A)

@@ -24,10 +24,11 @@ use Rattle.model.specs.Policy.{kindNumber}
 use Rattle.model.specs.Ranges.{OneTo}
 use Rattle.model_laws.proofs.Bools.{and-l, and-r, both, pick-case}
 use Rattle.model_laws.proofs.SortedLaws.{kind-of, kind-number}
+use Rattle.model_laws.proofs.Accepted.{one-to}
 use Rattle.register.specs.Entries.{Fits, IsWord, IsHead, WordIs, WordsAre}
 
 -- ---- an exclusion's kind and its number
-kind-below : (k : Kind) → kindNumber k < 4
+pub kind-below : (k : Kind) → kindNumber k < 4
 unfolding kindNumber
 kind-below SsDmer = omega arith
 kind-below MsDmer = omega arith
@@ -163,7 +164,7 @@ says-nothing w (inr l) =
       ne-eqb (field w 28 4) 15 (λ e. omega arith),
     )
 
-write-exclusion : (k : Kind) (n m : ℕ) → n < 2 ^ 7 → m < 2 ^ 7
+pub write-exclusion : (k : Kind) (n m : ℕ) → n < 2 ^ 7 → m < 2 ^ 7
     → decode (exclusionWord (kindNumber k) n m) ≡ says (Exclude (record { kind = k; n = n; members = 0 }) m) 0
 unfolding decodeBy pick exclusionWord
 write-exclusion k n m a b =
@@ -177,7 +178,7 @@ write-exclusion k n m a b =
     let q : kindOf (field w 26 2) ≡ k = ap kindOf v ∙ kind-of k in
     decode-by w 5 t ∙ (λ i. says (Exclude (record { kind = q i; n = x i; members = 0 }) (y i)) (z i))
 
-writes : (w : ℕ) (e : Entry) → Fits e → IsWord w e → decode w ≡ says e 0
+pub writes : (w : ℕ) (e : Entry) → Fits e → IsWord w e → decode w ≡ says e 0
 unfolding decodeBy pick assignWord grantWord seniorWord memberWord limitWord endWord
 writes w (Assignment u r) (a, b) q =
     let k : field w 28 4 ≡ 2 = omega arith in
@@ -216,9 +217,6 @@ writes w Unknown a q = says-nothing w q
 
 -- ---- the head
 module _ (w : ℕ) (low : w < 2 ^ 32) where
-  in-range : (n b : ℕ) → between 1 n b ≡ true → OneTo b n
-  in-range n b e = (leb-true 1 n (and-l (leb 1 n) (leb n b) e), leb-true n b (and-r (leb 1 n) (leb n b) e))
-
   range-in : (n b : ℕ) → OneTo b n → between 1 n b ≡ true
   range-in n b l = both (leb 1 n) (leb n b) (le-leb 1 n (l .0)) (le-leb n b (l .1))
 
@@ -236,15 +234,15 @@ module _ (w : ℕ) (low : w < 2 ^ 32) where
       let kind = of w low 1 (and-l k a j) in
       let spare = eqb-true (w % 2 ^ 5) 0 (and-r (k && a && b && c) d e) in
       record {
-        users = in-range (field w 21 7) 64 (and-r k a j);
-        roles = in-range (field w 14 7) 64 (and-r (k && a) b g);
-        permissions = in-range (field w 5 9) 256 (and-r (k && a && b) c f);
+        users = one-to (field w 21 7) 64 (and-r k a j);
+        roles = one-to (field w 14 7) 64 (and-r (k && a) b g);
+        permissions = one-to (field w 5 9) 256 (and-r (k && a && b) c f);
         word =
             joined w 28 21 14 5 1 _ _ _ _ _ _ _ (sym (split w 28) ∙ ap (λ (n : ℕ). n * 2 ^ 28 + w % 2 ^ 28) kind)
             (mod-pow-add w 7 21) (mod-pow-add w 7 14) (mod-pow-add w 9 5) spare;
       }
 
-  head-written : (h : Head) → IsHead w h → (headRight w ≡ true) × (headOf w ≡ h)
+  pub head-written : (h : Head) → IsHead w h → (headRight w ≡ true) × (headOf w ≡ h)
   unfolding headRight headOf headWord
   head-written h q =
       let e = q .word in
@@ -274,12 +272,12 @@ word-is w low =
     }
 
 -- a byte of a list of bytes, or none
-byte-low : (s : List ℕ) → areBytes s ≡ true → (i : ℕ) → getD s i 0 < 256
+pub byte-low : (s : List ℕ) → areBytes s ≡ true → (i : ℕ) → getD s i 0 < 256
 byte-low [] e i = omega arith
 byte-low (b ∷ s) e zero = ltb-true b 256 (and-l (ltb b 256) (areBytes s) e)
 byte-low (b ∷ s) e (suc i) = byte-low s (and-r (ltb b 256) (areBytes s) e) i
 
-word-low : (s : List ℕ) → areBytes s ≡ true → (k : ℕ) → wordAt s k < 2 ^ 32
+pub word-low : (s : List ℕ) → areBytes s ≡ true → (k : ℕ) → wordAt s k < 2 ^ 32
 unfolding wordAt
 word-low s e k =
     omega (arith, byte-low s e (4 * k), byte-low s e (4 * k + 1), byte-low s e (4 * k + 2), byte-low s e (4 * k + 3))

@@ -17,14 +17,13 @@ use Rattle.model.specs.Line.{exclusionsMet, putIn}
 use Rattle.model.specs.Choice.{carriedBy, admissible, cost, permissionCost, roleCost, better, choose}
 use Rattle.model_laws.proofs.Bools.{and-l, and-r, both, not-both}
 use Rattle.model_laws.proofs.SetLaws.{has-beyond}
-use Rattle.model_laws.proofs.Ranks.{Earlier, earlier-true}
+use Rattle.model_laws.proofs.Ranks.{Earlier, earlier-true, count-le}
 use Rattle.model_laws.proofs.Choices.{choice}
 use Rattle.query_rank.specs.declared.Best.{Best}
 use Rattle.query.specs.Carry.{Sub, Keeps}
 use Rattle.query_rank.specs.Ranks.{keyBy, rank, rankAt, Between}
 use Rattle.query.proofs.Members.{sub-within, within-sub, sub-le, none-sub, no-member}
 use Rattle.query.proofs.Meanings.{carried-meaning}
-use Rattle.query_rank.proofs.Ranks.{count-le}
 use Rattle.search.specs.declared.Choice.{Choice}
 use Rattle.search.specs.declared.Choice.the-variants.{Nothing}
 use Rattle.search_steps.specs.Search.{Task, carries, serves, rankOf, Served, Found}

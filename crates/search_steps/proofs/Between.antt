@@ -7,14 +7,14 @@ use Prim.Native.Nat.{ℕ}
 use borrow.Author.Tests.{eqb-true, eqb-false}
 use lib.Dec.{eqb}
 use Rattle.model.specs.Sets.{has, with}
-use Rattle.model_laws.proofs.Bools.{or-l, or-cases, bool-ext, not-both}
+use Rattle.model_laws.proofs.Bools.{or-l, bool-ext, not-both}
 use Rattle.model_laws.proofs.AnyWidth.{same-sets}
-use Rattle.model_laws.proofs.SetLaws.{has-with}
+use Rattle.model_laws.proofs.SetLaws.{has-with, with-cases, with-new}
 use Rattle.sets.specs.Members.{without}
 use Rattle.sets.proofs.Taken.{without-gone, without-other}
 use Rattle.query.specs.Carry.{Sub}
 use Rattle.query_rank.specs.Ranks.{Between}
-use Rattle.query.proofs.Members.{no-member, either, with-new, fewer-sub}
+use Rattle.query.proofs.Members.{no-member, either, fewer-sub}
 
 pub sub-same : (a b : ℕ) → Sub a b → Sub b a → a ≡ b
 sub-same a b h g = same-sets a b (λ i. bool-ext (has a i) (has b i) (h i) (g i))
@@ -23,15 +23,8 @@ sub-same a b h g = same-sets a b (λ i. bool-ext (has a i) (has b i) (h i) (g i)
 pub with-old : (s r i : ℕ) → has s i ≡ true → has (with s r) i ≡ true
 with-old s r i m = has-with s r i ∙ or-l (has s i) (eqb i r) m
 
-pub with-or : (s r i : ℕ) → has (with s r) i ≡ true → (has s i ≡ true) ⊎ (i ≡ r)
-with-or s r i m = go (or-cases (has s i) (eqb i r) (sym (has-with s r i) ∙ m))
-  where
-    go : (has s i ≡ true) ⊎ (eqb i r ≡ true) → (has s i ≡ true) ⊎ (i ≡ r)
-    go (inl h) = inl h
-    go (inr h) = inr (eqb-true i r h)
-
 pub with-sub : (s r t : ℕ) → Sub s t → has t r ≡ true → Sub (with s r) t
-with-sub s r t h m i n = go (with-or s r i n)
+with-sub s r t h m i n = go (with-cases s r i n)
   where
     go : (has s i ≡ true) ⊎ (i ≡ r) → has t i ≡ true
     go (inl k) = h i k
@@ -92,7 +85,7 @@ module _ (chosen free r s : ℕ) (m : has free r ≡ true) where
       one i (inr e) = inr (ap (has free) e ∙ m)
 
       go : (i : ℕ) → (has (with chosen r) i ≡ true) ⊎ (has (without free r) i ≡ true) → (has chosen i ≡ true) ⊎ (has free i ≡ true)
-      go i (inl h) = one i (with-or chosen r i h)
+      go i (inl h) = one i (with-cases chosen r i h)
       go i (inr h) = inr (fewer-sub free r m i h)
 
 -- the chosen roles alone

@@ -4,15 +4,15 @@ use mathlib.Core.Path.{_≡_, refl, sym, ap, ap₂, subst, _∙_}
 use mathlib.Core.Bool.{Bool, true, false, _&&_, _||_, not, and-true, or-false, or-true}
 use Prim.Native.Nat.{ℕ, zero, suc, _/_, _%_, _^_, _≤_, _<_, zero-le, suc-le-suc}
 use native.Mathlib.Nat.{div-one, mod-lt}
-use native.Mathlib.Numerals.{add-one, one-add}
+use native.Mathlib.Numerals.{add-one}
 use native.Mathlib.Omega.{arith}
 use borrow.Author.Tests.{eqb-true, eqb-false, eq-eqb, ne-eqb}
 use lib.Dec.{eqb, lit<}
 use lib.Bits.{bitAnd, bitXor, xor-shr, xor-mod, xor-lt, or-lt}
-use lib.Pow.{pow-pos, pow-lt, shr-shr, shr-lt}
+use lib.Pow.{pow-pos, pow-lt, shr-lt}
 use lib.Count.{trailingZeros, under}
 use Rattle.model.specs.Sets.{has, with, count}
-use Rattle.model_laws.proofs.SetLaws.{has-power, has-inter, has-with, same-members, count-with}
+use Rattle.model_laws.proofs.SetLaws.{has-power, has-inter, has-with, same-members, count-with, has-half}
 use Rattle.sets.specs.Members.{without, lowestOf, Lowest}
 
 -- ---- a member taken out
@@ -89,10 +89,6 @@ count-without d s k h l m =
     ap (count d) (sym (with-without d s k h l m)) ∙ count-with d (without s k) k l (without-gone s k m)
 
 -- ---- the lowest member
-
-has-half : (n k : ℕ) → has (n / 2) k ≡ has n (suc k)
-unfolding has
-has-half n k = ap (λ (x : ℕ). eqb (x % 2) 1) (shr-shr n 1 k ∙ ap (λ (j : ℕ). n / 2 ^ j) (one-add k))
 
 has-zero : (n : ℕ) → n % 2 ≡ 1 → has n 0 ≡ true
 unfolding has

@@ -39,13 +39,14 @@ use Rattle.tidy_laws.proofs.GroupsFound.{member-role}
 use Rattle.tidy_laws.proofs.GroupsTaken.{end-spare}
 use Rattle.tidy_laws.proofs.GroupExclusions.{exclusionIn, exclusionsIn, exclusions-in, bare-word}
 use Rattle.model_laws.proofs.SortedLaws.{sorted-mem}
+use Rattle.register.proofs.EntriesProof.{word-low}
 use Rattle.tidy_laws.proofs.TidyLists.{members-each, members-mem, members-length, spread-mem}
 use Rattle.tidy_laws.proofs.TidyLimits.{limited-row}
 use Rattle.tidy_laws.proofs.TidyOrderProof.{members-ascending}
 use Rattle.tidy_laws.proofs.TidyGroups.{table-written, assigned-word, granted-word, junior-word, limit-word}
 use Rattle.tidy_laws.proofs.TidyImage.{none-self, tidy-words, tidy-short, words-length, sum-last}
 use Rattle.tidy_laws.proofs.ArrangedLaws.{comes-irrefl, within-same}
-use Rattle.tidy_laws.proofs.ArrangedWords.{WordFor, word-for, head-for, word-low, words-low, words-bytes}
+use Rattle.tidy_laws.proofs.ArrangedWords.{WordFor, word-for, head-for, words-low, words-bytes}
 use Rattle.tidy_laws.proofs.TidyArranged.{groups-come, tidy-arranged}
 
 -- ---- lists

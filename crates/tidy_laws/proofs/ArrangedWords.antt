@@ -8,8 +8,8 @@ use native.Mathlib.Nat.{div-div-eq-div-mul, div-add-mod', add-zero}
 use native.Mathlib.Omega.{arith}
 use lib.Dec.{eqb, ltb}
 use lib.Pow.{areBytes}
-use lib.ListN.{getD, length}
-use borrow.Author.Tests.{eqb-true, ltb-true}
+use lib.ListN.{length}
+use borrow.Author.Tests.{eqb-true}
 use Rattle.model.specs.declared.Entry.{Entry}
 use Rattle.model.specs.declared.Entry.the-variants.{Assignment, Grant, Senior, Exclude, Member, End, Unknown, Limit}
 use Rattle.model.specs.declared.Word.{Word}
@@ -23,6 +23,7 @@ use Rattle.model.specs.Ranges.{Each}
 use Rattle.model_laws.proofs.Bools.{and-l, and-r, pick-case}
 use Rattle.model_laws.proofs.Eachs.{nil-of}
 use Rattle.model_laws.proofs.SortedLaws.{kind-number}
+use Rattle.register.proofs.EntriesProof.{word-low, byte-low}
 use Rattle.tidy_laws.proofs.WordLaws.{words-next}
 
 -- ---- what is written for an entry
@@ -132,21 +133,6 @@ module _ (w : ℕ) (low : w < 2 ^ 32) where
 
 -- ---- bytes
 
-byte-at : (s : List ℕ) → areBytes s ≡ true → (i : ℕ) → getD s i 0 < 256
-byte-at [] e i = omega arith
-byte-at (b ∷ s) e zero = ltb-true b 256 (and-l (ltb b 256) (areBytes s) e)
-byte-at (b ∷ s) e (suc i) = byte-at s (and-r (ltb b 256) (areBytes s) e) i
-
--- a word of bytes has 32 bits
-pub word-low : (s : List ℕ) → areBytes s ≡ true → (place : ℕ) → wordAt s place < 2 ^ 32
-unfolding wordAt
-word-low s e place =
-    let a = byte-at s e (4 * place) in
-    let b = byte-at s e (4 * place + 1) in
-    let c = byte-at s e (4 * place + 2) in
-    let d = byte-at s e (4 * place + 3) in
-    omega arith
-
 pub words-low : (s : List ℕ) → areBytes s ≡ true → (n place : ℕ) → Each (λ w. w < 2 ^ 32) (wordsFrom s n place)
 unfolding wordsFrom
 words-low s e zero place = tt
@@ -186,7 +172,7 @@ words-bytes (suc n) (a ∷ b ∷ c ∷ d ∷ r) e l =
     let e1 = and-r (ltb a 256) (areBytes (b ∷ c ∷ d ∷ r)) e in
     let e2 = and-r (ltb b 256) (areBytes (c ∷ d ∷ r)) e1 in
     let e3 = and-r (ltb c 256) (areBytes (d ∷ r)) e2 in
-    let q = four a b c d r (byte-at s e 0) (byte-at s e 1) (byte-at s e 2) (byte-at s e 3) in
+    let q = four a b c d r (byte-low s e 0) (byte-low s e 1) (byte-low s e 2) (byte-low s e 3) in
     ap (λ (ws : List ℕ). bytesOf 4 (wordAt s 0) ++ imageBytes ws)
     (ap (λ (t : List ℕ). wordsFrom t n 1) (sym q) ∙ words-next (wordAt s 0) r n 0)
     ∙ ap (λ (t : List ℕ). bytesOf 4 (wordAt s 0) ++ t) (words-bytes n r (and-r (ltb d 256) (areBytes r) e3) (omega arith))

@@ -1,7 +1,7 @@
 -- Words without fault are whole groups, each right by itself, and then an end word.
 -- Assumes nothing.
 use mathlib.Core.Path.{_≡_, refl, sym, ap, _∙_, subst}
-use mathlib.Core.Bool.{Bool, true, false, _||_, true≢false}
+use mathlib.Core.Bool.{true, false, true≢false}
 use mathlib.Core.List.{List, [], _∷_, _++_, map, append-assoc}
 use Prim.Native.Nat.{ℕ, zero, suc, _-_, _<_}
 use native.Mathlib.Omega.{arith}
@@ -17,7 +17,7 @@ use Rattle.model.specs.Sets.{has, with}
 use Rattle.model.specs.Image.{isKind, decode, wrongKind, inRange, repeats, assigning, next, start}
 use Rattle.model.specs.Ranges.{Each}
 use Rattle.tidying.specs.Groups.{entryOf, memberRole, Group, spread, leads, dueBehind, Distinct, RightMember, RightGroup}
-use Rattle.model_laws.proofs.Bools.{pick-case}
+use Rattle.model_laws.proofs.Bools.{pick-case, or-false-l, or-false-r}
 use Rattle.model_laws.proofs.Eachs.{each-by, each-map, nil-of}
 use Rattle.model_laws.proofs.SetLaws.{has-with}
 use Rattle.model_laws.proofs.Scanned.{turn-of}
@@ -61,14 +61,6 @@ member-field w =
 pub member-role : (w : ℕ) (r : Role) → entryOf w ≡ Member r → r .0 ≡ memberRole w
 unfolding memberOr
 member-role w r e = ap (λ (x : Entry). memberOr x (memberRole w)) (sym e) ∙ member-field w
-
-or-false-l : (a b : Bool) → (a || b) ≡ false → a ≡ false
-or-false-l true b e = e
-or-false-l false b e = refl
-
-or-false-r : (a b : Bool) → (a || b) ≡ false → b ≡ false
-or-false-r true b e = absurd (true≢false e)
-or-false-r false b e = e
 
 -- ---- one word more in front
 module _ (h : Head) (t : Scan) (w : ℕ) (ws : List ℕ) (spare : decode w .spare ≡ 0) where

@@ -33,8 +33,9 @@ use Rattle.model_laws.proofs.Tables.{read-off}
 use Rattle.model_laws.proofs.Eachs.{each-map, each-mem}
 use Rattle.tidy_laws.proofs.GroupsFound.{member-role}
 use Rattle.tidy_laws.proofs.GroupExclusions.{exclusionIn, exclusionsIn, joined-below}
-use Rattle.tidy_laws.proofs.WordLaws.{decode-exclusion, decode-member, kind-below}
+use Rattle.tidy_laws.proofs.WordLaws.{decode-exclusion, decode-member}
 use Rattle.model_laws.proofs.SortedLaws.{weights}
+use Rattle.register.proofs.EntriesProof.{kind-below}
 use Rattle.tidy_laws.proofs.TidyLists.{members-each, members-mem, members-length, members-distinct}
 
 -- ---- member words

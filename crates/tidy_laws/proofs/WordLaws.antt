@@ -3,148 +3,60 @@
 use mathlib.Core.Path.{_≡_, refl, sym, ap, ap₂, _∙_}
 use mathlib.Core.Bool.{true}
 use mathlib.Core.List.{List, [], _∷_, _++_}
-use Prim.Native.Nat.{ℕ, zero, suc, _+_, _-_, _*_, _/_, _%_, _^_, _≤_, _<_}
+use Prim.Native.Nat.{ℕ, zero, suc, _+_, _-_, _*_, _/_, _^_, _<_}
 use native.Mathlib.Numerals.{add-one}
 use native.Mathlib.Omega.{arith}
-use lib.Dec.{eqb, leb}
 use lib.ListN.{getD, length}
 use lib.Seq.{getD-append-add}
-use borrow.Author.Tests.{eq-eqb, le-leb}
 use Rattle.model.specs.declared.Head.{Head}
 use Rattle.model.specs.declared.Kind.{Kind}
-use Rattle.model.specs.declared.Kind.the-variants.{SsDmer, MsDmer, SsHmer, MsHmer}
-use Rattle.model.specs.declared.Word.{Word}
-use Rattle.model.specs.declared.Entry.the-variants.{Assignment, Grant, Senior, Exclude, Member, End, Unknown, Limit}
-use Rattle.model.specs.Tests.{pick, between}
+use Rattle.model.specs.declared.Entry.the-variants.{Assignment, Grant, Senior, Exclude, Member, End, Limit}
 use Rattle.model.specs.Bytes.{bytesOf}
-use Rattle.model.specs.Image.{wordAt, behindHead, field, isKind, user, role, permission, kindOf, says, decode, headOf, headRight}
+use Rattle.model.specs.Image.{wordAt, behindHead, user, role, permission, says, decode, headOf, headRight}
 use Rattle.model.specs.Words.{headWord, assignWord, grantWord, seniorWord, exclusionWord, memberWord, endWord, imageBytes, limitWord}
 use Rattle.model.specs.Policy.{kindNumber}
 use Rattle.model.specs.Ranges.{Each, OneTo}
 use Rattle.model.specs.OwnWords.{wordsFrom}
+use Rattle.register.proofs.EntriesProof.{writes, write-exclusion, head-written}
 use Rattle.tidying.specs.Groups.{wordsBehind}
-use Rattle.model_laws.proofs.Bools.{both}
-use Rattle.model_laws.proofs.SortedLaws.{kind-of}
 
--- ---- decoding, by the number of the kind
-decodeBy : ℕ → ℕ → Word
-decodeBy k w =
-    pick (eqb k 2) (says (Assignment (user (field w 22 6)) (role (field w 16 6))) (w % 2 ^ 16))
-    (pick (eqb k 3) (says (Grant (role (field w 22 6)) (permission (field w 14 8))) (w % 2 ^ 14))
-    (pick (eqb k 4) (says (Senior (role (field w 22 6)) (role (field w 16 6))) (w % 2 ^ 16))
-    (pick (eqb k 5)
-    (says (Exclude (record { kind = kindOf (field w 26 2); n = field w 19 7; members = 0 }) (field w 12 7)) (w % 2 ^ 12))
-    (pick (eqb k 6) (says (Member (role (field w 22 6))) (w % 2 ^ 22))
-    (pick (eqb k 7) (says (Limit (role (field w 22 6)) (field w 13 9)) (w % 2 ^ 13))
-    (pick (eqb k 15) (says End 0) (says Unknown 0)))))))
-
-decode-by : (w k : ℕ) → field w 28 4 ≡ k → decode w ≡ decodeBy k w
-unfolding decode decodeBy
-decode-by w k e = ap (λ (n : ℕ). decodeBy n w) e
-
+-- ---- what is written for an entry is read back
 module _ (u r : ℕ) (a : u < 64) (b : r < 64) where
   pub decode-assignment : decode (assignWord u r) ≡ says (Assignment (user u) (role r)) 0
-  unfolding decodeBy pick assignWord
-  decode-assignment =
-      let w = assignWord u r in
-      let k : field w 28 4 ≡ 2 = omega arith in
-      let x : field w 22 6 ≡ u = omega arith in
-      let y : field w 16 6 ≡ r = omega arith in
-      let z : w % 2 ^ 16 ≡ 0 = omega arith in
-      decode-by w 2 k ∙ (λ i. says (Assignment (user (x i)) (role (y i))) (z i))
+  decode-assignment = writes (assignWord u r) (Assignment (user u) (role r)) (a, b) refl
 
   pub decode-senior : decode (seniorWord u r) ≡ says (Senior (role u) (role r)) 0
-  unfolding decodeBy pick seniorWord
-  decode-senior =
-      let w = seniorWord u r in
-      let k : field w 28 4 ≡ 4 = omega arith in
-      let x : field w 22 6 ≡ u = omega arith in
-      let y : field w 16 6 ≡ r = omega arith in
-      let z : w % 2 ^ 16 ≡ 0 = omega arith in
-      decode-by w 4 k ∙ (λ i. says (Senior (role (x i)) (role (y i))) (z i))
+  decode-senior = writes (seniorWord u r) (Senior (role u) (role r)) (a, b) refl
 
 pub decode-grant : (r p : ℕ) → r < 64 → p < 256 → decode (grantWord r p) ≡ says (Grant (role r) (permission p)) 0
-unfolding decodeBy pick grantWord
-decode-grant r p a b =
-    let w = grantWord r p in
-    let k : field w 28 4 ≡ 3 = omega arith in
-    let x : field w 22 6 ≡ r = omega arith in
-    let y : field w 14 8 ≡ p = omega arith in
-    let z : w % 2 ^ 14 ≡ 0 = omega arith in
-    decode-by w 3 k ∙ (λ i. says (Grant (role (x i)) (permission (y i))) (z i))
-
-pub kind-below : (k : Kind) → kindNumber k < 4
-unfolding kindNumber
-kind-below SsDmer = omega arith
-kind-below MsDmer = omega arith
-kind-below SsHmer = omega arith
-kind-below MsHmer = omega arith
+decode-grant r p a b = writes (grantWord r p) (Grant (role r) (permission p)) (a, b) refl
 
 pub decode-exclusion : (k : Kind) (n m : ℕ) → n < 128 → m < 128
     → decode (exclusionWord (kindNumber k) n m) ≡ says (Exclude (record { kind = k; n = n; members = 0 }) m) 0
-unfolding decodeBy pick exclusionWord
-decode-exclusion k n m a b =
-    let w = exclusionWord (kindNumber k) n m in
-    let c = kind-below k in
-    let t : field w 28 4 ≡ 5 = omega arith in
-    let v : field w 26 2 ≡ kindNumber k = omega arith in
-    let x : field w 19 7 ≡ n = omega arith in
-    let y : field w 12 7 ≡ m = omega arith in
-    let z : w % 2 ^ 12 ≡ 0 = omega arith in
-    let q : kindOf (field w 26 2) ≡ k = ap kindOf v ∙ kind-of k in
-    decode-by w 5 t ∙ (λ i. says (Exclude (record { kind = q i; n = x i; members = 0 }) (y i)) (z i))
+decode-exclusion k n m a b = write-exclusion k n m a b
 
 pub decode-limit : (r t : ℕ) → r < 64 → t < 512 → decode (limitWord r t) ≡ says (Limit (role r) t) 0
-unfolding decodeBy pick limitWord
-decode-limit r t a b =
-    let w = limitWord r t in
-    let k : field w 28 4 ≡ 7 = omega arith in
-    let x : field w 22 6 ≡ r = omega arith in
-    let y : field w 13 9 ≡ t = omega arith in
-    let z : w % 2 ^ 13 ≡ 0 = omega arith in
-    decode-by w 7 k ∙ (λ i. says (Limit (role (x i)) (y i)) (z i))
+decode-limit r t a b = writes (limitWord r t) (Limit (role r) t) (a, b) refl
 
 pub decode-member : (r : ℕ) → r < 64 → decode (memberWord r) ≡ says (Member (role r)) 0
-unfolding decodeBy pick memberWord
-decode-member r a =
-    let w = memberWord r in
-    let k : field w 28 4 ≡ 6 = omega arith in
-    let x : field w 22 6 ≡ r = omega arith in
-    let z : w % 2 ^ 22 ≡ 0 = omega arith in
-    decode-by w 6 k ∙ (λ i. says (Member (role (x i))) (z i))
+decode-member r a = writes (memberWord r) (Member (role r)) a refl
 
 pub decode-end : (sum : ℕ) → decode (endWord sum) ≡ says End 0
-unfolding decodeBy pick endWord
-decode-end sum = decode-by (endWord sum) 15 (omega arith)
+decode-end sum = writes (endWord sum) End tt (sum, refl)
 
 -- ---- the head word
 module _ (h : Head) (u : OneTo 64 (h .users)) (r : OneTo 64 (h .roles)) (p : OneTo 256 (h .permissions)) where
+  written : (headRight (headWord (h .users) (h .roles) (h .permissions)) ≡ true) × (headOf (headWord (h .users) (h .roles) (h .permissions)) ≡ h)
+  written = head-written _ low h (record { users = u; roles = r; permissions = p; word = refl })
+    where
+      low : headWord (h .users) (h .roles) (h .permissions) < 2 ^ 32
+      low = unfold headWord in omega arith
+
   pub head-back : headOf (headWord (h .users) (h .roles) (h .permissions)) ≡ h
-  unfolding headOf headWord
-  head-back =
-      let w = headWord (h .users) (h .roles) (h .permissions) in
-      let x : field w 21 7 ≡ h .users = omega arith in
-      let y : field w 14 7 ≡ h .roles = omega arith in
-      let z : field w 5 9 ≡ h .permissions = omega arith in
-      λ i. record { users = x i; roles = y i; permissions = z i }
+  head-back = written .1
 
   pub head-right : headRight (headWord (h .users) (h .roles) (h .permissions)) ≡ true
-  unfolding headRight headWord
-  head-right =
-      let w = headWord (h .users) (h .roles) (h .permissions) in
-      let k : field w 28 4 ≡ 1 = omega arith in
-      let x : field w 21 7 ≡ h .users = omega arith in
-      let y : field w 14 7 ≡ h .roles = omega arith in
-      let z : field w 5 9 ≡ h .permissions = omega arith in
-      let s : w % 2 ^ 5 ≡ 0 = omega arith in
-      let k′ : isKind w 1 ≡ true = eq-eqb (field w 28 4) 1 k in
-      let x′ : between 1 (field w 21 7) 64 ≡ true = within (field w 21 7) 64 (omega arith) (omega arith) in
-      let y′ : between 1 (field w 14 7) 64 ≡ true = within (field w 14 7) 64 (omega arith) (omega arith) in
-      let z′ : between 1 (field w 5 9) 256 ≡ true = within (field w 5 9) 256 (omega arith) (omega arith) in
-      both _ _ (both _ _ (both _ _ (both _ _ k′ x′) y′) z′) (eq-eqb (w % 2 ^ 5) 0 s)
-    where
-      within : (n b : ℕ) → 1 ≤ n → n ≤ b → between 1 n b ≡ true
-      within n b l m = both (leb 1 n) (leb n b) (le-leb 1 n l) (le-leb n b m)
+  head-right = written .0
 
 -- ---- bytes as words
 pub bytes-length : (ws : List ℕ) → length (imageBytes ws) ≡ 4 * length ws

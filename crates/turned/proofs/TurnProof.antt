@@ -17,8 +17,9 @@ use Rattle.model_laws.proofs.Bools.{and-l, and-r, both}
 use Rattle.model_laws.proofs.LineLaws.{length-bytesOf}
 use Rattle.model_laws.proofs.LedgerLaws.{lineAt-length}
 use Rattle.model_laws.proofs.RoundTrip.{bytes-number, number-bytes, bytes-take, bytes-drop}
+use Rattle.model_laws.proofs.LowestLaws.{setOf-below}
 use Rattle.turned.specs.Turned.{rowAt, having, turn, turned, unturned, Turns}
-use Rattle.turned_words.proofs.SetTests.{setOf-lt, setOf-bit, setOf-members}
+use Rattle.turned_words.proofs.SetTests.{setOf-bit, setOf-members}
 use Rattle.turned.proofs.Rows.{length-joined, line-joined, lines-joined, joined-bytes}
 
 -- what is written of a number is bytes
@@ -65,7 +66,7 @@ module _ (z w : ℕ) (bs : List ℕ) (h : areBytes bs ≡ true) (n : length bs �
   row-turned k i =
       ap number (line-joined (turnedRow z w bs) w (row-size z w bs) 0 (8 * z) k i ∙ ap (turnedRow z w bs) (zero-add k))
       ∙ number-bytes w (having z (8 * w) bs k)
-      (subst (λ (x : ℕ). having z (8 * w) bs k < x) (sym (powers w)) (unfold having in (setOf-lt (λ r. has (rowAt z bs r) k) (8 * w))))
+      (subst (λ (x : ℕ). having z (8 * w) bs k < x) (sym (powers w)) (unfold having in (setOf-below (λ r. has (rowAt z bs r) k) (8 * w))))
 
   bit : (r k : ℕ) → r < 8 * w → k < 8 * z → has (rowAt w (turn z w bs) k) r ≡ has (rowAt z bs r) k
   bit r k i j = ap (λ (x : ℕ). has x r) (row-turned k j) ∙ unfold having in (setOf-bit (λ r. has (rowAt z bs r) k) (8 * w) r i)

@@ -7,8 +7,8 @@ use lib.ListN.{length, getD, drop}
 use borrow.Author.Needs.{needs}
 use Rattle.model.specs.Sets.{has}
 use Rattle.model.specs.Line.{SESSIONS, emptySession, holding}
+use Rattle.model_laws.proofs.SetLaws.{one-most}
 use Rattle.limits_counts.specs.Counted.{countAt}
-use Rattle.limits_counts.proofs.Planes.{one-le}
 use Rattle.limits_held.proofs.Holding.{holding-next, holding-end}
 use Rattle.limits_held.proofs.add_sessions.Statement.{statement}
 use Rattle.limits_held.proofs.add_sessions.Tie as tie
@@ -36,7 +36,7 @@ loop-again c =
           let q = c .add .ensures r (omega (arith, i .1, l .before .pre r)) in
           let h = holding-next r (a .t2) emptySession (l .loop .k) (omega arith) in (
             omega (arith, q, h, i .0),
-            omega (arith, q, i .1, one-le (has (getD (a .t2) (l .loop .k) emptySession .active) r)),
+            omega (arith, q, i .1, one-most (has (getD (a .t2) (l .loop .k) emptySession .active) r)),
           ),
     )
 

@@ -3,9 +3,10 @@
 use borrow.Author.Needs.{needs}
 use native.Mathlib.Omega.{arith}
 use Rattle.sets.specs.Words.{value}
-use Rattle.query_rank.proofs.Ranks.{count-le, key-joins}
+use Rattle.query_rank.proofs.Ranks.{key-joins}
 use Rattle.query_rank.proofs.key_of.Statement.{statement}
 use Rattle.query_rank.proofs.key_of.Tie as tie
+use Rattle.model_laws.proofs.Ranks.{count-le}
 
 pub key-of-spec : {M : Type 1} → statement M
 key-of-spec =

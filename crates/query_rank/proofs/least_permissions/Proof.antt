@@ -4,10 +4,10 @@ use mathlib.Core.Path.{refl}
 use native.Mathlib.Omega.{arith}
 use borrow.Author.Needs.{needs}
 use Rattle.sets.specs.Words.{value}
-use Rattle.query_rank.proofs.Ranks.{count-le}
 use Rattle.query_rank.proofs.Bounds.{least-few, least-many}
 use Rattle.query_rank.proofs.least_permissions.Statement.{statement}
 use Rattle.query_rank.proofs.least_permissions.Tie as tie
+use Rattle.model_laws.proofs.Ranks.{count-le}
 
 pub least-permissions-spec : {M : Type 1} → statement M
 least-permissions-spec =

@@ -2,10 +2,10 @@
 -- Assumes nothing.
 use native.Mathlib.Omega.{arith}
 use borrow.Author.Needs.{needs}
-use Rattle.query_rank.proofs.Ranks.{count-le}
 use Rattle.query_rank.proofs.Bounds.{least-few, least-many}
 use Rattle.query_rank.proofs.least_roles.Statement.{statement}
 use Rattle.query_rank.proofs.least_roles.Tie as tie
+use Rattle.model_laws.proofs.Ranks.{count-le}
 
 pub least-roles-spec : {M : Type 1} → statement M
 least-roles-spec =

@@ -3,19 +3,20 @@
 use mathlib.Core.Path.{sym, ap, _∙_}
 use borrow.Author.Needs.{needs}
 use Rattle.model.specs.Image.{headRight}
-use Rattle.image.proofs.Judged.{never, odd-length, short-length, long-length, wrong-head, right-head}
+use Rattle.model_laws.proofs.Accepted.{not-accepted}
+use Rattle.image.proofs.Judged.{odd-length, short-length, long-length, wrong-head, right-head}
 use Rattle.image.proofs.Turns.{assigned-of, juniors-of}
 use Rattle.image.proofs.check.check.Statement.{statement}
 use Rattle.image.proofs.check.check.Tie as tie
 
 returns : tie.Need-returns
-returns c = (sym (odd-length _ (c .if1 .taken)), λ g e. never _ _ g e)
+returns c = (sym (odd-length _ (c .if1 .taken)), λ g e. not-accepted _ _ g e)
 
 returns-2 : tie.Need-returns-2
-returns-2 c = (sym (short-length _ (c .before .if1 .left) (c .if2 .taken)), λ g e. never _ _ g e)
+returns-2 c = (sym (short-length _ (c .before .if1 .left) (c .if2 .taken)), λ g e. not-accepted _ _ g e)
 
 returns-3 : tie.Need-returns-3
-returns-3 c = (sym (long-length _ (c .before .before .if1 .left) (c .before .if2 .left) (c .if3 .taken)), λ g e. never _ _ g e)
+returns-3 c = (sym (long-length _ (c .before .before .if1 .left) (c .before .if2 .left) (c .if3 .taken)), λ g e. not-accepted _ _ g e)
 
 returns-4 : tie.Need-returns-4
 returns-4 c =
@@ -35,7 +36,7 @@ returns-5 c =
     let s = w .before .before .before .before .before .args .image .now in (
       sym (wrong-head s (w .before .before .before .if1 .left) (w .before .before .if2 .left) (w .before .if3 .left)
           (ap headRight (sym (w .word-at .ensures)) ∙ sym (c .before .head-right .ensures) ∙ c .if4 .left)),
-      λ g e. never _ _ g e,
+      λ g e. not-accepted _ _ g e,
     )
 
 pub check-spec : {M : Type 1} → statement M

@@ -7,9 +7,9 @@ use native.Mathlib.Omega.{arith}
 use borrow.Author.Needs.{needs}
 use Rattle.model.specs.Image.{assigning, scan, start}
 use Rattle.model.specs.Policy.{entriesFrom, fold, ordering}
+use Rattle.model_laws.proofs.Accepted.{not-accepted}
 use Rattle.image_words.proofs.Folds.{fold-next, fold-end}
 use Rattle.image_words.proofs.Scans.{stops, goes, ends-right, ends-wrong}
-use Rattle.image.proofs.Judged.{never}
 use Rattle.image.proofs.Turns.{due-of}
 use Rattle.image.proofs.check.check_words.Statement.{statement}
 use Rattle.image.proofs.check.check_words.Tie as tie
@@ -35,7 +35,7 @@ returns c =
     let l = w .before .before .before in (
       stops _ _ _ _ _ _ _ _ _ _ (w .before .if1 .taken) (w .word-at .ensures) (d .decode .ensures .0) (t .taken .ensures .faulty) _
           (c .before .if2 .taken) (l .loop .inv .2),
-      λ g e. never _ _ g e,
+      λ g e. not-accepted _ _ g e,
     )
 
 next-requires : tie.Need-next-requires Inv-loop μ-loop
@@ -84,7 +84,7 @@ returns-2 : tie.Need-returns-2 Inv-loop μ-loop
 returns-2 c = (search (needs, ends-right), λ g e. (search (needs, fold-end), search (needs, fold-end)))
 
 returns-3 : tie.Need-returns-3 Inv-loop μ-loop
-returns-3 c = (search (needs, ends-wrong, c .if3 .left), λ g e. never _ _ g e)
+returns-3 c = (search (needs, ends-wrong, c .if3 .left), λ g e. not-accepted _ _ g e)
 
 pub check-words-spec : {M : Type 1} → statement M
 check-words-spec =

@@ -7,7 +7,7 @@ use borrow.Author.Needs.{needs}
 use Rattle.model.specs.declared.Word.{Word}
 use Rattle.model.specs.Image.{decode}
 use Rattle.model.specs.Policy.{entryAt}
-use Rattle.image.proofs.Judged.{never}
+use Rattle.model_laws.proofs.Accepted.{not-accepted}
 use Rattle.tables.proofs.Last.{last-stops, last-right, last-wrong}
 use Rattle.tables.proofs.read.closing.Statement.{statement}
 use Rattle.tables.proofs.read.closing.Tie as tie
@@ -23,7 +23,7 @@ returns c =
     record {
       scanned = λ rows t e. last-stops _ _ _ _ rows t _ _ _ _ (last _ (a .pre .1)) (w .word-at .ensures) (f .before .decode .ensures .0)
           (f .end-fault .ensures .0 _ rows t e) (c .if1 .taken);
-      ended = λ g e. never _ _ g e;
+      ended = λ g e. not-accepted _ _ g e;
     }
 
 returns-2 : tie.Need-returns-2
@@ -36,7 +36,7 @@ returns-2 c =
     record {
       scanned = λ rows t e. last-wrong _ _ _ _ rows t _ _ _ _ (last _ (a .pre .1)) (w .word-at .ensures) (f .before .decode .ensures .0)
           (f .end-fault .ensures .0 _ rows t e) z (f .end-fault .ensures .1 z) _ (u .wrapping-add-u32 .ensures) (c .if2 .taken);
-      ended = λ g e. never _ _ g e;
+      ended = λ g e. not-accepted _ _ g e;
     }
 
 returns-3 : tie.Need-returns-3

@@ -3,24 +3,25 @@
 use mathlib.Core.Path.{sym, ap, _∙_}
 use borrow.Author.Needs.{needs}
 use Rattle.model.specs.Image.{headRight}
-use Rattle.image.proofs.Judged.{never, odd-length, short-length, long-length, wrong-head, right-head}
+use Rattle.model_laws.proofs.Accepted.{not-accepted}
+use Rattle.image.proofs.Judged.{odd-length, short-length, long-length, wrong-head, right-head}
 use Rattle.tables.proofs.Fills.{tables-of}
 use Rattle.tables.proofs.read.gather.Statement.{statement}
 use Rattle.tables.proofs.read.gather.Tie as tie
 
 returns : tie.Need-returns
-returns c = (c .refused .ensures ∙ sym (odd-length _ (c .before .if1 .taken)), λ g e. never _ _ g (sym (c .refused .ensures) ∙ e))
+returns c = (c .refused .ensures ∙ sym (odd-length _ (c .before .if1 .taken)), λ g e. not-accepted _ _ g (sym (c .refused .ensures) ∙ e))
 
 returns-2 : tie.Need-returns-2
 returns-2 c = (
   c .refused2 .ensures ∙ sym (short-length _ (c .before .before .if1 .left) (c .before .if2 .taken)),
-  λ g e. never _ _ g (sym (c .refused2 .ensures) ∙ e),
+  λ g e. not-accepted _ _ g (sym (c .refused2 .ensures) ∙ e),
 )
 
 returns-3 : tie.Need-returns-3
 returns-3 c = (
   c .refused3 .ensures ∙ sym (long-length _ (c .before .before .before .if1 .left) (c .before .before .if2 .left) (c .before .if3 .taken)),
-  λ g e. never _ _ g (sym (c .refused3 .ensures) ∙ e),
+  λ g e. not-accepted _ _ g (sym (c .refused3 .ensures) ∙ e),
 )
 
 returns-4 : tie.Need-returns-4
@@ -42,7 +43,7 @@ returns-5 c =
       c .refused4 .ensures
           ∙ sym (wrong-head s (w .before .before .before .if1 .left) (w .before .before .if2 .left) (w .before .if3 .left)
           (ap headRight (sym (w .word-at .ensures)) ∙ sym (c .before .before .head-right .ensures) ∙ c .before .if4 .left)),
-      λ g e. never _ _ g (sym (c .refused4 .ensures) ∙ e),
+      λ g e. not-accepted _ _ g (sym (c .refused4 .ensures) ∙ e),
     )
 
 pub gather-spec : {M : Type 1} → statement M

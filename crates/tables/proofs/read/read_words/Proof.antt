@@ -11,12 +11,12 @@ use Rattle.sets.specs.Words.{values}
 use Rattle.model.specs.declared.Scan.{Scan}
 use Rattle.model.specs.Image.{assigning, scan, start}
 use Rattle.model.specs.Policy.{entriesFrom, fold, granting, ordering, limiting}
+use Rattle.model_laws.proofs.Accepted.{not-accepted}
 use Rattle.tables_exclusions.specs.Exclusions.{exclusionAt}
 use Rattle.image_words.proofs.Folds.{fold-next}
 use Rattle.image_words.proofs.Scans.{before-last, stops, goes}
 use Rattle.image_usual.specs.Usual.{placesFrom}
 use Rattle.image.proofs.Turns.{due-of}
-use Rattle.image.proofs.Judged.{never}
 use Rattle.tables.proofs.Places.{exclusions-placed, places-next, length-noted, noted-below, none-noted, next-few}
 use Rattle.tables.proofs.Last.{last-scan, last-entry, fold-last, places-last}
 use Rattle.tables.proofs.read.read_words.Statement.{statement}
@@ -57,7 +57,7 @@ returns c =
     let e = before-last _ _ _ _ _ _ _ more (f .step .ensures .faulty) in (
       c .refused .ensures
           ∙ stops _ _ _ _ _ _ _ _ _ _ lt (w .word-at .ensures) (d .decode .ensures .0) e _ (i .if2 .taken) (l .loop .inv .2),
-      λ g e. never _ _ g (sym (c .refused .ensures) ∙ e),
+      λ g e. not-accepted _ _ g (sym (c .refused .ensures) ∙ e),
     )
 
 next-requires : tie.Need-next-requires Inv-loop μ-loop
@@ -127,7 +127,7 @@ returns-2 c =
     let l = k .before .before .before in
     let p = last-place _ _ (l .before .before .before .pre .1) (l .loop .inv .1) (k .before .if1 .left) in (
       last-scan _ _ _ p _ _ _ _ _ _ (k .closing .ensures .scanned (l .loop .assigned) (l .loop .t) refl) (l .loop .inv .2),
-      λ g e. never _ _ g (sym (c .enum-told2 .given .1) ∙ e),
+      λ g e. not-accepted _ _ g (sym (c .enum-told2 .given .1) ∙ e),
     )
 
 exclusions-at-requires : tie.Need-exclusions-at-requires Inv-loop μ-loop

@@ -7,8 +7,8 @@ use native.Mathlib.Omega.{arith}
 use borrow.Author.Needs.{needs}
 use lib.ListN.{length, getD}
 use Rattle.model_laws.proofs.RoundTrip.{are-bytes}
+use Rattle.model_laws.proofs.TableLaws.{fill-next}
 use Rattle.octets.specs.Splice.{numberAt}
-use Rattle.turned_words.proofs.SetTests.{fill-next}
 use Rattle.turned.proofs.bytes.columns.Statement.{statement}
 use Rattle.turned.proofs.bytes.columns.Tie as tie
 

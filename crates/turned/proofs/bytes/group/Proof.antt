@@ -6,9 +6,9 @@ use native.Mathlib.Omega.{arith}
 use borrow.Author.Needs.{needs}
 use lib.ListN.{length, getD}
 use Rattle.octets.specs.Splice.{numberAt}
-use Rattle.turned_words.proofs.SetTests.{fill-next}
 use Rattle.turned.proofs.bytes.group.Statement.{statement}
 use Rattle.turned.proofs.bytes.group.Tie as tie
+use Rattle.model_laws.proofs.TableLaws.{fill-next}
 
 abbrev Inv-loop : tie.InvT-loop
 Inv-loop source w out₀ i₀ out i = (i ≤ 64) × (length out ≡ 64) × ((j : ℕ) → j < i → getD out j 0 ≡ numberAt source (512 * w + 8 * j))
