@@ -7,22 +7,23 @@ ghost use Rattle.hierarchy.specs.Upper.{EmptyFrom};
 use model::Role;
 
 // The row, and the other too where the row has k.
-fn take_in(row: u64, other: u64, k: usize) -> u64
-    requires { ⌜ k < 64 ⌝ }
-    ensures { λ r. ⌜ r ≡ taking k other row ⌝ }
+fn take_in(row: u64, other: u64, k: Role) -> u64
+    requires { ⌜ k .0 < 64 ⌝ }
+    ensures { λ r. ⌜ r ≡ taking (k .0) other row ⌝ }
 {
-    if sets::has(row, Role(k as u8)) {
+    if sets::has(row, k) {
         return row | other;
     }
     row
 }
 
 // Each of the first m rows that has k takes in row k; the others are empty. An empty row k changes none.
-fn through_first(rows: &mut [u64; 64], m: usize, k: usize)
-    requires { ⌜ (k < 64) × (m ≤ 64) × (length (now rows) ≡ 64) × EmptyFrom m (now rows) ⌝ }
-    ensures { λ r. ⌜ now (rows .exit) ≡ throughOf k (now (rows .entry)) ⌝ }
+fn through_first(rows: &mut [u64; 64], m: usize, k: Role)
+    requires { ⌜ (k .0 < 64) × (m ≤ 64) × (length (now rows) ≡ 64) × EmptyFrom m (now rows) ⌝ }
+    ensures { λ r. ⌜ now (rows .exit) ≡ throughOf (k .0) (now (rows .entry)) ⌝ }
 {
-    let other = rows[k];
+    let at = k.0 as usize;
+    let other = rows[at];
     if other == 0 {
         return;
     }
@@ -38,7 +39,7 @@ pub fn close_first(rows: &mut [u64; 64], m: usize, n: usize)
     ensures { λ r. ⌜ now (rows .exit) ≡ closureBy n (now (rows .entry)) ⌝ }
 {
     for k in 0..n {
-        through_first(rows, m, k);
+        through_first(rows, m, Role(k as u8));
     }
 }
 

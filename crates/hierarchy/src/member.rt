@@ -11,10 +11,7 @@ pub fn joined(set: u64, a: usize, on: bool) -> u64
     requires { ⌜ a < 64 ⌝ }
     ensures { λ s. ⌜ s ≡ pick on (withOf set a) set ⌝ }
 {
-    if on {
-        return sets::with(set, Role(a as u8));
-    }
-    set
+    sets::with_if(set, Role(a as u8), on)
 }
 
 // A set that has a role, without its lowest one. Nothing waits for that role to be found.

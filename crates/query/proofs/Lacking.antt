@@ -45,13 +45,13 @@ module _ (a b : List ℕ) (ha : (i : ℕ) → Fits w64 (getD a i 0)) (hb : (i : 
       go p m false l = not-both (has (value a) p) m (has-beyond 256 (value a) p (value-lt a ha) (ltb-false p 256 l))
 
   -- the lowest that word i lacks
-  pub word-missing : (i k : ℕ) → i < 4 → Lowest (lacking (getD a i 0) (getD b i 0)) k → Missing (value a) (value b) (k + 64 * i)
-  word-missing i k l low =
-      let s : Splits (k + 64 * i) i k = record { whole = omega arith; inside = l; small = low .small } in
+  pub word-missing : (i k p : ℕ) → i < 4 → Lowest (lacking (getD a i 0) (getD b i 0)) k → p ≡ i * 64 + k → Missing (value a) (value b) p
+  word-missing i k p l low e =
+      let s : Splits p i k = record { whole = omega arith; inside = l; small = low .small } in
       let m : (has (getD a i 0) k && not (has (getD b i 0) k)) ≡ true = sym (has-lacking (getD a i 0) (getD b i 0) k) ∙ low .member in
       record {
-        wanted = sym (value-has a ha (k + 64 * i) i k s) ∙ and-l (has (getD a i 0) k) (not (has (getD b i 0) k)) m;
-        lacking = sym (value-has b hb (k + 64 * i) i k s) ∙ not-not (has (getD b i 0) k) (and-r (has (getD a i 0) k) (not (has (getD b i 0) k)) m);
+        wanted = sym (value-has a ha p i k s) ∙ and-l (has (getD a i 0) k) (not (has (getD b i 0) k)) m;
+        lacking = sym (value-has b hb p i k s) ∙ not-not (has (getD b i 0) k) (and-r (has (getD a i 0) k) (not (has (getD b i 0) k)) m);
       }
     where
       not-not : (x : Bool) → not x ≡ true → x ≡ false
@@ -59,9 +59,9 @@ module _ (a b : List ℕ) (ha : (i : ℕ) → Fits w64 (getD a i 0)) (hb : (i : 
       not-not false e = refl
 
   -- in the form of needs: word i lacks something, or no word does
-  pub missing-at : (i k : ℕ) → i < 4 → Lowest (lacking (getD a i 0) (getD b i 0)) k → within (value a) (value b) ≡ false
-      → Missing (value a) (value b) (k + 64 * i)
-  missing-at i k l low _ = word-missing i k l low
+  pub missing-at : (i k p : ℕ) → i < 4 → Lowest (lacking (getD a i 0) (getD b i 0)) k → p ≡ i * 64 + k → within (value a) (value b) ≡ false
+      → Missing (value a) (value b) p
+  missing-at i k p l low e _ = word-missing i k p l low e
 
   pub missing-none : (i p : ℕ) → 4 ≤ i → ((j : ℕ) → j < i → lacking (getD a j 0) (getD b j 0) ≡ 0) → within (value a) (value b) ≡ false
       → Missing (value a) (value b) p

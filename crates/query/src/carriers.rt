@@ -10,6 +10,7 @@ ghost use Rattle.model.specs.Ranges.{InRange};
 ghost use Rattle.sets.specs.Words.{value};
 ghost use Rattle.query.specs.Carry.{rowsOf, Carry, Turned, Named, Marked};
 use model::Role;
+use sets_split::permission_at;
 
 // Role r joins the carriers of the permissions of a word, that at `place` of the four.
 fn mark_word(table: &mut [u64; 256], place: usize, word: u64, r: Role)
@@ -18,11 +19,12 @@ fn mark_word(table: &mut [u64; 256], place: usize, word: u64, r: Role)
 {
     let mut left = word;
     while left != 0 {
-        let bit = sets::lowest(left);
-        let m = place * 64 + bit.0 as usize;
+        let bit = sets::lowest_bit(left);
+        let p = permission_at(place, bit);
+        let m = p.0 as usize;
         let set = sets::with(table[m], r);
         table[m] = set;
-        left = sets::without(left, bit);
+        left = sets::without_bit(left, bit);
     }
 }
 

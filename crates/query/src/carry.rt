@@ -2,26 +2,15 @@
 // by its lowest member.
 ghost use mathlib.Core.Path.{_≡_};
 ghost use mathlib.Core.Bool.{false};
-ghost use Prim.Native.Nat.{_<_};
 ghost use Rattle.model.specs.Tests.{pick};
-ghost use Rattle.model.specs.Sets.{union, with as withOf, within};
+ghost use Rattle.model.specs.Sets.{union, within};
 ghost use Rattle.model.specs.Policy.{Meaning};
 ghost use Rattle.model.specs.Choice.{carriedBy};
 ghost use Rattle.sets.specs.Words.{value};
 ghost use Rattle.query.specs.Carry.{rowsOf, Carry, Keeps, Missing, Reaches};
 use model::Permission;
 use model::Role;
-
-// The set, with the role r where it is on.
-fn joined(set: u64, r: Role, on: bool) -> u64
-    requires { ⌜ r .0 < 64 ⌝ }
-    ensures { λ s. ⌜ s ≡ pick on (withOf set (r .0)) set ⌝ }
-{
-    if on {
-        return sets::with(set, r);
-    }
-    set
-}
+use sets_split::permission_at;
 
 // The roles of a set that carry nothing outside the upper bound.
 pub fn usable(rows: &[[u64; 4]; 64], upper: [u64; 4], set: u64) -> u64
@@ -32,7 +21,7 @@ pub fn usable(rows: &[[u64; 4]; 64], upper: [u64; 4], set: u64) -> u64
     while left != 0 {
         let r = sets::lowest(left);
         let i = r.0 as usize;
-        let next = joined(found, r, sets::perm_within(rows[i], upper));
+        let next = sets::with_if(found, r, sets::perm_within(rows[i], upper));
         found = next;
         left = sets::without(left, r);
     }
@@ -81,8 +70,7 @@ pub fn missing(a: [u64; 4], b: [u64; 4]) -> Permission
     while i < 4 {
         let x = a[i] ^ (a[i] & b[i]);
         if x != 0 {
-            let k = sets::lowest(x);
-            return Permission(k.0 + 64 * (i as u8));
+            return permission_at(i, sets::lowest_bit(x));
         }
         i += 1;
     }

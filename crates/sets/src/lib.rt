@@ -4,12 +4,31 @@ ghost use mathlib.Core.Path.{_≡_};
 ghost use Prim.Native.Nat.{_<_};
 ghost use lib.Dec.{ltb};
 ghost use lib.ListN.{getD, set};
+ghost use Rattle.model.specs.Tests.{pick};
 ghost use Rattle.model.specs.Sets.{has as hasOf, union as unionOf, inter as interOf, with as withOf, within as withinOf, count, unionAt};
 ghost use Rattle.sets.specs.Members.{without as withoutOf, Lowest};
 ghost use Rattle.sets.specs.Words.{value, values, FourWords};
 use model::Permission;
 use model::Role;
 use sets_split::split;
+
+// ---- the bits of a word
+
+// The lowest bit of a word that has one.
+pub fn lowest_bit(word: u64) -> u8
+    requires { ⌜ 0 < word ⌝ }
+    ensures { λ k. ⌜ Lowest word k ⌝ }
+{
+    u64::trailing_zeros(word) as u8
+}
+
+// The word without its bit k.
+pub fn without_bit(word: u64, k: u8) -> u64
+    requires { ⌜ k < 64 ⌝ }
+    ensures { λ s. ⌜ s ≡ withoutOf word k ⌝ }
+{
+    word ^ (1 << k)
+}
 
 // ---- role sets
 
@@ -28,12 +47,23 @@ pub fn with(set: u64, r: Role) -> u64
     set | (1 << r.0)
 }
 
+// The set, and the role r too where it is on.
+pub fn with_if(set: u64, r: Role, on: bool) -> u64
+    requires { ⌜ r .0 < 64 ⌝ }
+    ensures { λ s. ⌜ s ≡ pick on (withOf set (r .0)) set ⌝ }
+{
+    if on {
+        return with(set, r);
+    }
+    set
+}
+
 // The set without its member r.
 pub fn without(set: u64, r: Role) -> u64
     requires { ⌜ r .0 < 64 ⌝ }
     ensures { λ s. ⌜ s ≡ withoutOf set (r .0) ⌝ }
 {
-    set ^ (1 << r.0)
+    without_bit(set, r.0)
 }
 
 pub fn union(a: u64, b: u64) -> u64
@@ -74,7 +104,7 @@ pub fn lowest(set: u64) -> Role
     requires { ⌜ 0 < set ⌝ }
     ensures { λ r. ⌜ Lowest set (r .0) ⌝ }
 {
-    Role(u64::trailing_zeros(set) as u8)
+    Role(lowest_bit(set))
 }
 
 // ---- permission sets

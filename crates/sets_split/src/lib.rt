@@ -1,4 +1,6 @@
 // Where a permission stands in a permission set of four words.
+ghost use mathlib.Core.Path.{_≡_};
+ghost use Prim.Native.Nat.{_+_, _*_, _<_};
 ghost use Rattle.sets_split.specs.Split.{Splits};
 use model::Permission;
 
@@ -32,4 +34,12 @@ pub fn split(p: Permission) -> Spot
         place: 3,
         bit: n - 192,
     }
+}
+
+// The permission that stands there.
+pub fn permission_at(place: usize, bit: u8) -> Permission
+    requires { ⌜ (place < 4) × (bit < 64) ⌝ }
+    ensures { λ p. ⌜ p .0 ≡ place * 64 + bit ⌝ }
+{
+    Permission(64 * (place as u8) + bit)
 }

@@ -37,4 +37,6 @@ returns c =
     (le-antisymm (c .before .loop .inv .0) (c .loop-test .left))
 
 pub close-first-spec : {M : Type 1} → statement M
-close-first-spec = tie.close (tie.spec Inv-loop μ-loop loop-holds through-first-requires (λ c. search needs) (λ c. search needs) loop-again returns)
+close-first-spec =
+    tie.close
+    (tie.spec Inv-loop μ-loop loop-holds (λ c. search needs) through-first-requires (λ c. search needs) (λ c. search needs) loop-again returns)

@@ -16,4 +16,4 @@ unfolding taking pick
 returns-2 c = simp (sym (c .before .has .ensures) ∙ c .if1 .left)
 
 pub take-in-spec : {M : Type 1} → statement M
-take-in-spec = tie.close (tie.spec (λ c. search needs) (λ c κs. search needs) returns returns-2)
+take-in-spec = tie.close (tie.spec (λ c κs. search needs) returns returns-2)

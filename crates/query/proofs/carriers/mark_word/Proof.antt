@@ -1,6 +1,5 @@
 -- `query::carriers::mark_word` meets its contract. The loop's invariant: role r has joined at the bits before those to come.
 -- Assumes nothing.
-use mathlib.Core.Path.{refl}
 use borrow.Author.Needs.{needs}
 use Rattle.model.specs.Sets.{count}
 use Rattle.query.proofs.Marks.{Marks, marks-start, marks-next, marks-less, marks-end}
@@ -21,10 +20,11 @@ loop-less c = search (needs, marks-less)
 
 loop-again : tie.Need-loop-again Inv-loop μ-loop
 loop-again c =
-    let w = c .before .before .before .before in
+    let p = c .before .before .before .before in
+    let w = p .before in
     let l = w .before .before in
-    marks-next _ _ _ _ (l .loop .left) (w .lowest .result .0) _ (l .loop .table) (l .loop .inv) (w .lowest .ensures) (c .without .ensures)
-    (l .before .pre .0) _ _ refl (c .before .with .ensures)
+    marks-next _ _ _ _ (l .loop .left) (w .lowest-bit .result) _ (l .loop .table) (l .loop .inv) (w .lowest-bit .ensures) (c .without-bit .ensures)
+    (l .before .pre .0) _ _ (p .permission-at .ensures) (c .before .with .ensures)
 
 returns : tie.Need-returns Inv-loop μ-loop
 returns c = marks-end _ _ _ _ (c .before .loop .left) (c .before .loop .table) (c .loop-test .left) (c .before .loop .inv)
@@ -32,20 +32,5 @@ returns c = marks-end _ _ _ _ (c .before .loop .left) (c .before .loop .table) (
 pub mark-word-spec : {M : Type 1} → statement M
 mark-word-spec =
     tie.close
-    (tie.spec
-    Inv-loop
-    μ-loop
-    loop-holds
-    (λ c κs. search needs)
-    (λ c. search needs)
-    (λ c. search needs)
-    (λ c. search needs)
-    (λ c. search needs)
-    (λ c. search needs)
-    (λ c κs. search needs)
-    (λ c. search needs)
-    (λ c. search needs)
-    (λ c κs. search needs)
-    loop-less
-    loop-again
-    returns)
+    (tie.spec Inv-loop μ-loop loop-holds (λ c κs. search needs) (λ c κs. search needs) (λ c. search needs) (λ c. search needs) (λ c. search needs)
+    (λ c κs. search needs) (λ c. search needs) (λ c. search needs) (λ c κs. search needs) loop-less loop-again returns)

@@ -25,7 +25,7 @@ loop-again : tie.Need-loop-again Inv-loop μ-loop
 loop-again c =
     let w = c .before .before .before .before .before in
     let l = w .before .before in
-    rw (c .without .ensures, c .before .joined .ensures, c .before .before .perm-within .ensures)
+    rw (c .without .ensures, c .before .with-if .ensures, c .before .before .perm-within .ensures)
     (walk-next _ (l .before .args .set) (l .loop .left) (l .loop .found) (w .lowest .result .0) (w .lowest .ensures .member) (l .loop .inv))
 
 returns : tie.Need-returns Inv-loop μ-loop

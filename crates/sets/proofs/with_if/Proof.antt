@@ -1,0 +1,17 @@
+-- `sets::with_if` meets its contract.
+-- Assumes nothing.
+use borrow.Author.Needs.{needs}
+use Rattle.model.specs.Tests.{pick}
+use Rattle.sets.proofs.with_if.Statement.{statement}
+use Rattle.sets.proofs.with_if.Tie as tie
+
+returns : tie.Need-returns
+unfolding pick
+returns c = rw (c .before .if1 .taken) (c .with .ensures)
+
+returns-2 : tie.Need-returns-2
+unfolding pick
+returns-2 c = rw (c .if1 .left)
+
+pub with-if-spec : {M : Type 1} → statement M
+with-if-spec = tie.close (tie.spec (λ c κs. search needs) returns returns-2)
