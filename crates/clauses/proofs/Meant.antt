@@ -14,7 +14,7 @@ use Rattle.model.specs.Reduced.{stays}
 use Rattle.model.specs.Clauses.{Literal, listTo, when, gives, holds, fails, barring, carries, carrying, carriers, carried, bounding, uncounted, room as roomIn, counter, excluding, helpers, excludingAll, hard, soft, variablesIn}
 use Rattle.model.specs.Dimacs.{helpersOf, variablesOf, clausesOf, textOf}
 use Rattle.encoding.proofs.ClauseLaws.{listTo-same}
-use Rattle.clauses_hard.specs.Parts.{barred, barringTo, carriedAs, carryingRow, carryingTo, carrier, carriersTo, carriedOne, carriedTo, lower as lowerOf, loweringTo, upper as upperOf, upperingTo, hardBy}
+use Rattle.clauses_hard.specs.Parts.{barred, barringTo, carriedAs, carryingRow, carryingTo, carrier, carriersTo, carriedOne, carriedTo, lower as lowerOf, lowerBoundTo, upper as upperOf, upperBoundTo, hardBy}
 use Rattle.clauses_counter.specs.Counters.{counters}
 use Rattle.clauses_soft.specs.Soft.{wantingPermissions, wantingRoles, softBy}
 use Rattle.clauses_hard.specs.Sizes.{sumTo, helpersTo}
@@ -117,7 +117,7 @@ module _ (p : Meaning) (l : Line) (k : ℕ) (row : ℕ → ℕ) (masks rooms : L
 
   module _ (low high : ℕ) where
     hard-is : hardBy R P (p .authorized) row low high masks rooms count ≡ hard p l k low high
-    unfolding hardBy hard barringTo barred barring loweringTo lowerOf upperingTo upperOf bounding
+    unfolding hardBy hard barringTo barred barring lowerBoundTo lowerOf upperBoundTo upperOf bounding
     hard-is = rw (carrying-is, carried-is, exclusions-are (R + P))
 
     module _ (a b : ℕ) where

@@ -7,8 +7,8 @@ ghost use Rattle.model.specs.Clauses.{keeping, adding, row, rows, counter, vari
 ghost use Rattle.clauses_bytes.specs.Putting.{Puts};
 ghost use Rattle.clauses_lines.specs.Lines.{linesOf};
 ghost use Rattle.clauses_counter.specs.Counters.{counters};
-use clauses_lines::lines::put_give;
-use clauses_lines::lines::put_gives;
+use clauses_lines::lines::put_both_imply;
+use clauses_lines::lines::put_implies;
 use clauses_lines::lines::put_must_not;
 
 // Puts that what the row behind a counts, the next row counts too.
@@ -19,7 +19,7 @@ fn put_keeping(out: &mut [u8], at: usize, w: usize, n: usize, a: usize) -> usize
     let mut next = at;
     let mut j: usize = 0;
     while j < n {
-        next = put_gives(out, next, w, a + j + 1, a + n + j + 1);
+        next = put_implies(out, next, w, a + j + 1, a + n + j + 1);
         j += 1;
     }
     next
@@ -33,7 +33,7 @@ fn put_adding(out: &mut [u8], at: usize, w: usize, n: usize, a: usize, x: usize)
     let mut next = at;
     let mut j: usize = 0;
     while j + 1 < n {
-        next = put_give(out, next, w, x, a + j + 1, a + n + j + 2);
+        next = put_both_imply(out, next, w, x, a + j + 1, a + n + j + 2);
         j += 1;
     }
     next
@@ -44,7 +44,7 @@ fn put_row(out: &mut [u8], at: usize, w: usize, n: usize, a: usize, x: usize) ->
     requires { ⌜ (n ≤ 4294967295) × (a ≤ 9007199254740992) ⌝ }
     ensures { λ r. ⌜ Puts (now (out .entry)) at (linesOf w (row n a x)) (now (out .exit)) r ⌝ }
 {
-    let first = put_gives(out, at, w, x, a + n + 1);
+    let first = put_implies(out, at, w, x, a + n + 1);
     let kept = put_keeping(out, first, w, n, a);
     put_adding(out, kept, w, n, a, x)
 }
@@ -75,7 +75,7 @@ fn put_counter(out: &mut [u8], at: usize, w: usize, n: usize, a: usize, members:
         return at;
     }
     let r = sets::lowest(members);
-    let next = put_gives(out, at, w, r.0 as usize + 1, a + 1);
+    let next = put_implies(out, at, w, r.0 as usize + 1, a + 1);
     put_rows(out, next, w, n, a, sets::without(members, r))
 }
 

@@ -13,7 +13,7 @@ use lib.ListN.{length, getD, length-append}
 use Rattle.model.specs.Sets.{has, one, countTo, count}
 use Rattle.model.specs.Clauses.{listTo, when, must, mustNot, gives, give, roleVariable, keeping, adding, row, rows, counter, variablesIn}
 use Rattle.encoding.proofs.ClauseLaws.{length-singles}
-use Rattle.clauses_hard.specs.Parts.{barred, barringTo, carriedAs, carryingRow, carryingTo, carriedOne, carriedTo, lower as lowerOf, loweringTo, upper as upperOf, upperingTo, hardBy}
+use Rattle.clauses_hard.specs.Parts.{barred, barringTo, carriedAs, carryingRow, carryingTo, carriedOne, carriedTo, lower as lowerOf, lowerBoundTo, upper as upperOf, upperBoundTo, hardBy}
 use Rattle.clauses_counter.specs.Counters.{counters}
 use Rattle.clauses_hard.specs.Sizes.{sumTo, rowSize, tallied, counterSize, countersSize, carryingSize, hardSize}
 use Rattle.clauses_counter.proofs.CounterLaws.{listed-length, variables-length}
@@ -134,12 +134,12 @@ carrying-length R P row (suc n) =
     (listTo P (λ q. when (has (row n) q) (gives (n + 1) (R + q + 1))))
     ∙ omega (arith, carrying-length R P row n, listed-length (λ q. gives (n + 1) (R + q + 1)) P (has (row n)))
 
-lowering-length : (R P s : ℕ) → length (loweringTo R P s) ≡ count P s
-unfolding loweringTo lowerOf count
+lowering-length : (R P s : ℕ) → length (lowerBoundTo R P s) ≡ count P s
+unfolding lowerBoundTo lowerOf count
 lowering-length R P s = listed-length (λ q. must (R + q + 1)) P (has s)
 
-uppering-length : (R P s : ℕ) → length (upperingTo R P s) ≡ P - count P s
-unfolding upperingTo upperOf count
+uppering-length : (R P s : ℕ) → length (upperBoundTo R P s) ≡ P - count P s
+unfolding upperBoundTo upperOf count
 uppering-length R P s =
     listed-length (λ q. mustNot (R + q + 1)) P (λ q. not (has s q)) ∙ omega (arith, counted-not (has s) P)
 
@@ -151,8 +151,8 @@ hard-length R P s row lower upper masks rooms k =
     let a = barringTo R s in
     let b = listTo R (λ r. carryingRow R P (row r) (r + 1)) in
     let c = listTo P (λ q. carriedOne R row q ∷ []) in
-    let d = loweringTo R P lower in
-    let e = upperingTo R P upper in
+    let d = lowerBoundTo R P lower in
+    let e = upperBoundTo R P upper in
     let f = counters masks rooms k 0 (R + P) in
     length-append a (b ++ (c ++ ((d ++ e) ++ f)))
     ∙ omega (

@@ -57,18 +57,18 @@ carriedTo R P row = listTo P (λ q. carriedOne R row q ∷ [])
 unfoldable pub lower : ℕ → ℕ → ℕ → List Clause
 lower R set q = when (has set q) (must (R + q + 1))
 
-unfoldable pub loweringTo : ℕ → ℕ → ℕ → List Clause
-loweringTo R P set = listTo P (λ q. lower R set q)
+unfoldable pub lowerBoundTo : ℕ → ℕ → ℕ → List Clause
+lowerBoundTo R P set = listTo P (λ q. lower R set q)
 
 unfoldable pub upper : ℕ → ℕ → ℕ → List Clause
 upper R set q = when (not (has set q)) (mustNot (R + q + 1))
 
-unfoldable pub upperingTo : ℕ → ℕ → ℕ → List Clause
-upperingTo R P set = listTo P (λ q. upper R set q)
+unfoldable pub upperBoundTo : ℕ → ℕ → ℕ → List Clause
+upperBoundTo R P set = listTo P (λ q. upper R set q)
 
 -- ---- all hard clauses
 
 unfoldable pub hardBy : ℕ → ℕ → ℕ → (ℕ → ℕ) → ℕ → ℕ → List ℕ → List ℕ → ℕ → List Clause
 hardBy R P s row lower upper masks rooms k =
     barringTo R s
-    ++ (carryingTo R P row ++ (carriedTo R P row ++ ((loweringTo R P lower ++ upperingTo R P upper) ++ counters masks rooms k 0 (R + P))))
+    ++ (carryingTo R P row ++ (carriedTo R P row ++ ((lowerBoundTo R P lower ++ upperBoundTo R P upper) ++ counters masks rooms k 0 (R + P))))

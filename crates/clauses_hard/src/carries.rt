@@ -1,19 +1,19 @@
 // The hard clauses of own roles, of what roles carry, and of the bounds.
 ghost use mathlib.Core.List.{_∷_};
 ghost use Prim.Native.Nat.{_+_, _≤_, _<_};
-ghost use Rattle.model.specs.Clauses.{fails};
+ghost use Rattle.model.specs.Clauses.{fails, roleVariable};
 ghost use Rattle.model.specs.Dimacs.{literalsText};
 ghost use Rattle.sets.specs.Words.{value};
 ghost use Rattle.clauses_bytes.specs.Putting.{Puts};
 ghost use Rattle.clauses_lines.specs.Lines.{lineOf, linesOf};
-ghost use Rattle.clauses_hard.specs.Parts.{rowsOf, barred, barringTo, carryingRow, carryingTo, rolesIn, Columns, carriedTo, loweringTo, upper as upperOf, upperingTo};
+ghost use Rattle.clauses_hard.specs.Parts.{rowsOf, barred, barringTo, carryingRow, carryingTo, rolesIn, Columns, carriedTo, lowerBoundTo, upper as upperOf, upperBoundTo};
 use crate::members::low_members;
 use crate::members::next_member;
 use clauses_bytes::bytes::put_decimal;
 use clauses_lines::lines::put_end;
 use clauses_lines::lines::put_fails;
-use clauses_lines::lines::put_gives;
 use clauses_lines::lines::put_holds;
+use clauses_lines::lines::put_implies;
 use clauses_lines::lines::put_must;
 use clauses_lines::lines::put_must_not;
 use model::Permission;
@@ -23,14 +23,14 @@ use query::carriers::carriers;
 // ---- own roles
 
 // Puts that role r is not chosen, where it is not authorized.
-fn put_barred(out: &mut [u8], at: usize, w: usize, authorized: u64, r: usize) -> usize
-    requires { ⌜ r < 64 ⌝ }
-    ensures { λ n. ⌜ Puts (now (out .entry)) at (linesOf w (barred authorized r)) (now (out .exit)) n ⌝ }
+fn put_barred(out: &mut [u8], at: usize, w: usize, authorized: u64, r: Role) -> usize
+    requires { ⌜ r .0 < 64 ⌝ }
+    ensures { λ n. ⌜ Puts (now (out .entry)) at (linesOf w (barred authorized (r .0))) (now (out .exit)) n ⌝ }
 {
-    if sets::has(authorized, Role(r as u8)) {
+    if sets::has(authorized, r) {
         return at;
     }
-    put_must_not(out, at, w, r + 1)
+    put_must_not(out, at, w, r.0 as usize + 1)
 }
 
 // Puts that no role is chosen that is not authorized.
@@ -41,7 +41,7 @@ pub fn put_barring(out: &mut [u8], at: usize, w: usize, authorized: u64, roles: 
     let mut next = at;
     let mut r: usize = 0;
     while r < roles {
-        next = put_barred(out, next, w, authorized, r);
+        next = put_barred(out, next, w, authorized, Role(r as u8));
         r += 1;
     }
     next
@@ -49,23 +49,24 @@ pub fn put_barring(out: &mut [u8], at: usize, w: usize, authorized: u64, roles: 
 
 // ---- what roles carry
 
-// Puts that x gives each permission of the row.
+// Puts that role r gives each permission of its row.
 fn put_carrying_row(
     out: &mut [u8],
     at: usize,
     w: usize,
     row: [u64; 4],
-    x: usize,
+    r: Role,
     roles: usize,
     permissions: usize,
 ) -> usize
     requires { ⌜ (permissions ≤ 256) × (roles ≤ 64) ⌝ }
-    ensures { λ n. ⌜ Puts (now (out .entry)) at (linesOf w (carryingRow roles permissions (value row) x)) (now (out .exit)) n ⌝ }
+    ensures { λ n. ⌜ Puts (now (out .entry)) at (linesOf w (carryingRow roles permissions (value row) (roleVariable (r .0)))) (now (out .exit)) n ⌝ }
 {
     let mut next = at;
+    let x = r.0 as usize + 1;
     let mut q = next_member(row, 0, permissions);
     while q < permissions {
-        next = put_gives(out, next, w, x, roles + q + 1);
+        next = put_implies(out, next, w, x, roles + q + 1);
         q = next_member(row, q + 1, permissions);
     }
     next
@@ -86,7 +87,7 @@ pub fn put_carrying(
     let mut next = at;
     let mut r: usize = 0;
     while r < roles {
-        next = put_carrying_row(out, next, w, rows[r], r + 1, roles, permissions);
+        next = put_carrying_row(out, next, w, rows[r], Role(r as u8), roles, permissions);
         r += 1;
     }
     next
@@ -108,12 +109,19 @@ fn put_roles(out: &mut [u8], at: usize, set: u64, roles: usize) -> usize
 }
 
 // Puts that permission q is there only with a role of a set, that of its carriers.
-fn put_carried_one(out: &mut [u8], at: usize, w: usize, set: u64, q: usize, roles: usize) -> usize
-    requires { ⌜ (q < 256) × (roles ≤ 64) ⌝ }
-    ensures { λ n. ⌜ Puts (now (out .entry)) at (lineOf w (fails (roles + q + 1) ∷ rolesIn roles set)) (now (out .exit)) n ⌝ }
+fn put_carried_one(
+    out: &mut [u8],
+    at: usize,
+    w: usize,
+    set: u64,
+    q: Permission,
+    roles: usize,
+) -> usize
+    requires { ⌜ roles ≤ 64 ⌝ }
+    ensures { λ n. ⌜ Puts (now (out .entry)) at (lineOf w (fails (roles + q .0 + 1) ∷ rolesIn roles set)) (now (out .exit)) n ⌝ }
 {
     let a = put_decimal(out, at, w);
-    let b = put_fails(out, a, roles + q + 1);
+    let b = put_fails(out, a, roles + q.0 as usize + 1);
     let c = put_roles(out, b, set, roles);
     put_end(out, c)
 }
@@ -147,7 +155,7 @@ pub fn put_carried(
     let mut next = at;
     let mut q: usize = 0;
     while q < permissions {
-        next = put_carried_one(out, next, w, table[q], q, roles);
+        next = put_carried_one(out, next, w, table[q], Permission(q as u8), roles);
         q += 1;
     }
     next
@@ -156,7 +164,7 @@ pub fn put_carried(
 // ---- the bounds
 
 // Puts that each permission of the lower bound is there.
-pub fn put_lowering(
+pub fn put_lower_bound(
     out: &mut [u8],
     at: usize,
     w: usize,
@@ -165,7 +173,7 @@ pub fn put_lowering(
     permissions: usize,
 ) -> usize
     requires { ⌜ (permissions ≤ 256) × (roles ≤ 64) ⌝ }
-    ensures { λ n. ⌜ Puts (now (out .entry)) at (linesOf w (loweringTo roles permissions (value lower))) (now (out .exit)) n ⌝ }
+    ensures { λ n. ⌜ Puts (now (out .entry)) at (linesOf w (lowerBoundTo roles permissions (value lower))) (now (out .exit)) n ⌝ }
 {
     let mut next = at;
     let mut q = next_member(lower, 0, permissions);
@@ -177,18 +185,25 @@ pub fn put_lowering(
 }
 
 // Puts that permission q is not there, where the upper bound lacks it.
-fn put_upper(out: &mut [u8], at: usize, w: usize, upper: [u64; 4], roles: usize, q: usize) -> usize
-    requires { ⌜ (q < 256) × (roles ≤ 64) ⌝ }
-    ensures { λ n. ⌜ Puts (now (out .entry)) at (linesOf w (upperOf roles (value upper) q)) (now (out .exit)) n ⌝ }
+fn put_absent(
+    out: &mut [u8],
+    at: usize,
+    w: usize,
+    upper: [u64; 4],
+    roles: usize,
+    q: Permission,
+) -> usize
+    requires { ⌜ roles ≤ 64 ⌝ }
+    ensures { λ n. ⌜ Puts (now (out .entry)) at (linesOf w (upperOf roles (value upper) (q .0))) (now (out .exit)) n ⌝ }
 {
-    if sets::perm_has(upper, Permission(q as u8)) {
+    if sets::perm_has(upper, q) {
         return at;
     }
-    put_must_not(out, at, w, roles + q + 1)
+    put_must_not(out, at, w, roles + q.0 as usize + 1)
 }
 
 // Puts that no permission outside the upper bound is there.
-pub fn put_uppering(
+pub fn put_upper_bound(
     out: &mut [u8],
     at: usize,
     w: usize,
@@ -197,12 +212,12 @@ pub fn put_uppering(
     permissions: usize,
 ) -> usize
     requires { ⌜ (permissions ≤ 256) × (roles ≤ 64) ⌝ }
-    ensures { λ n. ⌜ Puts (now (out .entry)) at (linesOf w (upperingTo roles permissions (value upper))) (now (out .exit)) n ⌝ }
+    ensures { λ n. ⌜ Puts (now (out .entry)) at (linesOf w (upperBoundTo roles permissions (value upper))) (now (out .exit)) n ⌝ }
 {
     let mut next = at;
     let mut q: usize = 0;
     while q < permissions {
-        next = put_upper(out, next, w, upper, roles, q);
+        next = put_absent(out, next, w, upper, roles, Permission(q as u8));
         q += 1;
     }
     next

@@ -34,7 +34,7 @@ pub fn next_member(set: [u64; 4], from: usize, end: usize) -> usize
     while at < end {
         let left = rest(set, at);
         if left != 0 {
-            return smaller(at + sets::lowest(left).0 as usize, end);
+            return smaller(at + sets::lowest_bit(left) as usize, end);
         }
         at += 64 - at % 64;
     }

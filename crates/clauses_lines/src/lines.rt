@@ -87,8 +87,8 @@ pub fn put_must_not(out: &mut [u8], at: usize, w: usize, x: usize) -> usize
     put_end(out, b)
 }
 
-// Puts the clause that x gives y.
-pub fn put_gives(out: &mut [u8], at: usize, w: usize, x: usize, y: usize) -> usize
+// Puts the clause that x implies y.
+pub fn put_implies(out: &mut [u8], at: usize, w: usize, x: usize, y: usize) -> usize
     ensures { λ r. ⌜ Puts (now (out .entry)) at (lineOf w (gives x y)) (now (out .exit)) r ⌝ }
 {
     let a = put_decimal(out, at, w);
@@ -97,8 +97,8 @@ pub fn put_gives(out: &mut [u8], at: usize, w: usize, x: usize, y: usize) -> usi
     put_end(out, c)
 }
 
-// Puts the clause that x and y give z.
-pub fn put_give(out: &mut [u8], at: usize, w: usize, x: usize, y: usize, z: usize) -> usize
+// Puts the clause that x and y together imply z.
+pub fn put_both_imply(out: &mut [u8], at: usize, w: usize, x: usize, y: usize, z: usize) -> usize
     ensures { λ r. ⌜ Puts (now (out .entry)) at (lineOf w (give x y z)) (now (out .exit)) r ⌝ }
 {
     let a = put_decimal(out, at, w);

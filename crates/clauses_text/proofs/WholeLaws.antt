@@ -9,7 +9,7 @@ use Rattle.model.specs.Dimacs.{clausesText, headText, weighing}
 use Rattle.clauses_bytes.specs.Putting.{Puts}
 use Rattle.clauses_bytes.proofs.WritingLaws.{put2}
 use Rattle.clauses_lines.specs.Lines.{linesOf}
-use Rattle.clauses_hard.specs.Parts.{barringTo, carryingTo, carriedTo, loweringTo, upperingTo, hardBy}
+use Rattle.clauses_hard.specs.Parts.{barringTo, carryingTo, carriedTo, lowerBoundTo, upperBoundTo, hardBy}
 use Rattle.clauses_counter.specs.Counters.{counters}
 use Rattle.clauses_soft.specs.Soft.{wantingPermissions, wantingRoles, softBy}
 use Rattle.clauses_hard.specs.Sizes.{helpersTo, hardSize}
@@ -31,7 +31,7 @@ pub hard-text :
     → linesOf w (barringTo R s)
     ++ (linesOf w (carryingTo R P row)
     ++ (linesOf w (carriedTo R P row)
-    ++ (linesOf w (loweringTo R P lower) ++ (linesOf w (upperingTo R P upper) ++ linesOf w (counters masks rooms k 0 (R + P))))))
+    ++ (linesOf w (lowerBoundTo R P lower) ++ (linesOf w (upperBoundTo R P upper) ++ linesOf w (counters masks rooms k 0 (R + P))))))
     ≡ linesOf w (hardBy R P s row lower upper masks rooms k)
 unfolding hardBy
 hard-text w R P s row lower upper masks rooms k = sym (simp (lines-joined w, append-assoc))

@@ -14,8 +14,8 @@ use clauses_counter::counter::put_counters;
 use clauses_hard::carries::put_barring;
 use clauses_hard::carries::put_carried;
 use clauses_hard::carries::put_carrying;
-use clauses_hard::carries::put_lowering;
-use clauses_hard::carries::put_uppering;
+use clauses_hard::carries::put_lower_bound;
+use clauses_hard::carries::put_upper_bound;
 use clauses_hard::sizes::hard_size;
 use clauses_hard::sizes::helpers_of;
 use clauses_soft::sizes::heavy;
@@ -93,8 +93,8 @@ fn put_hard(
     let a = put_barring(out, at, w, authorized, roles);
     let b = put_carrying(out, a, w, rows, roles, permissions);
     let c = put_carried(out, b, w, rows, roles, permissions);
-    let d = put_lowering(out, c, w, lower, roles, permissions);
-    let e = put_uppering(out, d, w, upper, roles, permissions);
+    let d = put_lower_bound(out, c, w, lower, roles, permissions);
+    let e = put_upper_bound(out, d, w, upper, roles, permissions);
     put_counters(out, e, w, roles + permissions, masks, rooms, count)
 }
 

@@ -9,7 +9,7 @@ returns : tie.Need-returns
 returns c =
     let p = c .before .before in
     let q = p .before .before .before .before in
-    row-put _ _ _ _ (p .put-adding .ensures) (q .put-keeping .ensures) (q .before .before .before .before .put-gives .ensures)
+    row-put _ _ _ _ (p .put-adding .ensures) (q .put-keeping .ensures) (q .before .before .before .before .put-implies .ensures)
 
 pub put-row-spec : {M : Type 1} → statement M
 put-row-spec =

@@ -9,5 +9,5 @@ use Rattle.clauses_hard.proofs.carries.put_barred.Tie as tie
 pub put-barred-spec : {M : Type 1} → statement M
 put-barred-spec =
     tie.close
-    (tie.spec (λ c. search needs) (λ c κs. search needs) (λ c. unfold barred in search (needs, line-allowed)) (λ c. search needs)
+    (tie.spec (λ c κs. search needs) (λ c. unfold barred in search (needs, line-allowed)) (λ c. search needs) (λ c. search needs)
     (λ c κs. search needs) (λ c. search needs) (λ c. unfold barred in search (needs, line-barred)))

@@ -22,5 +22,5 @@ abbrev μ-loop : tie.MeasureT-loop
 pub put-barring-spec : {M : Type 1} → statement M
 put-barring-spec =
     tie.close
-    (tie.spec Inv-loop μ-loop (λ c. search (needs, lines-none)) (λ c κs. search needs) (λ c. search needs) (λ c. search needs)
+    (tie.spec Inv-loop μ-loop (λ c. search (needs, lines-none)) (λ c. search needs) (λ c κs. search needs) (λ c. search needs) (λ c. search needs)
     (λ c. search (needs, lines-next)) (λ c. search needs) (λ c. unfold barringTo in search (needs, lines-done)))

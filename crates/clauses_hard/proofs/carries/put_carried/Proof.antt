@@ -31,6 +31,6 @@ loop-again c =
 pub put-carried-spec : {M : Type 1} → statement M
 put-carried-spec =
     tie.close
-    (tie.spec Inv-loop μ-loop (λ c κs. search needs) (λ c. search (needs, lines-none)) (λ c. search needs) (λ c. search needs)
+    (tie.spec Inv-loop μ-loop (λ c κs. search needs) (λ c. search (needs, lines-none)) (λ c. search needs) (λ c. search needs) (λ c. search needs)
     (λ c κs. search needs) (λ c. search needs) (λ c. search needs) loop-again (λ c. search needs)
     (λ c. unfold carriedTo in search (needs, lines-done)))

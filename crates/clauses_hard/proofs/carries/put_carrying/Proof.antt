@@ -23,6 +23,6 @@ abbrev μ-loop : tie.MeasureT-loop
 pub put-carrying-spec : {M : Type 1} → statement M
 put-carrying-spec =
     tie.close
-    (tie.spec Inv-loop μ-loop (λ c. search (needs, lines-none)) (λ c. search needs) (λ c. search needs) (λ c. search needs)
-    (λ c κs. search needs) (λ c. search needs) (λ c. search needs) (λ c. search (needs, lines-next)) (λ c. search needs)
+    (tie.spec Inv-loop μ-loop (λ c. search (needs, lines-none)) (λ c. search needs) (λ c. search needs) (λ c. search needs) (λ c κs. search needs)
+    (λ c. search needs) (λ c. search needs) (λ c. search (needs, lines-next)) (λ c. search needs)
     (λ c. unfold carryingTo in search (needs, lines-done)))

@@ -12,15 +12,16 @@ use Rattle.clauses_hard.proofs.carries.put_carrying_row.Statement.{stat
 use Rattle.clauses_hard.proofs.carries.put_carrying_row.Tie as tie
 
 abbrev Inv-loop : tie.InvT-loop
-Inv-loop out₀ at w row x roles permissions next₀ q₀ out next q =
+Inv-loop out₀ at w row roles permissions next₀ x q₀ out next q =
     (length out ≡ length out₀) × Walked w (value row) permissions (λ k. gives x (roles + k + 1)) out₀ at q out next
 
 abbrev μ-loop : tie.MeasureT-loop
-μ-loop out₀ at w row x roles permissions next₀ q₀ out next q = permissions - q
+μ-loop out₀ at w row roles permissions next₀ x q₀ out next q = permissions - q
 
 pub put-carrying-row-spec : {M : Type 1} → statement M
 put-carrying-row-spec =
     tie.close
-    (tie.spec Inv-loop μ-loop (λ c κs. search needs) (λ c. search (needs, walk-starts)) (λ c. search needs) (λ c. search needs)
-    (λ c κs. search needs) (λ c. search needs) (λ c κs. search needs) (λ c. search needs) (λ c. search (needs, walk-goes))
-    (λ c. search needs) (λ c. unfold carryingRow carriedAs in walk-ends _ (c .loop-test .left) (c .before .loop .inv .1)))
+    (tie.spec Inv-loop μ-loop (λ c. search needs) (λ c. search needs) (λ c κs. search needs) (λ c. search (needs, walk-starts))
+    (λ c. search needs) (λ c. search needs) (λ c κs. search needs) (λ c. search needs) (λ c κs. search needs) (λ c. search needs)
+    (λ c. search (needs, walk-goes)) (λ c. search needs)
+    (λ c. unfold carryingRow carriedAs in walk-ends _ (c .loop-test .left) (c .before .loop .inv .1)))

@@ -16,15 +16,15 @@ abbrev μ-loop : tie.MeasureT-loop
 
 returns : tie.Need-returns Inv-loop μ-loop
 returns c =
-    let w = c .before .before in
+    let w = c .before in
     let r = w .before .before in
     let l = r .before .before in
-    next-found _ _ _ _ (l .loop .inv .1) (r .rest .ensures) _ (w .lowest .result .0) _
-    (l .loop .inv .0) (r .before .loop-test .taken) (w .lowest .ensures) (c .smaller .ensures)
+    next-found _ _ _ _ (l .loop .inv .1) (r .rest .ensures) _ (w .lowest-bit .result) _
+    (l .loop .inv .0) (r .before .loop-test .taken) (w .lowest-bit .ensures) (c .smaller .ensures)
 
 pub next-member-spec : {M : Type 1} → statement M
 next-member-spec =
     tie.close
-    (tie.spec Inv-loop μ-loop (λ c. search (needs, between-none)) (λ c κs. search needs) (λ c κs. search needs)
-    (λ c. search needs) (λ c. search needs) (λ c κs. search needs) returns (λ c. search needs) (λ c. search needs)
-    (λ c. search needs) (λ c. search (needs, between-word)) (λ c. search (needs, next-none)))
+    (tie.spec Inv-loop μ-loop (λ c. search (needs, between-none)) (λ c κs. search needs) (λ c κs. search needs) (λ c. search needs)
+    (λ c. search needs) (λ c κs. search needs) returns (λ c. search needs) (λ c. search needs) (λ c. search needs)
+    (λ c. search (needs, between-word)) (λ c. search (needs, next-none)))

@@ -14,7 +14,7 @@ returns c =
     let t = s .before .before .before .before in
     let u = t .before .before .before .before in
     let v = u .before .before .before .before in
-    put6 (p .put-counters .ensures) (q .put-uppering .ensures) (s .put-lowering .ensures) (t .put-carried .ensures) (u .put-carrying .ensures)
+    put6 (p .put-counters .ensures) (q .put-upper-bound .ensures) (s .put-lower-bound .ensures) (t .put-carried .ensures) (u .put-carrying .ensures)
     (v .put-barring .ensures) (hard-text _ _ _ _ _ _ _ _ _ _)
 
 pub put-hard-spec : {M : Type 1} → statement M

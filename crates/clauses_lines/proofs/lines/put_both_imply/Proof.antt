@@ -1,9 +1,9 @@
--- `clauses_lines::lines::put_give` meets its contract.
+-- `clauses_lines::lines::put_both_imply` meets its contract.
 -- Assumes nothing.
 use borrow.Author.Needs.{needs}
 use Rattle.clauses_lines.proofs.LineLaws.{line-three}
-use Rattle.clauses_lines.proofs.lines.put_give.Statement.{statement}
-use Rattle.clauses_lines.proofs.lines.put_give.Tie as tie
+use Rattle.clauses_lines.proofs.lines.put_both_imply.Statement.{statement}
+use Rattle.clauses_lines.proofs.lines.put_both_imply.Tie as tie
 
 returns : tie.Need-returns
 returns c =
@@ -14,8 +14,8 @@ returns c =
     let u = t .before .before .before .before in
     line-three _ _ _ _ (p .put-end .ensures) (q .put-holds .ensures) (s .put-fails2 .ensures) (t .put-fails .ensures) (u .put-decimal .ensures)
 
-pub put-give-spec : {M : Type 1} → statement M
-put-give-spec =
+pub put-both-imply-spec : {M : Type 1} → statement M
+put-both-imply-spec =
     tie.close
     (tie.spec (λ c κs. search needs) (λ c κs. search needs) (λ c κs. search needs) (λ c κs. search needs) (λ c κs. search needs)
     (λ c. search needs) returns)
