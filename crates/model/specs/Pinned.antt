@@ -86,7 +86,7 @@ pub tables-read : policyOf (imageBytes (ended read-words))
       assigned = 0 ∷ 5 ∷ replicate 62 0;
       granted = 0 ∷ 2 ∷ replicate 62 0;
       juniors = 0 ∷ 0 ∷ 1 ∷ replicate 61 0;
-      exclusions = record { kind = SsHmer; limit = 2; members = 5 } ∷ [];
+      exclusions = record { kind = SsHmer; n = 2; members = 5 } ∷ [];
       limits = 0 ∷ 3 ∷ replicate 62 0;
     }
 unfolding computing limitWord
@@ -100,7 +100,7 @@ unfolding computing
 kind-numbers = refl
 
 abbrev exclude : Kind → ℕ → ℕ → Exclusion
-exclude kind limit members = record { kind = kind; limit = limit; members = members }
+exclude kind limit members = record { kind = kind; n = limit; members = members }
 
 -- by kind, by limit, by members
 abbrev ascending : List Exclusion
@@ -187,7 +187,7 @@ pub only-own : onlyFor 1 mixed ≡ record {
 unfolding computing onlyFor
 only-own = refl
 
--- an exclusion is the same by kind, limit and members
+-- an exclusion is the same by kind, n and members
 pub excluded-ones : map (excludes mixed) (exclude MsDmer 2 3 ∷ exclude SsHmer 2 3 ∷ exclude MsDmer 3 3 ∷ exclude MsDmer 2 5 ∷ [])
     ≡ (true ∷ false ∷ false ∷ false ∷ [])
 unfolding computing sameExclusion excludes

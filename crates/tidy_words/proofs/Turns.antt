@@ -3,15 +3,16 @@
 use mathlib.Core.Path.{_≡_, refl, sym, ap, ap₂, subst, _∙_}
 use mathlib.Core.Bool.{true}
 use mathlib.Core.List.{List, [], _∷_, _++_, map}
-use Prim.Native.Nat.{ℕ, suc, _+_, _*_, _/_, _%_, _^_, _≤_, _<_}
+use Prim.Native.Nat.{ℕ, suc, _+_, _*_, _^_, _≤_, _<_}
 use native.Mathlib.Numerals.{add-one}
 use native.Mathlib.Omega.{arith}
 use lib.ListN.{length, getD, take, drop, length-append, length-map, drop-of-length-le}
 use lib.Seq.{drop-cons, getD-drop, getD-take, length-take-le}
 use borrow.Table.Steps.{cases}
+use Rattle.model.specs.declared.Kind.{Kind}
+use Rattle.model.specs.declared.Kind.the-variants.{SsDmer, MsDmer, SsHmer, MsHmer}
 use Rattle.model.specs.declared.Exclusion.{Exclusion}
 use Rattle.model.specs.Sets.{has, count}
-use Rattle.model.specs.Image.{kindOf}
 use Rattle.model.specs.Words.{grantWord, exclusionWord, memberWord}
 use Rattle.model.specs.Policy.{kindNumber}
 use Rattle.model_laws.proofs.Ranks.{count-most}
@@ -22,7 +23,6 @@ use Rattle.rows.proofs.Packing.{row-at}
 use Rattle.tidying.specs.Groups.{spread}
 use Rattle.tidying.specs.Tidy.{membersTo, tableGroups, exclusionGroup}
 use Rattle.tidy_laws.proofs.TidyLists.{members-length, row-words}
-use Rattle.model_laws.proofs.SortedLaws.{row-kind}
 use Rattle.tidy_words.specs.Buffers.{setWords}
 use Rattle.tidy_words.specs.Tables.{pairWord, rowWords, tableWords, Table, exclusionWords}
 use Rattle.tidy_words.proofs.Writing.{Begins}
@@ -97,15 +97,21 @@ unfolding count
 size-most d m s e = subst (λ (x : ℕ). x ≤ d) (sym e) (count-most (has s) d)
 
 -- the word of an exclusion, and those of its members
-pub exclusion-words : (row : List ℕ) (m : ℕ) → m ≡ count 64 (getD row 1 0)
-    → Begins (exclusionWords (exclusionOf row))
-    ((1342177280 + 67108864 * (getD row 0 0 % 4) + 524288 * (getD row 0 0 / 4 % 256) + 4096 * m) ∷ []) (setWords 1610612736 4194304 (getD row 1 0))
-unfolding exclusionWords exclusionGroup exclusionOf exclusionWord memberWord setWords
-exclusion-words row m e =
-    let k = row-kind (getD row 0 0) in
-    let w : 5 * 2 ^ 28 + kindNumber (kindOf (getD row 0 0 % 4)) * 2 ^ 26 + (getD row 0 0 / 4 % 256) * 2 ^ 19 + count 64 (getD row 1 0) * 2 ^ 12
-    ≡ 1342177280 + 67108864 * (getD row 0 0 % 4) + 524288 * (getD row 0 0 / 4 % 256) + 4096 * m = omega arith in
-    record { is = ap (λ (x : ℕ). x ∷ map (λ j. 6 * 2 ^ 28 + j * 2 ^ 22) (membersTo 64 (getD row 1 0))) w }
+pub exclusion-words : (x : Exclusion) (k m : ℕ) → k ≡ kindNumber (x .kind) → m ≡ count 64 (x .members)
+    → Begins (exclusionWords x) ((1342177280 + 67108864 * k + 524288 * x .n + 4096 * m) ∷ []) (setWords 1610612736 4194304 (x .members))
+unfolding exclusionWords exclusionGroup exclusionWord memberWord setWords
+exclusion-words x k m ek e =
+    let w : 5 * 2 ^ 28 + kindNumber (x .kind) * 2 ^ 26 + x .n * 2 ^ 19 + count 64 (x .members) * 2 ^ 12
+    ≡ 1342177280 + 67108864 * k + 524288 * x .n + 4096 * m = omega arith in
+    record { is = ap (λ (v : ℕ). v ∷ map (λ j. 6 * 2 ^ 28 + j * 2 ^ 22) (membersTo 64 (x .members))) w }
+
+-- the number of a kind is below 4
+pub number-small : (n : ℕ) (k : Kind) → n ≡ kindNumber k → n < 4
+unfolding kindNumber
+number-small n SsDmer e = omega arith
+number-small n MsDmer e = omega arith
+number-small n SsHmer e = omega arith
+number-small n MsHmer e = omega arith
 
 -- the first n exclusions of a table, those from exclusion i on
 abbrev pub listed : List (List ℕ) → ℕ → ℕ → List ℕ
@@ -113,16 +119,17 @@ listed rows n i = spread (map exclusionGroup (drop i (take n (map exclusionOf ro
 
 module _ (rows : List (List ℕ)) (n i : ℕ) where
   -- exclusion i, and those behind it
-  pub listed-next : i < n → n ≤ length rows → Begins (listed rows n i) (exclusionWords (exclusionOf (getD rows i []))) (listed rows n (i + 1))
+  pub listed-next : i < n → n ≤ length rows → (x : Exclusion) → x ≡ exclusionOf (getD rows i [])
+      → Begins (listed rows n i) (exclusionWords x) (listed rows n (i + 1))
   unfolding spread exclusionWords
-  listed-next h k =
+  listed-next h k x e =
       let all : List Exclusion = map exclusionOf rows in
       let m : n ≤ length all = omega (arith, length-map rows exclusionOf) in
       let l : length (take n all) ≡ n = length-take-le n all m in
-      let x : getD (take n all) i (exclusionOf []) ≡ exclusionOf (getD rows i []) = getD-take n all i (exclusionOf []) h ∙ row-at rows i in
+      let y : getD (take n all) i (exclusionOf []) ≡ x = getD-take n all i (exclusionOf []) h ∙ row-at rows i ∙ sym e in
       record {
         is = ap (λ (l : List Exclusion). spread (map exclusionGroup l)) (drop-cons (take n all) i (exclusionOf []) (omega arith))
-            ∙ (λ j. exclusionWords (x j) ++ listed rows n (sym (add-one i) j));
+            ∙ (λ j. exclusionWords (y j) ++ listed rows n (sym (add-one i) j));
       }
 
   pub listed-end : n ≤ i → n ≤ length rows → listed rows n i ≡ []
@@ -134,11 +141,12 @@ module _ (rows : List (List ℕ)) (n i : ℕ) where
       let q : length (take n all) ≤ i = omega arith in
       ap (λ (l : List Exclusion). spread (map exclusionGroup l)) (drop-of-length-le (take n all) q)
 
-  pub listed-count : i < n → n ≤ length rows → length (listed rows n i) ≡ 1 + count 64 (getD (getD rows i []) 1 0) + length (listed rows n (i + 1))
-  unfolding exclusionWords exclusionGroup exclusionOf
-  listed-count h k =
-      let a = ap length (listed-next h k .is) in
-      let b = length-append (exclusionWords (exclusionOf (getD rows i []))) (listed rows n (i + 1)) in
-      let c = length-map (membersTo 64 (getD (getD rows i []) 1 0)) memberWord in
-      let d = members-length 64 (getD (getD rows i []) 1 0) in
+  pub listed-count : i < n → n ≤ length rows → (x : Exclusion) → x ≡ exclusionOf (getD rows i [])
+      → length (listed rows n i) ≡ 1 + count 64 (x .members) + length (listed rows n (i + 1))
+  unfolding exclusionWords exclusionGroup
+  listed-count h k x e =
+      let a = ap length (listed-next h k x e .is) in
+      let b = length-append (exclusionWords x) (listed rows n (i + 1)) in
+      let c = length-map (membersTo 64 (x .members)) memberWord in
+      let d = members-length 64 (x .members) in
       omega arith

@@ -12,14 +12,14 @@ use Rattle.model.specs.Words.{headWord, assignWord, grantWord, seniorWord, sumO
 use Rattle.octets.specs.Splice.{splice}
 use Rattle.tidying.specs.Groups.{spread}
 use Rattle.tidying.specs.Tidy.{exclusionGroup}
-use Rattle.tidy_words.specs.Buffers.{Buffer, putWord, puts}
+use Rattle.tidy_words.specs.Buffers.{Buffer, unwritten, putWord, puts}
 use Rattle.tidy_words.specs.Tables.{pairWord, tableWords, limitWords}
 use Rattle.tidy_words.specs.Whole.{restWords, groupWords, wordsBy}
-use Rattle.tidy_words.proofs.Writing.{puts-sum, puts-bytes, Begins, Rests, rests-start, rests-room, rests-next, Fours}
+use Rattle.tidy_words.proofs.Writing.{puts-sum, puts-bytes, Begins, Rests, rests-start, rests-room, rests-next, Fours, four-first, four-second, four-third, four-fourth, four-all}
 
 -- ---- words
 
-pub groups-four : (assigned granted juniors : List ℕ) (xs : List Exclusion) (limits : List ℕ)
+groups-four : (assigned granted juniors : List ℕ) (xs : List Exclusion) (limits : List ℕ)
     → Fours (groupWords assigned granted juniors xs limits) (tableWords (pairWord 2) 64 assigned 0) (tableWords grantWord 256 granted 0)
     (tableWords (pairWord 4) 64 juniors 0) (restWords xs limits)
 unfolding groupWords pairWord assignWord seniorWord
@@ -63,58 +63,81 @@ end-same s t e = ap (λ (x : ℕ). 15 * 2 ^ 28 + (2 ^ 28 - x) % 2 ^ 28) e
 
 -- ---- the image written
 
--- a buffer before its first word
-abbrev pub unwritten : List ℕ → Buffer
-unwritten out = record { bytes = out; at = 0; sum = 0 }
-
 module _ (h : Head) (assigned granted juniors : List ℕ) (xs : List Exclusion) (limits : List ℕ) where
-  last : ℕ
-  last = endWord (sumOf (wordsBy h assigned granted juniors xs limits))
+  abbrev body : List ℕ
+  body = wordsBy h assigned granted juniors xs limits
 
-  head-first : Begins (ended (wordsBy h assigned granted juniors xs limits)) (headWord (h .users) (h .roles) (h .permissions) ∷ [])
-      (groupWords assigned granted juniors xs limits ++ (last ∷ []))
-  unfolding ended wordsBy last
+  head-first : Begins body (headWord (h .users) (h .roles) (h .permissions) ∷ []) (groupWords assigned granted juniors xs limits)
+  unfolding wordsBy
   head-first = record { is = refl }
 
-  then-groups : Begins (groupWords assigned granted juniors xs limits ++ (last ∷ [])) (groupWords assigned granted juniors xs limits) (last ∷ [])
-  then-groups = record { is = refl }
-
-  module _ (out : List ℕ) (room : 4 * length (ended (wordsBy h assigned granted juniors xs limits)) ≤ length out) where
-    started : Rests (unwritten out) (ended (wordsBy h assigned granted juniors xs limits)) (unwritten out)
-        (ended (wordsBy h assigned granted juniors xs limits))
-    started = rests-start (unwritten out) (ended (wordsBy h assigned granted juniors xs limits)) (omega arith)
+  -- the head, and the words between head and end
+  module _ (out : List ℕ) (room : 4 * length body ≤ length out) where
+    started : Rests (unwritten out) body (unwritten out) body
+    started = rests-start (unwritten out) body (omega arith)
 
     pub room-head : 0 + 4 ≤ length out
     room-head = rests-room started head-first
 
     module _ {w : ℕ} {s₁ : Buffer} (e : w ≡ headWord (h .users) (h .roles) (h .permissions)) (p : s₁ ≡ putWord (unwritten out) w) where
-      headed : Rests (unwritten out) (ended (wordsBy h assigned granted juniors xs limits)) s₁ (groupWords assigned granted juniors xs limits ++ (last ∷ []))
+      headed : Rests (unwritten out) body s₁ (groupWords assigned granted juniors xs limits)
       unfolding puts
       headed = rests-next started head-first (p ∙ ap (putWord (unwritten out)) e)
 
-      pub room-groups : s₁ .at + 4 * length (groupWords assigned granted juniors xs limits) ≤ length (s₁ .bytes)
-      room-groups = rests-room headed then-groups
+      room-groups : s₁ .at + 4 * length (groupWords assigned granted juniors xs limits) ≤ length (s₁ .bytes)
+      room-groups = headed .room
 
-      module _ {s₂ : Buffer} (q : s₂ ≡ puts s₁ (groupWords assigned granted juniors xs limits)) where
-        grouped : Rests (unwritten out) (ended (wordsBy h assigned granted juniors xs limits)) s₂ (last ∷ [])
-        grouped = rests-next headed then-groups q
+      fours : Fours (groupWords assigned granted juniors xs limits) (tableWords (pairWord 2) 64 assigned 0) (tableWords grantWord 256 granted 0)
+          (tableWords (pairWord 4) 64 juniors 0) (restWords xs limits)
+      fours = groups-four assigned granted juniors xs limits
 
-        pub room-end : s₂ .at + 4 ≤ length (s₂ .bytes)
-        room-end = grouped .room
+      pub room-assigned : s₁ .at + 4 * length (tableWords (pairWord 2) 64 assigned 0) ≤ length (s₁ .bytes)
+      room-assigned = four-first s₁ fours room-groups
 
-        -- the sum so far is that of all words before the end
-        summed : s₂ .sum % 2 ^ 28 ≡ sumOf (wordsBy h assigned granted juniors xs limits) % 2 ^ 28
-        unfolding puts wordsBy
-        summed =
-            ap (λ (s : Buffer). s .sum % 2 ^ 28)
-            (q ∙ ap (λ (s : Buffer). puts s (groupWords assigned granted juniors xs limits)) (p ∙ ap (putWord (unwritten out)) e))
-            ∙ puts-sum (unwritten out) (wordsBy h assigned granted juniors xs limits)
-            ∙ ap (λ (n : ℕ). n % 2 ^ 28) (zero-add (sumOf (wordsBy h assigned granted juniors xs limits)))
+      module _ {s₂ : Buffer} (q : s₂ ≡ puts s₁ (tableWords (pairWord 2) 64 assigned 0)) where
+        pub room-granted : s₂ .at + 4 * length (tableWords grantWord 256 granted 0) ≤ length (s₂ .bytes)
+        room-granted = four-second s₁ fours room-groups q
 
-        pub image-put : {v : ℕ} {s₃ : Buffer} → v ≡ endWord (s₂ .sum) → s₃ ≡ putWord s₂ v
-            → s₃ .bytes ≡ splice out 0 (imageBytes (ended (wordsBy h assigned granted juniors xs limits)))
-        unfolding puts last
-        image-put ev r =
-            ap (λ (s : Buffer). s .bytes)
-            (r ∙ ap (putWord s₂) (ev ∙ end-same (s₂ .sum) (sumOf (wordsBy h assigned granted juniors xs limits)) summed) ∙ grouped .same)
-            ∙ puts-bytes (unwritten out) (ended (wordsBy h assigned granted juniors xs limits)) (omega arith)
+        module _ {s₃ : Buffer} (r : s₃ ≡ puts s₂ (tableWords grantWord 256 granted 0)) where
+          pub room-juniors : s₃ .at + 4 * length (tableWords (pairWord 4) 64 juniors 0) ≤ length (s₃ .bytes)
+          room-juniors = four-third s₁ fours room-groups q r
+
+          module _ {s₄ : Buffer} (t : s₄ ≡ puts s₃ (tableWords (pairWord 4) 64 juniors 0)) where
+            pub room-rest : s₄ .at + 4 * length (restWords xs limits) ≤ length (s₄ .bytes)
+            room-rest = four-fourth s₁ fours room-groups q r t
+
+            pub body-put : {s₅ : Buffer} → s₅ ≡ puts s₄ (restWords xs limits) → s₅ ≡ puts (unwritten out) body
+            body-put u = four-all s₁ fours room-groups q r t u ∙ headed .same
+
+  last : ℕ
+  last = endWord (sumOf body)
+
+  then-last : Begins (ended body) body (last ∷ [])
+  unfolding ended last
+  then-last = record { is = refl }
+
+  -- the end word behind them
+  module _ (out : List ℕ) (room : 4 * length (ended body) ≤ length out) where
+    begun : Rests (unwritten out) (ended body) (unwritten out) (ended body)
+    begun = rests-start (unwritten out) (ended body) (omega arith)
+
+    pub room-body : 4 * length body ≤ length out
+    room-body = let r = rests-room begun then-last in omega arith
+
+    module _ {s : Buffer} (q : s ≡ puts (unwritten out) body) where
+      bodied : Rests (unwritten out) (ended body) s (last ∷ [])
+      bodied = rests-next begun then-last q
+
+      pub room-end : s .at + 4 ≤ length (s .bytes)
+      room-end = bodied .room
+
+      -- the sum so far is that of all words before the end
+      summed : s .sum % 2 ^ 28 ≡ sumOf body % 2 ^ 28
+      summed =
+          ap (λ (t : Buffer). t .sum % 2 ^ 28) q ∙ puts-sum (unwritten out) body ∙ ap (λ (n : ℕ). n % 2 ^ 28) (zero-add (sumOf body))
+
+      pub image-put : {v : ℕ} {t : Buffer} → v ≡ endWord (s .sum) → t ≡ putWord s v → t .bytes ≡ splice out 0 (imageBytes (ended body))
+      unfolding puts last
+      image-put ev r =
+          ap (λ (b : Buffer). b .bytes) (r ∙ ap (putWord s) (ev ∙ end-same (s .sum) (sumOf body) summed) ∙ bodied .same)
+          ∙ puts-bytes (unwritten out) (ended body) (omega arith)

@@ -17,6 +17,10 @@ pub record Buffer : Type 0 where
 abbrev pub buffer : List ℕ → Cursor → Buffer
 buffer bytes c = record { bytes = bytes; at = c .at; sum = c .sum }
 
+-- a buffer before its first word
+abbrev pub unwritten : List ℕ → Buffer
+unwritten out = record { bytes = out; at = 0; sum = 0 }
+
 unfoldable pub putWord : Buffer → ℕ → Buffer
 putWord s w = record { bytes = splice (s .bytes) (s .at) (bytesOf 4 w); at = s .at + 4; sum = (s .sum + w) % 2 ^ 32 }
 

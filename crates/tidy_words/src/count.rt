@@ -11,6 +11,7 @@ ghost use Rattle.tidying.specs.Tidy.{exclusionGroup};
 ghost use Rattle.sets.specs.Words.{values};
 ghost use Rattle.rows.specs.Rows.{exclusionOf};
 ghost use Rattle.tidy_words.specs.Tables.{tableWords, Table, limitWords, Limited};
+use rows::exclusion_of;
 
 // The words of a table of role sets, of which only the first n rows have members.
 pub fn count_table(table: &[u64; 64], n: usize) -> usize
@@ -43,8 +44,8 @@ pub fn count_exclusions(xs: &[[u64; 2]; 32], n: usize) -> usize
 {
     let mut m: usize = 0;
     for i in 0..n {
-        let row = xs[i];
-        m = m + 1 + sets::size(row[1]) as usize;
+        let x = exclusion_of(xs[i]);
+        m = m + 1 + sets::size(x.members) as usize;
     }
     m
 }

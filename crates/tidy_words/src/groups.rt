@@ -13,6 +13,10 @@ ghost use Rattle.tidy_words.specs.Tables.{pairWord, rowWords, tableWords
 use crate::words::Cursor;
 use crate::words::put_set;
 use crate::words::put_word;
+use model::Exclusion;
+use model::Role;
+use rows::exclusion_of;
+use rows::number_of;
 
 // ---- tables of role sets
 
@@ -37,11 +41,11 @@ pub fn put_table(out: &mut [u8], from: Cursor, kind: u32, table: &[u64; 64], n: 
 // ---- the table of grants
 
 // The words of the grants of role r.
-fn put_row(out: &mut [u8], from: Cursor, r: usize, row: [u64; 4]) -> Cursor
-    requires { ⌜ (r < 64) × Room (now out) from (rowWords grantWord 256 r (value row)) ⌝ }
-    ensures { λ s. ⌜ buffer (now (out .exit)) s ≡ puts (buffer (now (out .entry)) from) (rowWords grantWord 256 r (value row)) ⌝ }
+fn put_row(out: &mut [u8], from: Cursor, r: Role, row: [u64; 4]) -> Cursor
+    requires { ⌜ (r .0 < 64) × Room (now out) from (rowWords grantWord 256 (r .0) (value row)) ⌝ }
+    ensures { λ s. ⌜ buffer (now (out .exit)) s ≡ puts (buffer (now (out .entry)) from) (rowWords grantWord 256 (r .0) (value row)) ⌝ }
 {
-    let first = 805306368 + 4194304 * (r as u32);
+    let first = 805306368 + 4194304 * (r.0 as u32);
     let a = put_set(out, from, first, 16384, row[0]);
     let b = put_set(out, a, first + 1048576, 16384, row[1]);
     let c = put_set(out, b, first + 2097152, 16384, row[2]);
@@ -55,7 +59,7 @@ pub fn put_grants(out: &mut [u8], from: Cursor, granted: &[[u64; 4]; 64], n: usi
 {
     let mut c = from;
     for r in 0..n {
-        c = put_row(out, c, r, granted[r]);
+        c = put_row(out, c, Role(r as u8), granted[r]);
     }
     c
 }
@@ -63,16 +67,17 @@ pub fn put_grants(out: &mut [u8], from: Cursor, granted: &[[u64; 4]; 64], n: usi
 // ---- exclusions
 
 // An exclusion word and its members, ascending.
-fn put_exclusion(out: &mut [u8], from: Cursor, row: [u64; 2]) -> Cursor
-    requires { ⌜ Room (now out) from (exclusionWords (exclusionOf row)) ⌝ }
-    ensures { λ r. ⌜ buffer (now (out .exit)) r ≡ puts (buffer (now (out .entry)) from) (exclusionWords (exclusionOf row)) ⌝ }
+fn put_exclusion(out: &mut [u8], from: Cursor, x: Exclusion) -> Cursor
+    requires { ⌜ Room (now out) from (exclusionWords x) ⌝ }
+    ensures { λ r. ⌜ buffer (now (out .exit)) r ≡ puts (buffer (now (out .entry)) from) (exclusionWords x) ⌝ }
 {
-    let kind = (row[0] % 4) as u32;
-    let n = (row[0] / 4 % 256) as u32;
-    let m = sets::size(row[1]);
-    let w = 1342177280 + 67108864 * kind + 524288 * n + 4096 * m;
+    let kind = x.kind;
+    let k = number_of(kind) as u32;
+    let n = x.n as u32;
+    let m = sets::size(x.members);
+    let w = 1342177280 + 67108864 * k + 524288 * n + 4096 * m;
     let c = put_word(out, from, w);
-    put_set(out, c, 1610612736, 4194304, row[1])
+    put_set(out, c, 1610612736, 4194304, x.members)
 }
 
 // The first n exclusions, in their order.
@@ -83,7 +88,7 @@ pub fn put_exclusions(out: &mut [u8], from: Cursor, xs: &[[u64; 2]; 32], n: usiz
 {
     let mut c = from;
     for i in 0..n {
-        c = put_exclusion(out, c, xs[i]);
+        c = put_exclusion(out, c, exclusion_of(xs[i]));
     }
     c
 }
@@ -91,9 +96,9 @@ pub fn put_exclusions(out: &mut [u8], from: Cursor, xs: &[[u64; 2]; 32], n: usiz
 // ---- limits
 
 // The word for the limit t of role r, where it has one.
-fn put_limit(out: &mut [u8], from: Cursor, r: usize, t: u64) -> Cursor
-    requires { ⌜ (r < 64) × (t ≤ 256) × Room (now out) from (limitRow r t) ⌝ }
-    ensures { λ c. ⌜ buffer (now (out .exit)) c ≡ puts (buffer (now (out .entry)) from) (limitRow r t) ⌝ }
+fn put_limit(out: &mut [u8], from: Cursor, r: Role, t: u64) -> Cursor
+    requires { ⌜ (r .0 < 64) × (t ≤ 256) × Room (now out) from (limitRow (r .0) t) ⌝ }
+    ensures { λ c. ⌜ buffer (now (out .exit)) c ≡ puts (buffer (now (out .entry)) from) (limitRow (r .0) t) ⌝ }
 {
     if t == 0 {
         return from;
@@ -101,7 +106,7 @@ fn put_limit(out: &mut [u8], from: Cursor, r: usize, t: u64) -> Cursor
     put_word(
         out,
         from,
-        1879048192 + 4194304 * (r as u32) + 8192 * (t as u32),
+        1879048192 + 4194304 * (r.0 as u32) + 8192 * (t as u32),
     )
 }
 
@@ -112,7 +117,7 @@ pub fn put_limits(out: &mut [u8], from: Cursor, limits: &[u64; 64], n: usize) ->
 {
     let mut c = from;
     for r in 0..n {
-        c = put_limit(out, c, r, limits[r]);
+        c = put_limit(out, c, Role(r as u8), limits[r]);
     }
     c
 }

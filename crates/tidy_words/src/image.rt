@@ -7,9 +7,9 @@ ghost use Rattle.model.specs.Words.{headWord, endWord as endWordOf, ended, imag
 ghost use Rattle.sets.specs.Words.{values};
 ghost use Rattle.rows.specs.Rows.{exclusionOf};
 ghost use Rattle.octets.specs.Splice.{splice};
-ghost use Rattle.tidy_words.specs.Buffers.{buffer, puts, Room};
+ghost use Rattle.tidy_words.specs.Buffers.{buffer, unwritten, puts, Room};
 ghost use Rattle.tidy_words.specs.Tables.{Limited};
-ghost use Rattle.tidy_words.specs.Whole.{restWords, groupWords, wordsBy, Fitted};
+ghost use Rattle.tidy_words.specs.Whole.{restWords, wordsBy, Fitted};
 use crate::count::count_exclusions;
 use crate::count::count_grants;
 use crate::count::count_limits;
@@ -83,10 +83,9 @@ fn put_rest(
     put_limits(out, x, limits, roles)
 }
 
-// Writes the words between head and end.
-fn put_groups(
+// Writes the words from the head to the last before the end.
+fn put_body(
     out: &mut [u8],
-    from: Cursor,
     h: Head,
     assigned: &[u64; 64],
     granted: &[[u64; 4]; 64],
@@ -96,14 +95,17 @@ fn put_groups(
     n: usize,
 ) -> Cursor
     requires { ⌜ Fitted h (now assigned) (values (now granted)) (now juniors) (now limits) × (n ≤ 32) × (length (now xs) ≡ 32)
-        × Room (now out) from (groupWords (now assigned) (values (now granted)) (now juniors) (take n (map exclusionOf (now xs))) (now limits)) ⌝ }
+        × (4 * length (wordsBy h (now assigned) (values (now granted)) (now juniors) (take n (map exclusionOf (now xs))) (now limits))
+        ≤ length (now out)) ⌝ }
     ensures { λ c. ⌜ buffer (now (out .exit)) c
-        ≡ puts (buffer (now (out .entry)) from)
-        (groupWords (now (assigned .entry)) (values (now (granted .entry))) (now (juniors .entry))
+        ≡ puts (unwritten (now (out .entry)))
+        (wordsBy h (now (assigned .entry)) (values (now (granted .entry))) (now (juniors .entry))
         (take n (map exclusionOf (now (xs .entry)))) (now (limits .entry))) ⌝ }
 {
     let users = h.users as usize;
     let roles = h.roles as usize;
+    let start = Cursor { at: 0, sum: 0 };
+    let from = put_word(out, start, head_word(h));
     let a = put_table(out, from, 2, assigned, users);
     let g = put_grants(out, a, granted, roles);
     let j = put_table(out, g, 4, juniors, roles);
@@ -130,8 +132,6 @@ pub fn put_image(
         (take n (map exclusionOf (now (xs .entry))))
         (now (limits .entry))))) ⌝ }
 {
-    let start = Cursor { at: 0, sum: 0 };
-    let from = put_word(out, start, head_word(h));
-    let end = put_groups(out, from, h, assigned, granted, juniors, xs, limits, n);
+    let end = put_body(out, h, assigned, granted, juniors, xs, limits, n);
     put_word(out, end, end_word(end.sum));
 }

@@ -37,10 +37,10 @@ pub fn put_set(out: &mut [u8], from: Cursor, first: u32, unit: u32, set: u64) ->
     let mut left = set;
     let mut c = from;
     while left != 0 {
-        let r = sets::lowest(left);
-        let w = first + (r.0 as u32) * unit;
+        let k = sets::lowest_bit(left);
+        let w = first + (k as u32) * unit;
         c = put_word(out, c, w);
-        left = sets::without(left, r);
+        left = sets::without_bit(left, k);
     }
     c
 }

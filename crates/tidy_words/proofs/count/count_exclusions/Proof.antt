@@ -20,10 +20,12 @@ loop-holds c = (omega arith, omega arith, omega arith)
 
 loop-again : tie.Need-loop-again Inv-loop μ-loop
 loop-again c =
-    let l = c .before .before .before in
+    let x = c .before in
+    let t = x .before .before in
+    let l = t .before in
     let p = l .before .pre in
-    let t = c .before .before .loop-test .taken in
-    let k = listed-count (l .before .args .xs .now) (l .before .args .n) (l .loop .i) t (omega arith) in
+    let h = t .loop-test .taken in
+    let k = listed-count (l .before .args .xs .now) (l .before .args .n) (l .loop .i) h (omega arith) _ (x .exclusion-of .ensures) in
     let q = l .loop .inv .2 in
     let e = c .size .ensures in
     (omega arith, omega arith, omega arith)
@@ -39,5 +41,5 @@ returns c =
 pub count-exclusions-spec : {M : Type 1} → statement M
 count-exclusions-spec =
     tie.close
-    (tie.spec Inv-loop μ-loop loop-holds (λ c. search needs) (λ c. search needs) (λ c. search needs) (λ c. search needs) (λ c κs. search needs)
+    (tie.spec Inv-loop μ-loop loop-holds (λ c. search needs) (λ c. search needs) (λ c κs. search needs) (λ c. search needs) (λ c κs. search needs)
     (λ c. search needs) (λ c. search needs) (λ c. search needs) (λ c. search needs) loop-again returns)

@@ -20,19 +20,23 @@ loop-holds c = (omega arith, rests-start _ _ (c .before .pre .2))
 
 put-exclusion-requires : tie.Need-put-exclusion-requires Inv-loop μ-loop
 put-exclusion-requires c κs =
-    let t = c .before .before in
+    let t = c .before .before .before in
     let l = t .before in
     let a = l .before .before in
-    rests-room (l .loop .inv .1) (listed-next (a .args .xs .now) (a .args .n) (l .loop .i) (t .loop-test .taken) (omega arith))
+    rests-room (l .loop .inv .1)
+    (listed-next (a .args .xs .now) (a .args .n) (l .loop .i) (t .loop-test .taken) (omega arith) _ (c .exclusion-of .ensures))
 
 loop-again : tie.Need-loop-again Inv-loop μ-loop
 loop-again c =
     let p = c .before .before in
-    let t = p .before .before .before in
+    let x = p .before in
+    let t = x .before .before .before in
     let l = t .before in
     let a = l .before .before in (
       omega arith,
-      rests-next (l .loop .inv .1) (listed-next (a .args .xs .now) (a .args .n) (l .loop .i) (t .loop-test .taken) (omega arith)) (p .put-exclusion .ensures),
+      rests-next (l .loop .inv .1)
+          (listed-next (a .args .xs .now) (a .args .n) (l .loop .i) (t .loop-test .taken) (omega arith) _ (x .exclusion-of .ensures))
+          (p .put-exclusion .ensures),
     )
 
 returns : tie.Need-returns Inv-loop μ-loop
@@ -44,5 +48,5 @@ returns c =
 pub put-exclusions-spec : {M : Type 1} → statement M
 put-exclusions-spec =
     tie.close
-    (tie.spec Inv-loop μ-loop loop-holds (λ c. search needs) (λ c. search needs) put-exclusion-requires (λ c. search needs) (λ c. search needs)
-    loop-again (λ c. c .before .loop .inv .1 .size) returns)
+    (tie.spec Inv-loop μ-loop loop-holds (λ c. search needs) (λ c. search needs) (λ c κs. search needs) put-exclusion-requires (λ c. search needs)
+    (λ c. search needs) loop-again (λ c. c .before .loop .inv .1 .size) returns)

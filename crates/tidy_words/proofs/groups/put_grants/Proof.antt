@@ -43,5 +43,5 @@ returns c = rests-end (c .before .loop .inv .1) (table-end _ _ _ _ _ (c .before 
 pub put-grants-spec : {M : Type 1} → statement M
 put-grants-spec =
     tie.close
-    (tie.spec Inv-loop μ-loop loop-holds (λ c. search needs) (λ c. search needs) put-row-requires (λ c. search needs) (λ c. search needs) loop-again
-    (λ c. c .before .loop .inv .1 .size) returns)
+    (tie.spec Inv-loop μ-loop loop-holds (λ c. search needs) (λ c. search needs) (λ c. search needs) put-row-requires (λ c. search needs)
+    (λ c. search needs) loop-again (λ c. c .before .loop .inv .1 .size) returns)

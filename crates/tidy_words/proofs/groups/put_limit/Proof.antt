@@ -12,26 +12,20 @@ returns : tie.Need-returns
 returns c = limit-none _ _ _ (c .if1 .taken)
 
 put-word-requires : tie.Need-put-word-requires
-put-word-requires c κs = let a = c .before .before .before in limit-room (a .args .r) (a .args .t) _ _ (c .before .if1 .left) (a .pre .2)
+put-word-requires c κs =
+    let i = c .before .before in
+    let a = i .before .before in
+    limit-room (a .args .r .0) (a .args .t) _ _ (i .if1 .left) (a .pre .2)
 
 returns-2 : tie.Need-returns-2
 unfolding limitWord
 returns-2 c =
     let p = c .before .before in
-    let i = p .before .before in
+    let i = p .before .before .before in
     p .put-word .ensures ∙ limit-some _ _ _ _ (i .if1 .left) (omega arith)
 
 pub put-limit-spec : {M : Type 1} → statement M
 put-limit-spec =
     tie.close
-    (tie.spec
-    returns
-    (λ c. search needs)
-    (λ c. search needs)
-    (λ c. search needs)
-    (λ c. search needs)
-    (λ c. search needs)
-    (λ c. search needs)
-    put-word-requires
-    (λ c. search needs)
-    returns-2)
+    (tie.spec returns (λ c. search needs) (λ c. search needs) (λ c. search needs) (λ c. search needs) (λ c. search needs) (λ c. search needs)
+    put-word-requires (λ c. search needs) returns-2)

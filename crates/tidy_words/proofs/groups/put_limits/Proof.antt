@@ -40,5 +40,5 @@ returns c = rests-end (c .before .loop .inv .1) (limits-end _ _ _ (c .before .be
 pub put-limits-spec : {M : Type 1} → statement M
 put-limits-spec =
     tie.close
-    (tie.spec Inv-loop μ-loop loop-holds (λ c. search needs) (λ c. search needs) put-limit-requires (λ c. search needs) (λ c. search needs) loop-again
-    (λ c. c .before .loop .inv .1 .size) returns)
+    (tie.spec Inv-loop μ-loop loop-holds (λ c. search needs) (λ c. search needs) (λ c. search needs) put-limit-requires (λ c. search needs)
+    (λ c. search needs) loop-again (λ c. c .before .loop .inv .1 .size) returns)

@@ -11,13 +11,13 @@ use Rattle.tidy_words.proofs.groups.put_row.Tie as tie
 
 put-set-requires : tie.Need-put-set-requires
 put-set-requires c κs =
-    let a = c .before .before in
+    let a = c .before .before .before in
     (four-first (buffer (a .args .out .now) (a .args .from)) (grants-four (a .args .t4) (search needs) _ _ refl) (a .pre .1), omega arith)
 
 put-set-requires-2 : tie.Need-put-set-requires-2
 put-set-requires-2 c κs =
     let p = c .before .before .before in
-    let a = p .before .before .before in (
+    let a = p .before .before .before .before in (
       four-second (buffer (a .args .out .now) (a .args .from)) (grants-four (a .args .t4) (search needs) _ _ refl)
           (a .pre .1) (p .put-set .ensures),
       omega arith,
@@ -27,7 +27,7 @@ put-set-requires-3 : tie.Need-put-set-requires-3
 put-set-requires-3 c κs =
     let q = c .before .before .before in
     let p = q .before .before .before .before in
-    let a = p .before .before .before in (
+    let a = p .before .before .before .before in (
       four-third (buffer (a .args .out .now) (a .args .from)) (grants-four (a .args .t4) (search needs) _ _ refl)
           (a .pre .1) (p .put-set .ensures) (q .put-set2 .ensures),
       omega arith,
@@ -38,7 +38,7 @@ put-set-requires-4 c κs =
     let r = c .before .before .before in
     let q = r .before .before .before .before in
     let p = q .before .before .before .before in
-    let a = p .before .before .before in (
+    let a = p .before .before .before .before in (
       four-fourth (buffer (a .args .out .now) (a .args .from)) (grants-four (a .args .t4) (let g = a .good .1 .1 .1 .0 in search needs) _ _ refl)
           (a .pre .1) (p .put-set .ensures) (q .put-set2 .ensures) (r .put-set3 .ensures),
       omega arith,
@@ -50,7 +50,7 @@ returns c =
     let r = s .before .before .before .before in
     let q = r .before .before .before .before in
     let p = q .before .before .before .before in
-    let a = p .before .before .before in
+    let a = p .before .before .before .before in
     four-all (buffer (a .args .out .now) (a .args .from)) (grants-four (a .args .t4) (let g = a .good .1 .1 .1 .0 in search needs) _ _ refl)
     (a .pre .1) (p .put-set .ensures) (q .put-set2 .ensures) (r .put-set3 .ensures)
     (s .put-set4 .ensures)
@@ -58,6 +58,6 @@ returns c =
 pub put-row-spec : {M : Type 1} → statement M
 put-row-spec =
     tie.close
-    (tie.spec (λ c. search needs) (λ c. search needs) (λ c. search needs) (λ c. search needs) put-set-requires (λ c. search needs) (λ c. search needs)
-    put-set-requires-2 (λ c. search needs) (λ c. search needs) put-set-requires-3 (λ c. search needs) (λ c. search needs) put-set-requires-4
-    (λ c. search needs) returns)
+    (tie.spec (λ c. search needs) (λ c. search needs) (λ c. search needs) (λ c. search needs) put-set-requires (λ c. search needs)
+    (λ c. search needs) put-set-requires-2 (λ c. search needs) (λ c. search needs) put-set-requires-3 (λ c. search needs) (λ c. search needs)
+    put-set-requires-4 (λ c. search needs) returns)

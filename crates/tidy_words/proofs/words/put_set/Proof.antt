@@ -20,35 +20,29 @@ loop-holds : tie.Need-loop-holds Inv-loop μ-loop
 loop-holds c = (rests-start _ _ (c .before .pre .0), c .before .fits .set .fits)
 
 mul-w : tie.Need-mul-w Inv-loop μ-loop
-mul-w c =
-    let w = c .before in
-    let a = w .before .before .before .before in
-    unit-most (a .args .first) _ _ (w .lowest .ensures) (a .pre .1)
+mul-w c = let a = c .before .before .before .before in unit-most (a .args .first) _ _ (c .lowest-bit .ensures) (a .pre .1)
 
 add-w : tie.Need-add-w Inv-loop μ-loop
-add-w c =
-    let w = c .before in
-    let a = w .before .before .before .before in
-    unit-sum _ _ _ (w .lowest .ensures) (a .fits .first .fits) (a .pre .1)
+add-w c = let a = c .before .before .before .before in unit-sum _ _ _ (c .lowest-bit .ensures) (a .fits .first .fits) (a .pre .1)
 
 put-word-requires : tie.Need-put-word-requires Inv-loop μ-loop
 put-word-requires c κs =
-    let w = c .before .before in
-    rests-room (w .before .before .loop .inv .0) (walk-next _ _ _ _ (w .lowest .ensures) _ refl)
+    let w = c .before in
+    rests-room (w .before .before .loop .inv .0) (walk-next _ _ _ _ (w .lowest-bit .ensures) _ refl)
 
 loop-less : tie.Need-loop-less Inv-loop μ-loop
 loop-less c =
-    let w = c .before .before .before .before .before .before in
-    walk-less 0 0 _ _ (w .lowest .ensures) _ (c .without .ensures) (w .before .before .loop .inv .1)
+    let w = c .before .before .before .before .before in
+    walk-less 0 0 _ _ (w .lowest-bit .ensures) _ (c .without-bit .ensures) (w .before .before .loop .inv .1)
 
 loop-again : tie.Need-loop-again Inv-loop μ-loop
 unfolding puts
 loop-again c =
     let p = c .before .before .before in
-    let w = p .before .before .before in
+    let w = p .before .before in
     let l = w .before .before in (
-      rests-next (l .loop .inv .0) (walk-next _ _ _ _ (w .lowest .ensures) _ (c .without .ensures)) (p .put-word .ensures),
-      walk-small 0 0 _ _ (w .lowest .ensures) _ (c .without .ensures) (l .loop .inv .1),
+      rests-next (l .loop .inv .0) (walk-next _ _ _ _ (w .lowest-bit .ensures) _ (c .without-bit .ensures)) (p .put-word .ensures),
+      walk-small 0 0 _ _ (w .lowest-bit .ensures) _ (c .without-bit .ensures) (l .loop .inv .1),
     )
 
 returns : tie.Need-returns Inv-loop μ-loop
