@@ -22,6 +22,7 @@ use asks_request::bounds::bound;
 use asks_request::request::limited_refusal;
 use calls::given::Rules;
 use calls::given::Window;
+use clauses_hard::question::Question;
 use ledger::bytes::line_of;
 use limits_left::roles_left;
 
@@ -53,25 +54,19 @@ fn write_clauses(
     let l = line_of(ledger, window.user as usize);
     let count = rules.count;
     let reduced = query_rooms::exclusions::reduce(xs, count, l, k);
-    let masks = reduced.masks;
-    let rooms = reduced.rooms;
     let head = rules.head;
     let lower = wanted.lower;
     let upper = wanted.upper;
-    clauses::whole::write(
-        out,
-        &rows,
+    let question = Question {
+        roles: head.roles as usize,
+        permissions: head.permissions as usize,
         authorized,
-        &masks,
-        &rooms,
-        count,
         lower,
         upper,
-        head.roles as usize,
-        head.permissions as usize,
-        wanted.first,
-        wanted.second,
-    )
+        first: wanted.first,
+        second: wanted.second,
+    };
+    clauses::whole::write(out, &rows, question, reduced)
 }
 
 // 19 for a text that is longer than the buffer, else 256 times its length.

@@ -10,6 +10,7 @@ ghost use Rattle.clauses_counter.specs.Counters.{counters};
 use clauses_lines::lines::put_both_imply;
 use clauses_lines::lines::put_implies;
 use clauses_lines::lines::put_must_not;
+use query_rooms::exclusions::Reduced;
 
 // Puts that what the row behind a counts, the next row counts too.
 fn put_keeping(out: &mut [u8], at: usize, w: usize, n: usize, a: usize) -> usize
@@ -94,20 +95,14 @@ pub fn helpers(n: usize, members: u64) -> usize
     sets::size(members) as usize * n
 }
 
-// Puts the counters of the first `count` exclusions, by the members that are not counted yet and the rooms, their
-// helpers behind a.
-pub fn put_counters(
-    out: &mut [u8],
-    at: usize,
-    w: usize,
-    a: usize,
-    masks: &[u64; 32],
-    rooms: &[u32; 32],
-    count: usize,
-) -> usize
-    requires { ⌜ (count ≤ 32) × (a ≤ 1125899906842624) ⌝ }
-    ensures { λ r. ⌜ Puts (now (out .entry)) at (linesOf w (counters (now (masks .entry)) (now (rooms .entry)) count 0 a)) (now (out .exit)) r ⌝ }
+// Puts the counters of the reduced exclusions, their helpers behind a.
+pub fn put_counters(out: &mut [u8], at: usize, w: usize, a: usize, x: Reduced) -> usize
+    requires { ⌜ (x .count ≤ 32) × (a ≤ 1125899906842624) ⌝ }
+    ensures { λ r. ⌜ Puts (now (out .entry)) at (linesOf w (counters (x .masks) (x .rooms) (x .count) 0 a)) (now (out .exit)) r ⌝ }
 {
+    let masks = x.masks;
+    let rooms = x.rooms;
+    let count = x.count;
     let mut next = at;
     let mut behind = a;
     let mut i: usize = 0;

@@ -6,8 +6,10 @@ ghost use Rattle.clauses_hard.specs.Parts.{rowsOf};
 ghost use Rattle.clauses_hard.specs.Sizes.{rowSize, tallied, counterSize, helpersTo, countersSize, carryingSize, hardSize};
 use crate::members::members_below;
 use crate::members::permissions_below;
+use crate::question::Question;
 use clauses_counter::counter::helpers;
 use clauses_counter::counter::wide;
+use query_rooms::exclusions::Reduced;
 
 // How many clauses say what roles carry.
 fn carrying_size(rows: &[[u64; 4]; 64], roles: usize, permissions: usize) -> usize
@@ -24,10 +26,13 @@ fn carrying_size(rows: &[[u64; 4]; 64], roles: usize, permissions: usize) -> usi
 }
 
 // How many helpers the exclusions have.
-pub fn helpers_of(masks: &[u64; 32], rooms: &[u32; 32], count: usize) -> usize
-    requires { ⌜ count ≤ 32 ⌝ }
-    ensures { λ r. ⌜ (r ≡ helpersTo (now (masks .entry)) (now (rooms .entry)) count) × (r ≤ 8796093020160) ⌝ }
+pub fn helpers_of(x: Reduced) -> usize
+    requires { ⌜ x .count ≤ 32 ⌝ }
+    ensures { λ r. ⌜ (r ≡ helpersTo (x .masks) (x .rooms) (x .count)) × (r ≤ 8796093020160) ⌝ }
 {
+    let masks = x.masks;
+    let rooms = x.rooms;
+    let count = x.count;
     let mut total: usize = 0;
     let mut i: usize = 0;
     while i < count {
@@ -68,10 +73,13 @@ fn counter_size(n: usize, members: u64) -> usize
 }
 
 // How many clauses the exclusions have.
-fn counters_size(masks: &[u64; 32], rooms: &[u32; 32], count: usize) -> usize
-    requires { ⌜ count ≤ 32 ⌝ }
-    ensures { λ r. ⌜ (r ≡ countersSize (now (masks .entry)) (now (rooms .entry)) count) × (r ≤ 17592186040384) ⌝ }
+fn counters_size(x: Reduced) -> usize
+    requires { ⌜ x .count ≤ 32 ⌝ }
+    ensures { λ r. ⌜ (r ≡ countersSize (x .masks) (x .rooms) (x .count)) × (r ≤ 17592186040384) ⌝ }
 {
+    let masks = x.masks;
+    let rooms = x.rooms;
+    let count = x.count;
     let mut total: usize = 0;
     let mut i: usize = 0;
     while i < count {
@@ -82,24 +90,18 @@ fn counters_size(masks: &[u64; 32], rooms: &[u32; 32], count: usize) -> usize
 }
 
 // How many hard clauses there are.
-pub fn hard_size(
-    rows: &[[u64; 4]; 64],
-    authorized: u64,
-    masks: &[u64; 32],
-    rooms: &[u32; 32],
-    count: usize,
-    lower: [u64; 4],
-    upper: [u64; 4],
-    roles: usize,
-    permissions: usize,
-) -> usize
-    requires { ⌜ (roles ≤ 64) × (permissions ≤ 256) × (count ≤ 32) ⌝ }
-    ensures { λ n. ⌜ (n ≡ hardSize roles permissions authorized (rowsOf (now (rows .entry))) (value lower) (value upper)
-        (now (masks .entry)) (now (rooms .entry)) count) × (n ≤ 35184372088832) ⌝ }
+pub fn hard_size(rows: &[[u64; 4]; 64], q: Question, x: Reduced) -> usize
+    requires { ⌜ (q .roles ≤ 64) × (q .permissions ≤ 256) × (x .count ≤ 32) ⌝ }
+    ensures { λ n. ⌜ (n ≡ hardSize (q .roles) (q .permissions) (q .authorized) (rowsOf (now (rows .entry))) (value (q .lower)) (value (q .upper))
+        (x .masks) (x .rooms) (x .count)) × (n ≤ 35184372088832) ⌝ }
 {
-    let barred = roles - members_below(authorized, roles);
+    let roles = q.roles;
+    let permissions = q.permissions;
+    let lower = q.lower;
+    let upper = q.upper;
+    let barred = roles - members_below(q.authorized, roles);
     let carried = carrying_size(rows, roles, permissions);
     let low = permissions_below(lower, permissions);
     let high = permissions - permissions_below(upper, permissions);
-    barred + carried + permissions + low + high + counters_size(masks, rooms, count)
+    barred + carried + permissions + low + high + counters_size(x)
 }

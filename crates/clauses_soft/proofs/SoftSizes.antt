@@ -9,16 +9,16 @@ use lib.ListN.{length, length-append}
 use Rattle.model.specs.Clauses.{Clause, listTo, must, mustNot, wanting, weightOf, top}
 use Rattle.encoding.proofs.ClauseLaws.{length-singles}
 use Rattle.encoding.proofs.DimacsSizes.{weight-append}
-use Rattle.clauses_soft.specs.Soft.{wantingPermissions, wantingRoles, sought, softBy}
+use Rattle.clauses_soft.specs.Soft.{wantingPermissions, wantingRoles, whereAimed, softBy}
 
-pub sought-none : (a n : ℕ) → a < 1 → 0 ≡ sought a n
-unfolding sought
-sought-none a n h = let e : a ≡ 0 = omega arith in rw e
+pub where-aimed-none : (a n : ℕ) → a < 1 → 0 ≡ whereAimed a n
+unfolding whereAimed
+where-aimed-none a n h = let e : a ≡ 0 = omega arith in rw e
 
-pub sought-some : (a n : ℕ) → 1 ≤ a → n ≡ sought a n
-unfolding sought
-sought-some zero n h = absurd (omega arith)
-sought-some (suc a) n h = refl
+pub where-aimed-some : (a n : ℕ) → 1 ≤ a → n ≡ whereAimed a n
+unfolding whereAimed
+where-aimed-some zero n h = absurd (omega arith)
+where-aimed-some (suc a) n h = refl
 
 module _ (w : ℕ) (x : ℕ → ℕ) where
   empty : (n : ℕ) → listTo n (λ i. wanting 0 w (x i)) ≡ []
@@ -26,8 +26,8 @@ module _ (w : ℕ) (x : ℕ → ℕ) where
   empty zero = refl
   empty (suc n) = rw (empty n)
 
-  wanting-length : (a n : ℕ) → length (listTo n (λ i. wanting a w (x i))) ≡ sought a n
-  unfolding wanting sought
+  wanting-length : (a n : ℕ) → length (listTo n (λ i. wanting a w (x i))) ≡ whereAimed a n
+  unfolding wanting whereAimed
   wanting-length zero n = ap length (empty n)
   wanting-length (suc zero) n = length-singles n (λ i. record { weight = w; clause = mustNot (x i) })
   wanting-length (suc (suc a)) n = length-singles n (λ i. record { weight = w; clause = must (x i) })
@@ -39,13 +39,13 @@ weight-singles w c (suc n) =
     weight-append (listTo n (λ i. record { weight = w; clause = c i } ∷ [])) (record { weight = w; clause = c n } ∷ [])
     ∙ omega (arith, weight-singles w c n, suc-mul n w)
 
-wanting-weight : (w : ℕ) (x : ℕ → ℕ) (a n : ℕ) → weightOf (listTo n (λ i. wanting a w (x i))) ≡ sought a (n * w)
-unfolding wanting sought weightOf
+wanting-weight : (w : ℕ) (x : ℕ → ℕ) (a n : ℕ) → weightOf (listTo n (λ i. wanting a w (x i))) ≡ whereAimed a (n * w)
+unfolding wanting whereAimed weightOf
 wanting-weight w x zero n = ap weightOf (empty w x n)
 wanting-weight w x (suc zero) n = weight-singles w (λ i. mustNot (x i)) n
 wanting-weight w x (suc (suc a)) n = weight-singles w (λ i. must (x i)) n
 
-pub soft-length : (R P a b m n : ℕ) → m ≡ sought a P → n ≡ sought b R → m + n ≡ length (softBy R P a b)
+pub soft-length : (R P a b m n : ℕ) → m ≡ whereAimed a P → n ≡ whereAimed b R → m + n ≡ length (softBy R P a b)
 unfolding softBy wantingPermissions wantingRoles
 soft-length R P a b m n e f =
     rw (e, f)
@@ -55,7 +55,7 @@ soft-length R P a b m n e f =
 pub weights-small : (R P : ℕ) → R ≤ 64 → P ≤ 256 → P * (R + 1) ≤ 16640
 weights-small R P h g = mul-le-mul {n₁ = P} {m₁ = R + 1} {n₂ = 256} {m₂ = 65} g (omega arith)
 
-pub soft-top : (R P a b m n : ℕ) → m ≡ sought a (P * (R + 1)) → n ≡ sought b R → m + n + 1 ≡ top (softBy R P a b)
+pub soft-top : (R P a b m n : ℕ) → m ≡ whereAimed a (P * (R + 1)) → n ≡ whereAimed b R → m + n + 1 ≡ top (softBy R P a b)
 unfolding softBy wantingPermissions wantingRoles top
 soft-top R P a b m n e f =
     rw (e, f)

@@ -15,6 +15,6 @@ unfoldable pub softBy : ℕ → ℕ → ℕ → ℕ → List Weighted
 softBy R P a b = wantingPermissions R P a ++ wantingRoles R b
 
 -- n, where there is an objective
-unfoldable pub sought : ℕ → ℕ → ℕ
-sought zero n = 0
-sought (suc a) n = n
+unfoldable pub whereAimed : ℕ → ℕ → ℕ
+whereAimed zero n = 0
+whereAimed (suc a) n = n

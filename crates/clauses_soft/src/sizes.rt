@@ -3,11 +3,11 @@ ghost use mathlib.Core.Path.{_≡_};
 ghost use Prim.Native.Nat.{_+_, _*_, _≤_, _<_};
 ghost use lib.ListN.{length};
 ghost use Rattle.model.specs.Clauses.{top};
-ghost use Rattle.clauses_soft.specs.Soft.{sought as soughtOf, softBy};
+ghost use Rattle.clauses_soft.specs.Soft.{whereAimed, softBy};
 
 // n, where there is an objective.
-fn sought(aim: u8, n: usize) -> usize
-    ensures { λ r. ⌜ (r ≡ soughtOf aim n) × (r ≤ n) ⌝ }
+fn where_aimed(aim: u8, n: usize) -> usize
+    ensures { λ r. ⌜ (r ≡ whereAimed aim n) × (r ≤ n) ⌝ }
 {
     if aim < 1 {
         return 0;
@@ -20,13 +20,13 @@ pub fn soft_size(first: u8, second: u8, roles: usize, permissions: usize) -> usi
     requires { ⌜ (roles ≤ 64) × (permissions ≤ 256) ⌝ }
     ensures { λ n. ⌜ (n ≡ length (softBy roles permissions first second)) × (n ≤ 320) ⌝ }
 {
-    sought(first, permissions) + sought(second, roles)
+    where_aimed(first, permissions) + where_aimed(second, roles)
 }
 
-// The weight of a hard clause.
-pub fn heavy(first: u8, second: u8, roles: usize, permissions: usize) -> usize
+// The weight of a hard clause: the top of the head line, above all soft ones together.
+pub fn top_weight(first: u8, second: u8, roles: usize, permissions: usize) -> usize
     requires { ⌜ (roles ≤ 64) × (permissions ≤ 256) ⌝ }
     ensures { λ n. ⌜ n ≡ top (softBy roles permissions first second) ⌝ }
 {
-    sought(first, permissions * (roles + 1)) + sought(second, roles) + 1
+    where_aimed(first, permissions * (roles + 1)) + where_aimed(second, roles) + 1
 }

@@ -2,12 +2,10 @@
 ghost use mathlib.Core.List.{[], _∷_};
 ghost use Prim.Native.Nat.{_+_, _≤_};
 ghost use Rattle.model.specs.Dimacs.{ascii, decimal, headText, clausesText};
-ghost use Rattle.sets.specs.Words.{value};
 ghost use Rattle.clauses_bytes.specs.Putting.{Puts};
 ghost use Rattle.clauses_lines.specs.Lines.{linesOf};
-ghost use Rattle.clauses_hard.specs.Parts.{rowsOf, hardBy};
 ghost use Rattle.clauses_soft.specs.Soft.{softBy};
-ghost use Rattle.clauses_text.specs.Whole.{textBy};
+ghost use Rattle.clauses_text.specs.Whole.{hardFor, textFor};
 use clauses_bytes::bytes::put;
 use clauses_bytes::bytes::put_decimal;
 use clauses_counter::counter::put_counters;
@@ -16,12 +14,14 @@ use clauses_hard::carries::put_carried;
 use clauses_hard::carries::put_carrying;
 use clauses_hard::carries::put_lower_bound;
 use clauses_hard::carries::put_upper_bound;
+use clauses_hard::question::Question;
 use clauses_hard::sizes::hard_size;
 use clauses_hard::sizes::helpers_of;
-use clauses_soft::sizes::heavy;
 use clauses_soft::sizes::soft_size;
+use clauses_soft::sizes::top_weight;
 use clauses_soft::soft::put_wanting_permissions;
 use clauses_soft::soft::put_wanting_roles;
+use query_rooms::exclusions::Reduced;
 
 // ---- the head
 
@@ -58,13 +58,13 @@ fn put_number(out: &mut [u8], at: usize, n: usize) -> usize
 }
 
 // Puts the head line.
-fn put_head(out: &mut [u8], at: usize, variables: usize, clauses: usize, heavy: usize) -> usize
-    ensures { λ r. ⌜ Puts (now (out .entry)) at (headText variables clauses heavy) (now (out .exit)) r ⌝ }
+fn put_head(out: &mut [u8], at: usize, variables: usize, clauses: usize, top: usize) -> usize
+    ensures { λ r. ⌜ Puts (now (out .entry)) at (headText variables clauses top) (now (out .exit)) r ⌝ }
 {
     let a = put_mark(out, at);
     let b = put_decimal(out, a, variables);
     let c = put_number(out, b, clauses);
-    let d = put_number(out, c, heavy);
+    let d = put_number(out, c, top);
     put(out, d, 10)
 }
 
@@ -76,26 +76,22 @@ fn put_hard(
     at: usize,
     w: usize,
     rows: &[[u64; 4]; 64],
-    authorized: u64,
-    masks: &[u64; 32],
-    rooms: &[u32; 32],
-    count: usize,
-    lower: [u64; 4],
-    upper: [u64; 4],
-    roles: usize,
-    permissions: usize,
+    q: Question,
+    x: Reduced,
 ) -> usize
-    requires { ⌜ (roles ≤ 64) × (permissions ≤ 256) × (count ≤ 32) ⌝ }
-    ensures { λ n. ⌜ Puts (now (out .entry)) at
-        (linesOf w (hardBy roles permissions authorized (rowsOf (now (rows .entry))) (value lower) (value upper) (now (masks .entry)) (now (rooms .entry))
-        count)) (now (out .exit)) n ⌝ }
+    requires { ⌜ (q .roles ≤ 64) × (q .permissions ≤ 256) × (x .count ≤ 32) ⌝ }
+    ensures { λ n. ⌜ Puts (now (out .entry)) at (linesOf w (hardFor q (now (rows .entry)) x)) (now (out .exit)) n ⌝ }
 {
-    let a = put_barring(out, at, w, authorized, roles);
+    let roles = q.roles;
+    let permissions = q.permissions;
+    let lower = q.lower;
+    let upper = q.upper;
+    let a = put_barring(out, at, w, q.authorized, roles);
     let b = put_carrying(out, a, w, rows, roles, permissions);
     let c = put_carried(out, b, w, rows, roles, permissions);
     let d = put_lower_bound(out, c, w, lower, roles, permissions);
     let e = put_upper_bound(out, d, w, upper, roles, permissions);
-    put_counters(out, e, w, roles + permissions, masks, rooms, count)
+    put_counters(out, e, w, roles + permissions, x)
 }
 
 // Puts the soft clauses.
@@ -117,54 +113,19 @@ fn put_soft(
 // ---- the text
 
 // Puts the whole text.
-pub fn put_text(
-    out: &mut [u8],
-    at: usize,
-    rows: &[[u64; 4]; 64],
-    authorized: u64,
-    masks: &[u64; 32],
-    rooms: &[u32; 32],
-    count: usize,
-    lower: [u64; 4],
-    upper: [u64; 4],
-    roles: usize,
-    permissions: usize,
-    first: u8,
-    second: u8,
-) -> usize
-    requires { ⌜ (roles ≤ 64) × (permissions ≤ 256) × (count ≤ 32) ⌝ }
-    ensures { λ n. ⌜ Puts (now (out .entry)) at
-        (textBy roles permissions authorized (rowsOf (now (rows .entry))) (value lower) (value upper) (now (masks .entry)) (now (rooms .entry)) count
-        first second) (now (out .exit)) n ⌝ }
+pub fn put_text(out: &mut [u8], at: usize, rows: &[[u64; 4]; 64], q: Question, x: Reduced) -> usize
+    requires { ⌜ (q .roles ≤ 64) × (q .permissions ≤ 256) × (x .count ≤ 32) ⌝ }
+    ensures { λ n. ⌜ Puts (now (out .entry)) at (textFor q (now (rows .entry)) x) (now (out .exit)) n ⌝ }
 {
-    let w = heavy(first, second, roles, permissions);
-    let variables = roles + permissions + helpers_of(masks, rooms, count);
-    let hard = hard_size(
-        rows,
-        authorized,
-        masks,
-        rooms,
-        count,
-        lower,
-        upper,
-        roles,
-        permissions,
-    );
+    let roles = q.roles;
+    let permissions = q.permissions;
+    let first = q.first;
+    let second = q.second;
+    let w = top_weight(first, second, roles, permissions);
+    let variables = roles + permissions + helpers_of(x);
+    let hard = hard_size(rows, q, x);
     let clauses = hard + soft_size(first, second, roles, permissions);
     let a = put_head(out, at, variables, clauses, w);
-    let b = put_hard(
-        out,
-        a,
-        w,
-        rows,
-        authorized,
-        masks,
-        rooms,
-        count,
-        lower,
-        upper,
-        roles,
-        permissions,
-    );
+    let b = put_hard(out, a, w, rows, q, x);
     put_soft(out, b, first, second, roles, permissions)
 }

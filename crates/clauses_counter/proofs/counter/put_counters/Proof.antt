@@ -24,8 +24,8 @@ abbrev μ-loop : tie.MeasureT-loop
 loop-again : tie.Need-loop-again Inv-loop μ-loop
 loop-again c =
     let p = c .before .before .before in
-    let n = p .before .before .before in
-    let inv = n .before .before .before .loop .inv in (
+    let n = p .before .before in
+    let inv = n .before .before .loop .inv in (
       search needs,
       omega (arith, c .helpers .ensures .1),
       search needs,

@@ -19,8 +19,8 @@ abbrev μ-loop : tie.MeasureT-loop
 
 loop-again : tie.Need-loop-again Inv-loop μ-loop
 loop-again c =
-    let n = c .before .before in
-    let l = n .before .before .before in
+    let n = c .before in
+    let l = n .before .before in
     (search needs, sum-next _ _ _ _ (l .loop .inv .1) (rw (n .wide .ensures .0) at (c .helpers .ensures .0)), search needs)
 
 pub helpers-of-spec : {M : Type 1} → statement M

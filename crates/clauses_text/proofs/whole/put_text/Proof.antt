@@ -15,7 +15,7 @@ returns c =
     let m = n .before in
     let h = m .before in
     put3 (p .put-soft .ensures) (q .put-hard .ensures) (s .put-head .ensures)
-    (whole-text _ _ _ _ _ _ _ _ _ _ _ _ _ _ _ (h .before .heavy .ensures) (h .helpers-of .ensures .0) (m .hard-size .ensures .0)
+    (whole-text _ _ _ _ _ _ _ _ _ _ _ _ _ _ _ (h .before .top-weight .ensures) (h .helpers-of .ensures .0) (m .hard-size .ensures .0)
     (n .soft-size .ensures .0))
 
 pub put-text-spec : {M : Type 1} → statement M
