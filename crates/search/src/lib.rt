@@ -17,6 +17,7 @@ use query_rank::Best;
 use query_rank::Job;
 use query_rank::NONE;
 use query_rooms::rooms::room_for;
+use search_steps::Node;
 use search_steps::permission_step;
 use search_steps::subset_step;
 
@@ -45,6 +46,11 @@ fn best_of(rows: &[[u64; 4]; 64], masks: &[u64; 32], rooms: &[u32; 32], job: Job
         key: NONE,
         roles: 0,
     };
+    let root = Node {
+        free,
+        chosen: 0,
+        carried: [0u64; 4],
+    };
     let first = job.first;
     let second = job.second;
     if first < 2 {
@@ -52,11 +58,11 @@ fn best_of(rows: &[[u64; 4]; 64], masks: &[u64; 32], rooms: &[u32; 32], job: Job
             let lower = job.lower;
             let mut turned = [0u64; 256];
             join_carriers(&mut turned, rows, free, lower);
-            return permission_step(rows, masks, rooms, job, free, 0, [0u64; 4], none, &turned);
+            return permission_step(rows, masks, rooms, job, root, none, &turned);
         }
     }
     let from = reach(rows, free);
-    subset_step(rows, &from, masks, rooms, job, free, 0, [0u64; 4], none)
+    subset_step(rows, &from, masks, rooms, job, root, none)
 }
 
 // The best admissible role set, of the roles that the user may activate: at least the lower bound, nothing outside the upper, and

@@ -14,6 +14,13 @@ use query_rank::no_worse;
 use query_rank::settled;
 use query_rooms::rooms::room_for;
 
+// A node of a search: the roles still free, the roles chosen so far, and the permissions that these carry.
+pub struct Node {
+    pub free: u64,
+    pub chosen: u64,
+    pub carried: [u64; 4],
+}
+
 // 003's Procedure 3: a permission that is asked for and not carried is taken up, and the roles that carry it are tried. A set that is
 // no better than the best so far is given up, since a larger one is no better than it.
 pub fn permission_step(
@@ -21,16 +28,16 @@ pub fn permission_step(
     masks: &[u64; 32],
     rooms: &[u32; 32],
     job: Job,
-    free: u64,
-    chosen: u64,
-    carried: [u64; 4],
+    node: Node,
     best: Best,
     turned: &[u64; 256],
 ) -> Best
-    requires { ⌜ (Ready (taskOf (now rows) (now masks) (now rooms) job) (job .count) chosen (value carried))
-        × (Modest (taskOf (now rows) (now masks) (now rooms) job)) × (Turned (rowsOf (now rows)) (now turned) (value (job .lower)) free) ⌝ }
-    ensures { λ r. ⌜ Found (taskOf (now (rows .entry)) (now (masks .entry)) (now (rooms .entry)) job) chosen free best r ⌝ }
+    requires { ⌜ (Ready (taskOf (now rows) (now masks) (now rooms) job) (job .count) (node .chosen) (value (node .carried)))
+        × (Modest (taskOf (now rows) (now masks) (now rooms) job)) × (Turned (rowsOf (now rows)) (now turned) (value (job .lower)) (node .free)) ⌝ }
+    ensures { λ r. ⌜ Found (taskOf (now (rows .entry)) (now (masks .entry)) (now (rooms .entry)) job) (node .chosen) (node .free) best r ⌝ }
 {
+    let chosen = node.chosen;
+    let carried = node.carried;
     let key = key_of(job, chosen, carried);
     if no_worse(best, key, chosen) {
         return best;
@@ -43,19 +50,8 @@ pub fn permission_step(
         };
     }
     let p = missing(lower, carried);
-    let tries = sets::inter(free, turned[p.0 as usize]);
-    role_step(
-        rows,
-        masks,
-        rooms,
-        job,
-        tries,
-        free,
-        chosen,
-        carried,
-        best,
-        turned,
-    )
+    let tries = sets::inter(node.free, turned[p.0 as usize]);
+    role_step(rows, masks, rooms, job, tries, node, best, turned)
 }
 
 // The roles of tries are tried. One that was tried is barred from what is tried after it.
@@ -65,19 +61,20 @@ pub fn role_step(
     rooms: &[u32; 32],
     job: Job,
     tries: u64,
-    free: u64,
-    chosen: u64,
-    carried: [u64; 4],
+    node: Node,
     best: Best,
     turned: &[u64; 256],
 ) -> Best
-    requires { ⌜ (Ready (taskOf (now rows) (now masks) (now rooms) job) (job .count) chosen (value carried))
-        × (Modest (taskOf (now rows) (now masks) (now rooms) job)) × (Sub tries free) × (Turned (rowsOf (now rows)) (now turned) (value (job .lower)) free) ⌝ }
-    ensures { λ r. ⌜ Tried (taskOf (now (rows .entry)) (now (masks .entry)) (now (rooms .entry)) job) tries chosen free best r ⌝ }
+    requires { ⌜ (Ready (taskOf (now rows) (now masks) (now rooms) job) (job .count) (node .chosen) (value (node .carried)))
+        × (Modest (taskOf (now rows) (now masks) (now rooms) job)) × (Sub tries (node .free))
+        × (Turned (rowsOf (now rows)) (now turned) (value (job .lower)) (node .free)) ⌝ }
+    ensures { λ r. ⌜ Tried (taskOf (now (rows .entry)) (now (masks .entry)) (now (rooms .entry)) job) tries (node .chosen) (node .free) best r ⌝ }
 {
     let count = job.count;
+    let chosen = node.chosen;
+    let carried = node.carried;
     let mut left = tries;
-    let mut still = free;
+    let mut still = node.free;
     let mut found = best;
     while left != 0 {
         let role = sets::lowest(left);
@@ -91,7 +88,12 @@ pub fn role_step(
         }
         let i = role.0 as usize;
         let sum = sets::perm_union(carried, rows[i]);
-        let next = permission_step(rows, masks, rooms, job, less, more, sum, found, turned);
+        let below = Node {
+            free: less,
+            chosen: more,
+            carried: sum,
+        };
+        let next = permission_step(rows, masks, rooms, job, below, found, turned);
         found = next;
     }
     found
@@ -105,19 +107,19 @@ pub fn subset_step(
     masks: &[u64; 32],
     rooms: &[u32; 32],
     job: Job,
-    free: u64,
-    chosen: u64,
-    carried: [u64; 4],
+    node: Node,
     best: Best,
 ) -> Best
-    requires { ⌜ (Ready (taskOf (now rows) (now masks) (now rooms) job) (job .count) chosen (value carried))
-        × (Reaches (rowsOf (now rows)) (rowsOf (now reach)) free) ⌝ }
-    ensures { λ r. ⌜ Found (taskOf (now (rows .entry)) (now (masks .entry)) (now (rooms .entry)) job) chosen free best r ⌝ }
+    requires { ⌜ (Ready (taskOf (now rows) (now masks) (now rooms) job) (job .count) (node .chosen) (value (node .carried)))
+        × (Reaches (rowsOf (now rows)) (rowsOf (now reach)) (node .free)) ⌝ }
+    ensures { λ r. ⌜ Found (taskOf (now (rows .entry)) (now (masks .entry)) (now (rooms .entry)) job) (node .chosen) (node .free) best r ⌝ }
 {
+    let chosen = node.chosen;
+    let carried = node.carried;
     let permissions = fewest_permissions(job.first, carried);
     let roles = fewest_roles(job.second, chosen);
     let count = job.count;
-    let mut left = free;
+    let mut left = node.free;
     let mut found = best;
     while left != 0 {
         let role = sets::lowest(left);
@@ -133,7 +135,12 @@ pub fn subset_step(
             continue;
         }
         let sum = sets::perm_union(carried, rows[i]);
-        let next = subset_step(rows, reach, masks, rooms, job, less, wider, sum, found);
+        let below = Node {
+            free: less,
+            chosen: wider,
+            carried: sum,
+        };
+        let next = subset_step(rows, reach, masks, rooms, job, below, found);
         found = next;
     }
     judged(job, chosen, carried, found)

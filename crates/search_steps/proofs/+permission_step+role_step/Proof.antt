@@ -37,10 +37,10 @@ use Rattle.search_steps.proofs.+permission_step+role_step.{statement}
 use Rattle.search_steps.proofs.+permission_step+role_step.Tie.{close}
 
 abbrev μ-permission-step : Measures 4 permission-step-kinds.ps ℕ
-μ-permission-step κs a = wanted (value (a .1 .1 .1 .0 .lower)) (value (a .1 .1 .1 .1 .1 .1 .0)) + 2 * count 64 (a .1 .1 .1 .1 .0) + 1
+μ-permission-step κs a = wanted (value (a .1 .1 .1 .0 .lower)) (value (a .1 .1 .1 .1 .0 .carried)) + 2 * count 64 (a .1 .1 .1 .1 .0 .free) + 1
 
 abbrev μ-role-step : Measures 4 role-step-kinds.ps ℕ
-μ-role-step κs a = wanted (value (a .1 .1 .1 .0 .lower)) (value (a .1 .1 .1 .1 .1 .1 .1 .0)) + 2 * count 64 (a .1 .1 .1 .1 .1 .0)
+μ-role-step κs a = wanted (value (a .1 .1 .1 .0 .lower)) (value (a .1 .1 .1 .1 .1 .0 .carried)) + 2 * count 64 (a .1 .1 .1 .1 .1 .0 .free)
 
 abbrev permission-step-at : ℕ → In 4 permission-step-kinds.ps
 permission-step-at t = and 4 permission-step-kinds.ps (is 4 permission-step-kinds.ps μ-permission-step t) permission-step.Pre
@@ -55,11 +55,11 @@ abbrev role-step-below : ℕ → In 4 role-step-kinds.ps
 role-step-below t = and 4 role-step-kinds.ps (falls 4 role-step-kinds.ps _<_ μ-role-step t) role-step.Pre
 
 abbrev Inv-loop : role-step-lts.InvT-loop
-Inv-loop rows masks rooms job tries free chosen carried turned n left₀ still₀ found₀ left still found =
-    Trying (taskOf rows masks rooms job) tries chosen free found₀ left still found
+Inv-loop rows masks rooms job tries turned n chosen carried left₀ still₀ found₀ left still found =
+    Trying (taskOf rows masks rooms job) tries chosen still₀ found₀ left still found
 
 abbrev μ-loop : role-step-lts.MeasureT-loop
-μ-loop rows masks rooms job tries free chosen carried turned n left₀ still₀ found₀ left still found = count 64 left
+μ-loop rows masks rooms job tries turned n chosen carried left₀ still₀ found₀ left still found = count 64 left
 
 pub +permission-step+role-step-spec : {M : Type 1} → statement M
 +permission-step+role-step-spec =
@@ -81,12 +81,13 @@ pub +permission-step+role-step-spec : {M : Type 1} → statement M
     permission-step.Post
     (λ c κs. search needs)
     (λ c κs. search needs)
-    (λ c. let s = c .before .before .before in
+    (λ c. let s = c .before .before .before .before in
     let g = s .args in
     gives-up (taskOf (now (g .rows)) (now (g .masks)) (now (g .rooms)) (g .job)) _ _ _ _ _ _ (s .pre .1 .0) (c .before .before .key-of .ensures)
     (c .before .no-worse .ensures) _ (s .pre .1 .1) (c .if1 .taken))
     (λ c κs. search needs)
-    (λ c. let s = c .before .before .before .before .before .before in
+    (λ c. let w = c .before .before .before in
+    let s = w .before .before .before .before in
     let g = s .args in
     reaches (taskOf (now (g .rows)) (now (g .masks)) (now (g .rooms)) (g .job)) _ _ _ _ _ _ (s .pre .1 .0)
     (c .before .before .before .before .before .key-of .ensures) (c .before .before .before .before .no-worse .ensures) _ (s .pre .1 .1)
@@ -97,12 +98,12 @@ pub +permission-step+role-step-spec : {M : Type 1} → statement M
     (λ c. search needs)
     (λ c κs. search needs)
     (λ c κs. let k = c .before .before .before .before .before in
-    let s = k .before .before .before .before .before in
-    (omega (arith, s .pre .0), (s .pre .1 .0, s .pre .1 .1, tries-sub (s .args .free) _ (c .inter .result) (c .inter .ensures), s .pre .1 .2)))
+    let s = k .before .before .before .before .before .before in
+    (omega (arith, s .pre .0), (s .pre .1 .0, s .pre .1 .1, tries-sub (s .args .node .free) _ (c .inter .result) (c .inter .ensures), s .pre .1 .2)))
     (λ c. let h = c .before in
     let m = h .before .before .before in
     let w = m .before .before in
-    let s = w .before .before .before .before .before in
+    let s = w .before .before .before .before .before .before in
     let g = s .args in
     goes-on (taskOf (now (g .rows)) (now (g .masks)) (now (g .rooms)) (g .job)) _ _ _ _ (s .pre .1 .0) _ (w .perm-within .ensures) (now (g .turned))
     _ (m .missing .result .0) (h .inter .result) _ (m .before .if2 .left) (m .missing .ensures) (s .pre .1 .2) (h .inter .ensures) (c .role-step .ensures)))
@@ -124,24 +125,25 @@ pub +permission-step+role-step-spec : {M : Type 1} → statement M
     role-step.Post
     Inv-loop
     μ-loop
-    (λ c. trying-start _ _ _ _ _ (c .pre .1 .2))
+    (λ c. trying-start _ _ _ _ _ (c .before .pre .1 .2))
     (λ c κs. search needs)
     (λ c κs. search needs)
     (λ c κs. search needs)
     (λ c κs. search needs)
     (λ c κs. let l = c .before .before .before in
-    l .before .before .before .pre .1 .0 .few)
+    l .before .before .before .before .pre .1 .0 .few)
     (λ c. let r = c .before .before .before .before in
     let l = r .before in
     let k = l .before .before in
     let inv = k .loop .inv in
-    fewer-left (k .before .args .free) (k .loop .left) (l .lowest .result .0) _ (k .before .fits .free .fits) (λ i m. inv .fewer i (inv .inside i m))
+    let s = k .before .before in
+    fewer-left (s .args .node .free) (k .loop .left) (l .lowest .result .0) _ (s .good .1 .1 .1 .1 .1 .0 .1 .1 .0 .1) (λ i m. inv .fewer i (inv .inside i m))
     (l .lowest .ensures .small) (l .lowest .ensures .member) (r .without .ensures))
     (λ c. let w = c .before .before in
     let f = w .before in
     let l = f .before .before in
     let k = l .before .before in
-    let g = k .before .args in
+    let g = k .before .before .args in
     trying-off (taskOf (now (g .rows)) (now (g .masks)) (now (g .rooms)) (g .job)) (roomy-less (now (g .masks)) (now (g .rooms)) (g .job .count)) _ _ _ _
     (k .loop .left) _ _ (k .loop .inv) _ _ _ _ _ (l .lowest .ensures .member) (f .before .without .ensures) (f .without2 .ensures) (w .with .ensures)
     (c .before .room-for .ensures) (not-true _ (c .if1 .taken)))
@@ -154,7 +156,7 @@ pub +permission-step+role-step-spec : {M : Type 1} → statement M
     let f = w .before in
     let l = f .before .before in
     let k = l .before .before in
-    let s = k .before in
+    let s = k .before .before in
     let g = s .args in
     let low = l .lowest .ensures in
     let inv = k .loop .inv in
@@ -162,15 +164,16 @@ pub +permission-step+role-step-spec : {M : Type 1} → statement M
       omega (
         arith,
         s .pre .0,
-        fewer-free (g .free) (k .loop .still) (l .lowest .result .0) _ (s .fits .free .fits) (inv .fewer) (low .small) on (f .without2 .ensures),
-        wanted-less (value (g .job .lower)) (value (g .carried)) _ (value (c .perm-union .result)) (c .perm-union .ensures),
+        fewer-free (g .node .free) (k .loop .still) (l .lowest .result .0) _ (s .good .1 .1 .1 .1 .1 .0 .1 .1 .0 .1) (inv .fewer) (low .small)
+            on (f .without2 .ensures),
+        wanted-less (value (g .job .lower)) (value (g .node .carried)) _ (value (c .perm-union .result)) (c .perm-union .ensures),
       ),
       (
         ready-more (taskOf (now (g .rows)) (now (g .masks)) (now (g .rooms)) (g .job)) _ _ _ _ (s .pre .1 .0) _ _ _ _ (low .small) (w .with .ensures)
             (c .perm-union .ensures) refl (i .before .room-for .ensures) (not-false _ (i .if1 .left)),
         s .pre .1 .1,
-        turned-sub (rowsOf (now (g .rows))) (now (g .turned)) (value (g .job .lower)) (g .free) _ (s .pre .1 .3)
-            (less-free (g .free) (k .loop .still) (l .lowest .result .0) _ (inv .fewer) on (f .without2 .ensures)),
+        turned-sub (rowsOf (now (g .rows))) (now (g .turned)) (value (g .job .lower)) (g .node .free) _ (s .pre .1 .3)
+            (less-free (g .node .free) (k .loop .still) (l .lowest .result .0) _ (inv .fewer) on (f .without2 .ensures)),
       ),
     ))
     (λ c. let i = c .before .before .before .before in
@@ -178,14 +181,15 @@ pub +permission-step+role-step-spec : {M : Type 1} → statement M
     let l = r .before in
     let k = l .before .before in
     let inv = k .loop .inv in
-    fewer-left (k .before .args .free) (k .loop .left) (l .lowest .result .0) _ (k .before .fits .free .fits) (λ i m. inv .fewer i (inv .inside i m))
+    let s = k .before .before in
+    fewer-left (s .args .node .free) (k .loop .left) (l .lowest .result .0) _ (s .good .1 .1 .1 .1 .1 .0 .1 .1 .0 .1) (λ i m. inv .fewer i (inv .inside i m))
     (l .lowest .ensures .small) (l .lowest .ensures .member) (r .without .ensures))
     (λ c. let i = c .before .before .before .before in
     let w = i .before .before in
     let f = w .before in
     let l = f .before .before in
     let k = l .before .before in
-    let g = k .before .args in
+    let g = k .before .before .args in
     trying-on (taskOf (now (g .rows)) (now (g .masks)) (now (g .rooms)) (g .job)) (roomy-less (now (g .masks)) (now (g .rooms)) (g .job .count)) _ _ _ _
     (k .loop .left) _ _ (k .loop .inv) _ _ _ _ _ (l .lowest .ensures .member) (f .before .without .ensures) (f .without2 .ensures) (w .with .ensures)
     (i .before .room-for .ensures) _ (c .permission-step .ensures))

@@ -29,7 +29,7 @@ use Rattle.search_steps.proofs.+subset_step.{statement}
 use Rattle.search_steps.proofs.+subset_step.Tie.{close}
 
 abbrev μ-subset-step : Measures 4 subset-step-kinds.ps ℕ
-μ-subset-step κs a = count 64 (a .1 .1 .1 .1 .1 .0)
+μ-subset-step κs a = count 64 (a .1 .1 .1 .1 .1 .0 .free)
 
 abbrev subset-step-at : ℕ → In 4 subset-step-kinds.ps
 subset-step-at t = and 4 subset-step-kinds.ps (is 4 subset-step-kinds.ps μ-subset-step t) subset-step.Pre
@@ -38,11 +38,11 @@ abbrev subset-step-below : ℕ → In 4 subset-step-kinds.ps
 subset-step-below t = and 4 subset-step-kinds.ps (falls 4 subset-step-kinds.ps _<_ μ-subset-step t) subset-step.Pre
 
 abbrev Inv-loop : subset-step-lts.InvT-loop
-Inv-loop rows reach masks rooms job free chosen carried permissions roles n left₀ found₀ left found =
-    Walking (taskOf rows masks rooms job) chosen free found₀ left found
+Inv-loop rows reach masks rooms job chosen carried permissions roles n left₀ found₀ left found =
+    Walking (taskOf rows masks rooms job) chosen left₀ found₀ left found
 
 abbrev μ-loop : subset-step-lts.MeasureT-loop
-μ-loop rows reach masks rooms job free chosen carried permissions roles n left₀ found₀ left found = count 64 left
+μ-loop rows reach masks rooms job chosen carried permissions roles n left₀ found₀ left found = count 64 left
 
 pub +subset-step-spec : {M : Type 1} → statement M
 +subset-step-spec =
@@ -85,26 +85,27 @@ pub +subset-step-spec : {M : Type 1} → statement M
     let l = u .before .before .before in
     let k = l .before .before in
     let n = k .before in
-    let s = n .before .before in
+    let s = n .before .before .before in
     let g = s .args in
     k .loop .inv .rest _ (cuts-off (now (g .rows)) (now (g .reach)) (now (g .masks)) (now (g .rooms)) (g .job) _ _ _ _ _ _ _ (s .pre .1 .0)
-    (reaches-sub _ _ (g .free) (k .loop .left) (k .loop .inv .inside) (s .pre .1 .1)) (l .lowest .ensures) (u .perm-union .ensures)
+    (reaches-sub _ _ (g .node .free) (k .loop .left) (k .loop .inv .inside) (s .pre .1 .1)) (l .lowest .ensures) (u .perm-union .ensures)
     (λ e. c .before .settled .ensures e _ (n .before .fewest-permissions .ensures) (n .fewest-roles .ensures)) (c .if1 .taken)))
     (λ c κs. search needs)
     (λ c κs. search needs)
     (λ c κs. let l = c .before .before .before .before .before .before in
-    l .before .before .before .before .before .before .pre .1 .0 .few)
+    let k = l .before .before .before in
+    k .before .before .before .before .pre .1 .0 .few)
     (λ c. let f = c .before .before .before in
     let l = f .before .before .before .before .before .before in
     let k = l .before .before in
-    let s = k .before .before .before in
-    fewer-left (s .args .free) (k .loop .left) (l .lowest .result .0) _ (s .fits .free .fits) (k .loop .inv .inside)
+    let s = k .before .before .before .before in
+    fewer-left (s .args .node .free) (k .loop .left) (l .lowest .result .0) _ (s .good .1 .1 .1 .1 .1 .0 .1 .1 .0 .1) (k .loop .inv .inside)
     (l .lowest .ensures .small) (l .lowest .ensures .member) (f .without .ensures))
     (λ c. let w = c .before .before in
     let f = w .before in
     let l = f .before .before .before .before .before .before in
     let k = l .before .before in
-    let g = k .before .before .before .args in
+    let g = k .before .before .before .before .args in
     walking-off (taskOf (now (g .rows)) (now (g .masks)) (now (g .rooms)) (g .job)) (roomy-less (now (g .masks)) (now (g .rooms)) (g .job .count)) _ _ _
     (k .loop .left) _ (k .loop .inv) _ _ _ _ (l .lowest .ensures .member) (f .without .ensures) (w .with .ensures) (c .before .room-for .ensures)
     (not-true _ (c .if2 .taken)))
@@ -116,40 +117,41 @@ pub +subset-step-spec : {M : Type 1} → statement M
     let f = w .before in
     let l = f .before .before .before .before .before .before in
     let k = l .before .before in
-    let s = k .before .before .before in
+    let s = k .before .before .before .before in
     let g = s .args in
     let low = l .lowest .ensures in
     let inside = k .loop .inv .inside in (
       omega (
         arith,
         s .pre .0,
-        fewer-free (g .free) (k .loop .left) (l .lowest .result .0) _ (s .fits .free .fits) inside (low .small) (low .member)
-            (f .without .ensures),
+        fewer-free (g .node .free) (k .loop .left) (l .lowest .result .0) _ (s .good .1 .1 .1 .1 .1 .0 .1 .1 .0 .1) inside (low .small)
+            (low .member) (f .without .ensures),
       ),
       (
         ready-more (taskOf (now (g .rows)) (now (g .masks)) (now (g .rooms)) (g .job)) _ _ _ _ (s .pre .1 .0) _ _ _ _ (low .small)
             (w .with .ensures) (c .perm-union2 .ensures) refl (i .before .room-for .ensures) (not-false _ (i .if2 .left)),
-        reaches-sub _ _ (g .free) _ (less-free (g .free) (k .loop .left) (l .lowest .result .0) _ inside (low .member) (f .without .ensures)) (s .pre .1 .1),
+        reaches-sub _ _ (g .node .free) _
+            (less-free (g .node .free) (k .loop .left) (l .lowest .result .0) _ inside (low .member) (f .without .ensures)) (s .pre .1 .1),
       ),
     ))
     (λ c. let f = c .before .before .before .before .before .before in
     let l = f .before .before .before .before .before .before in
     let k = l .before .before in
-    let s = k .before .before .before in
-    fewer-left (s .args .free) (k .loop .left) (l .lowest .result .0) _ (s .fits .free .fits) (k .loop .inv .inside)
+    let s = k .before .before .before .before in
+    fewer-left (s .args .node .free) (k .loop .left) (l .lowest .result .0) _ (s .good .1 .1 .1 .1 .1 .0 .1 .1 .0 .1) (k .loop .inv .inside)
     (l .lowest .ensures .small) (l .lowest .ensures .member) (f .without .ensures))
     (λ c. let i = c .before .before .before in
     let w = i .before .before in
     let f = w .before in
     let l = f .before .before .before .before .before .before in
     let k = l .before .before in
-    let g = k .before .before .before .args in
+    let g = k .before .before .before .before .args in
     walking-on (taskOf (now (g .rows)) (now (g .masks)) (now (g .rooms)) (g .job)) (roomy-less (now (g .masks)) (now (g .rooms)) (g .job .count)) _ _ _
     (k .loop .left) _ (k .loop .inv) _ _ _ _ (l .lowest .ensures .member) (f .without .ensures) (w .with .ensures) (i .before .room-for .ensures) _
     (c .subset-step .ensures))
     (λ c κs. search needs)
     (λ c. let k = c .before .before in
-    let s = k .before .before .before in
+    let s = k .before .before .before .before in
     let g = s .args in
     k .loop .inv .rest _ (judges (now (g .rows)) (now (g .masks)) (now (g .rooms)) (g .job) _ _ _ _ _ (s .pre .1 .0) (c .before .loop-test .left)
     (c .judged .ensures)))
