@@ -17,7 +17,7 @@ use Rattle.model.specs.Session.{Refusal, bad-session, is-closed, bad-set, bad-p
 use Rattle.model.specs.Session as rules
 use Rattle.model.specs.Run.{Call, Event, lineAt, withLine, stepOn, askBy, returned, filledWith, answered, lineOf, told}
 use Rattle.model_laws.proofs.LedgerLaws.{own-line}
-use Rattle.asks_request.specs.Refusals.{queryRefusal, boundsRefusal, limitedRefusal}
+use Rattle.asks_request.specs.Refusals.{sizes, queryRefusal, boundsRefusal, limitedRefusal}
 use Rattle.asks.specs.Asks.{leftTo, askedOn, Answers}
 use Rattle.calls.proofs.FirstSteps.{refuses, performs, holds, fails, ends}
 use Rattle.asks_request.proofs.Requests.{AskReady}
@@ -51,15 +51,16 @@ module _ (W : ℕ) (p : Policy) (ledger : List ℕ) (u k : ℕ) (lower upper : L
   Quiet = others .unsound ≡ none
 
   -- refused before the search
-  pub ask-refused : (n : ℕ) (before : List ℕ) → n ≡ limitedRefusal W p ledger u k lower upper a b room → (n ≡ 0 → ⊥)
+  pub ask-refused : (n : ℕ) (before : List ℕ) → n ≡ limitedRefusal W p ledger u k (sizes lower upper) (number lower) (number upper) a b room → (n ≡ 0 → ⊥)
       → Answers (stepOn W p ledger (askBy u k lower upper a b room)) n ledger before before
   unfolding askBy isAsk canGive sessionOf queryOf applies refusalNumber refusalExtra numberOf extras queryRefusal boundsRefusal meaning
   ask-refused n before h z =
-      let w = refused W p ledger call tests (no-set ∷ []) refl refl refl k lower upper a b room (or-session W _ k _) n h z in
+      let w = refused W p ledger call tests (no-set ∷ []) refl refl refl k (sizes lower upper) (number lower) (number upper) a b room
+      (or-session W _ k _) n h z in
       answers-refusal _ n (w .number) (w .extra) ledger before (w .sum) (w .step)
 
   -- not refused before the search
-  module _ (r : AskReady W p ledger u k lower upper a b room) (quiet : Quiet) where
+  module _ (r : AskReady W p ledger u k (sizes lower upper) (number lower) (number upper) a b room) (quiet : Quiet) where
     passes : (let f = test W p ledger call tests (no-set ∷ []) (unfold canGive in refl) in
         first f (canGive (call .operation)) ≡ first f (no-set ∷ []))
     unfolding applies meaning canGive sessionOf queryOf
@@ -115,7 +116,8 @@ answers-some p ledger u k s c l next after room answer o e f el en g h =
 
 -- the call's answers are the search's
 pub answers-searched : (p : Policy) (ledger : List ℕ) (u k : ℕ) (lower upper : List ℕ) (a b room lo hi n : ℕ) (after before answer : List ℕ)
-    → AskReady SESSIONS p ledger u k lower upper a b room → Quiet SESSIONS p ledger u k lower upper a b room → lo ≡ number lower → hi ≡ number upper
+    → AskReady SESSIONS p ledger u k (sizes lower upper) (number lower) (number upper) a b room
+    → Quiet SESSIONS p ledger u k lower upper a b room → lo ≡ number lower → hi ≡ number upper
     → (let m = leftTo p u (others SESSIONS p ledger u k lower upper a b room) (lineOf SESSIONS ledger u) k in
     Answers (askedOn p ledger u k (choose m (lineOf SESSIONS ledger u) k lo hi a b)) n after before answer)
     → Answers (stepOn SESSIONS p ledger (askBy u k lower upper a b room)) n after before answer

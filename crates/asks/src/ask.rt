@@ -1,5 +1,6 @@
 // Asking for roles under an accepted policy.
 ghost use mathlib.Core.Path.{_≡_};
+ghost use mathlib.Core.List.{List};
 ghost use Prim.Native.Nat.{ℕ, _+_, _*_, _≤_, _<_};
 ghost use lib.ListN.{length};
 ghost use Rattle.model.specs.Policy.{Policy, belowTable};
@@ -12,12 +13,11 @@ ghost use Rattle.query.specs.Carry.{rowsOf};
 ghost use Rattle.search.specs.Answer.{answered};
 ghost use Rattle.calls.specs.Calls.{Known};
 ghost use Rattle.rows.specs.Rows.{exclusionsIn};
+ghost use Rattle.asks_request.specs.Refusals.{Bounded};
 ghost use Rattle.asks.specs.Asks.{leftTo, Asked, Searched, askedOn, Answers};
-use asks_request::bounds::bound;
+use asks_request::request::Request;
 use asks_request::request::limited_refusal;
 use calls::answer::fill;
-use calls::given::Rules;
-use calls::given::Window;
 use ledger::bytes::line_of;
 use ledger::bytes::put_line;
 use ledger_change::put_in;
@@ -66,31 +66,40 @@ pub fn best(
 // answer; 20 where no set is admissible.
 fn put_best(
     ledger: &mut [u8],
-    count: usize,
     granted: &[[u64; 4]; 64],
     below: &[u64; 64],
     xs: &[[u64; 2]; 32],
     authorized: u64,
-    window: Window,
-    wanted: Wanted,
+    request: Request,
     answer: &mut [u8],
 ) -> u64
-    requires { ⌜ (count ≤ 32) × (lineSize SESSIONS * window .user + lineSize SESSIONS ≤ length (now ledger))
-        × (window .session < SESSIONS) × (length (now answer) ≡ 40) × (length (now xs) ≡ 32) ⌝ }
+    requires { ⌜ (request .rules .count ≤ 32) × (lineSize SESSIONS * request .window .user + lineSize SESSIONS ≤ length (now ledger))
+        × (request .window .session < SESSIONS) × (length (now answer) ≡ 40) × (length (now xs) ≡ 32) × (request .first ≤ 2) × (request .second ≤ 2) ⌝ }
     ensures { λ r. ⌜ ((p : Policy) (x : Others)
-        → Searched p (window .user) x (now (ledger .entry)) (window .session) (values (now (granted .entry))) (now (below .entry)) authorized
-        (exclusionsIn (now (xs .entry)) count)
-        → Answers (askedOn p (now (ledger .entry)) (window .user) (window .session)
-        (choose (leftTo p (window .user) x (lineOf SESSIONS (now (ledger .entry)) (window .user)) (window .session))
-        (lineOf SESSIONS (now (ledger .entry)) (window .user)) (window .session) (value (wanted .lower)) (value (wanted .upper)) (wanted .first)
-        (wanted .second)))
+        → Searched p (request .window .user) x (now (ledger .entry)) (request .window .session) (values (now (granted .entry)))
+        (now (below .entry)) authorized (exclusionsIn (now (xs .entry)) (request .rules .count))
+        → Answers (askedOn p (now (ledger .entry)) (request .window .user) (request .window .session)
+        (choose (leftTo p (request .window .user) x (lineOf SESSIONS (now (ledger .entry)) (request .window .user)) (request .window .session))
+        (lineOf SESSIONS (now (ledger .entry)) (request .window .user)) (request .window .session) (value (request .bounds .lower))
+        (value (request .bounds .upper)) (request .first) (request .second)))
         r (now (ledger .exit)) (now (answer .entry)) (now (answer .exit))) ⌝ }
 {
+    let bounds = request.bounds;
+    let lower = bounds.lower;
+    let upper = bounds.upper;
+    let wanted = Wanted {
+        lower,
+        upper,
+        first: request.first as u8,
+        second: request.second as u8,
+    };
     let rows = tables_rows::carried::carried(granted, below, authorized);
+    let rules = request.rules;
+    let window = request.window;
     let u = window.user as usize;
     let k = window.session as usize;
     let l = line_of(ledger, u);
-    let choice = best(&rows, authorized, xs, count, l, k, wanted);
+    let choice = best(&rows, authorized, xs, rules.count, l, k, wanted);
     let Choice::Roles(s) = choice else {
         return 20;
     };
@@ -104,65 +113,29 @@ fn put_best(
 // line is to be sound; without a limit no other line is looked at.
 pub fn ask_roles(
     ledger: &mut [u8],
-    rules: Rules,
     authorized: &[u64; 64],
     granted: &[[u64; 4]; 64],
     below: &[u64; 64],
     limits: &[u64; 64],
     xs: &[[u64; 2]; 32],
-    window: Window,
-    lower: &[u8],
-    upper: &[u8],
-    first: u64,
-    second: u64,
+    request: Request,
     answer: &mut [u8],
 ) -> u64
-    requires { ⌜ (rules .head .users ≤ 64) × (rules .count ≤ 32) × (length (now xs) ≡ 32) × (length (now limits) ≡ 64) ⌝ }
-    ensures { λ r. ⌜ ((p : Policy) → Known (rules .head) (now (authorized .entry)) (exclusionsIn (now (xs .entry)) (rules .count)) p
-        → values (now (granted .entry)) ≡ p .granted
-        → now (below .entry) ≡ belowTable p → p .limits ≡ now (limits .entry)
+    requires { ⌜ (request .rules .head .users ≤ 64) × (request .rules .count ≤ 32) × (length (now xs) ≡ 32) × (length (now limits) ≡ 64) ⌝ }
+    ensures { λ r. ⌜ ((p : Policy) (lower upper : List ℕ)
+        → Known (request .rules .head) (now (authorized .entry)) (exclusionsIn (now (xs .entry)) (request .rules .count)) p
+        → values (now (granted .entry)) ≡ p .granted → now (below .entry) ≡ belowTable p → p .limits ≡ now (limits .entry)
+        → Bounded (request .bounds .sized) (value (request .bounds .lower)) (value (request .bounds .upper)) lower upper
         → Answers (stepOn SESSIONS p (now (ledger .entry))
-        (askBy (window .user) (window .session) (now (lower .entry)) (now (upper .entry)) first second (length (now (answer .entry)))))
+        (askBy (request .window .user) (request .window .session) lower upper (request .first) (request .second) (length (now (answer .entry)))))
         r (now (ledger .exit)) (now (answer .entry)) (now (answer .exit))) ⌝ }
 {
     let room = answer.len();
-    let n = limited_refusal(
-        ledger,
-        rules,
-        authorized,
-        limits,
-        xs,
-        window,
-        lower,
-        upper,
-        first,
-        second,
-        room,
-    );
+    let n = limited_refusal(ledger, authorized, limits, xs, request, room);
     if n != 0 {
         return n;
     }
-    let own = roles_left(ledger, rules, authorized, limits, window);
-    let lower = bound(lower);
-    let upper = bound(upper);
-    let first = first as u8;
-    let second = second as u8;
-    let wanted = Wanted {
-        lower,
-        upper,
-        first,
-        second,
-    };
-    let reply = put_best(
-        ledger,
-        rules.count,
-        granted,
-        below,
-        xs,
-        own,
-        window,
-        wanted,
-        answer,
-    );
+    let own = roles_left(ledger, request.rules, authorized, limits, request.window);
+    let reply = put_best(ledger, granted, below, xs, own, request, answer);
     reply
 }

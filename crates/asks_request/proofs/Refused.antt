@@ -79,11 +79,11 @@ module _ (W : ℕ) (p : Policy) (ledger : List ℕ) (c : Call) (tests rest : Lis
       rw g (fails _ _ _ (ap (otherFirst (sound W (meaning p (c .user)) (lineOf W ledger (c .user))) (c .user)) quiet) ∙ fails _ _ _ (ap not (r .sound-line)))
 
   -- refused as an ask is, where the tests give what refuses an ask
-  pub refused : isAsk (c .operation) ≡ true → extras (told W p ledger c) tests ≡ 0 → (k : ℕ) (lower upper : List ℕ) (a b room : ℕ)
-      → orElse (sessionRefusal W (lineOf W ledger (c .user)) k) (queryRefusal (p .head .permissions) lower upper a b room) ≡ numberOf test tests
-      → (n : ℕ) → n ≡ limitedRefusal W p ledger (c .user) k lower upper a b room → (n ≡ 0 → ⊥) → Refused W p ledger c n
+  pub refused : isAsk (c .operation) ≡ true → extras (told W p ledger c) tests ≡ 0 → (k : ℕ) (sized : Bool) (lower upper a b room : ℕ)
+      → orElse (sessionRefusal W (lineOf W ledger (c .user)) k) (queryRefusal (p .head .permissions) sized lower upper a b room) ≡ numberOf test tests
+      → (n : ℕ) → n ≡ limitedRefusal W p ledger (c .user) k sized lower upper a b room → (n ≡ 0 → ⊥) → Refused W p ledger c n
   unfolding limitedRefusal askRefusal
-  refused asks none-extra k lower upper a b room same n h z =
+  refused asks none-extra k sized lower upper a b room same n h z =
       ⊎-elim (λ e. let w = others-refused W p ledger c asks n e z in record { number = 11; extra = w .0; sum = w .1; step = w .2 })
       (λ e. let quiet = others-quiet W p ledger c asks (e .0) in
       record {
@@ -96,7 +96,7 @@ module _ (W : ℕ) (p : Policy) (ledger : List ℕ) (c : Call) (tests rest : Lis
     where
       later : (length ledger ≡ lineSize W * p .head .users → c .user < p .head .users → told W p ledger c .unsound ≡ none)
           → 0 ≡ firstRefusal W p ledger (c .user)
-          → n ≡ orElse (sessionRefusal W (lineOf W ledger (c .user)) k) (queryRefusal (p .head .permissions) lower upper a b room)
+          → n ≡ orElse (sessionRefusal W (lineOf W ledger (c .user)) k) (queryRefusal (p .head .permissions) sized lower upper a b room)
           → stepOn W p ledger c ≡ refusedBy n ledger
       later quiet f h =
           let r = ready W p ledger (c .user) f in

@@ -1,7 +1,7 @@
 -- The refusals of an ask before the search, case by case, and what holds where there is none.
 -- Assumes nothing.
 use mathlib.Core.Path.{_≡_, refl, sym, ap, _∙_}
-use mathlib.Core.Bool.{Bool, true, false, not, _&&_, _||_}
+use mathlib.Core.Bool.{Bool, true, false, not, _&&_, _||_, false≢true}
 use mathlib.Core.Option.{none}
 use mathlib.Core.List.{List, []}
 use Prim.Native.Nat.{ℕ, zero, suc, _+_, _*_, _^_, _≤_, _<_}
@@ -24,7 +24,7 @@ use Rattle.model_laws.proofs.Reaches.{authorized-alone}
 use Rattle.model_laws.proofs.Bools.{and-l, and-r, or-l, or-r, not-both}
 use Rattle.calls.specs.Calls.{Known, firstRefusal}
 use Rattle.others.specs.Lines.{othersRefusal}
-use Rattle.asks_request.specs.Refusals.{orElse, sessionRefusal, boundsRefusal, queryRefusal, askRefusal, limitedRefusal}
+use Rattle.asks_request.specs.Refusals.{orElse, sessionRefusal, boundsRefusal, sizes, Bounded, queryRefusal, askRefusal, limitedRefusal}
 use Rattle.calls.proofs.FirstSteps.{pick-none, Ready, ready, room as first-room}
 use Rattle.others.proofs.Blaming.{others-quiet}
 
@@ -111,29 +111,24 @@ module _ (P lower upper a b room : ℕ) (x : Bool) (ex : x ≡ ltb lower (2 ^ P)
         bounds0 h i r = rw nested (simp (le-ltb 2 a h, le-ltb 2 b i, eq-eqb room 40 r))
 
 -- ---- 15, and the bounds behind it
-module _ (P : ℕ) (lower upper : List ℕ) (a b room : ℕ) where
-  pub query15-lower : (length lower ≡ 32 → ⊥) → 15 ≡ queryRefusal P lower upper a b room
+module _ (P : ℕ) (sized : Bool) (lower upper a b room : ℕ) where
+  pub query15 : not sized ≡ true → 15 ≡ queryRefusal P sized lower upper a b room
   unfolding queryRefusal pick
-  query15-lower h = simp (ne-eqb _ _ h)
+  query15 e = simp (not-true sized e)
 
-  pub query15-upper : length lower ≡ 32 → (length upper ≡ 32 → ⊥) → 15 ≡ queryRefusal P lower upper a b room
+  pub query-bounds : (n : ℕ) → not sized ≡ false → n ≡ boundsRefusal P lower upper a b room → n ≡ queryRefusal P sized lower upper a b room
   unfolding queryRefusal pick
-  query15-upper h i = simp (eq-eqb _ _ h, ne-eqb _ _ i)
-
-  pub query-bounds : (n x y : ℕ) → length lower ≡ 32 → length upper ≡ 32 → x ≡ number lower → y ≡ number upper
-      → n ≡ boundsRefusal P x y a b room → n ≡ queryRefusal P lower upper a b room
-  unfolding queryRefusal pick
-  query-bounds n x y h i e f g = simp (eq-eqb _ _ h, eq-eqb _ _ i) (rw (← e, ← f) g)
+  query-bounds n e g = simp (not-false sized e) g
 
   -- nothing about the query refuses it: the tests of 15 to 19
   pub record Query : Type 0 where
-    pub lengths : (eqb (length lower) 32 && eqb (length upper) 32) ≡ true
-    pub permissions : (ltb (number lower) (2 ^ P) && ltb (number upper) (2 ^ P)) ≡ true
-    pub nested : within (number lower) (number upper) ≡ true
+    pub lengths : sized ≡ true
+    pub permissions : (ltb lower (2 ^ P) && ltb upper (2 ^ P)) ≡ true
+    pub nested : within lower upper ≡ true
     pub aims : (ltb 2 a || ltb 2 b) ≡ false
     pub space : eqb room 40 ≡ true
 
-  query-right : 0 ≡ queryRefusal P lower upper a b room → Query
+  query-right : 0 ≡ queryRefusal P sized lower upper a b room → Query
   unfolding queryRefusal boundsRefusal
   query-right h =
       let s = pick-none _ 14 _ h in
@@ -151,12 +146,6 @@ module _ (P : ℕ) (lower upper : List ℕ) (a b room : ℕ) where
 
   -- what the tests say
   module _ (q : Query) where
-    lower-32 : length lower ≡ 32
-    lower-32 = eqb-true _ _ (and-l (eqb (length lower) 32) (eqb (length upper) 32) (q .lengths))
-
-    upper-32 : length upper ≡ 32
-    upper-32 = eqb-true _ _ (and-r (eqb (length lower) 32) (eqb (length upper) 32) (q .lengths))
-
     room-40 : room ≡ 40
     room-40 = eqb-true _ _ (q .space)
 
@@ -166,24 +155,54 @@ module _ (P : ℕ) (lower upper : List ℕ) (a b room : ℕ) where
     second-small : b ≤ 2
     second-small = cases (ltb 2 b) (λ e. not-both (ltb 2 a || ltb 2 b) (or-r (ltb 2 a) (ltb 2 b) e) (q .aims)) (λ e. ltb-false 2 b e)
 
+-- ---- bounds read from bytes
+module _ (lower upper : List ℕ) where
+  -- of the wrong size
+  unsized : (from to : ℕ) → false ≡ sizes lower upper → Bounded false from to lower upper
+  unsized from to e = record { sized-is = e; lower-is = λ t. absurd (false≢true t); upper-is = λ t. absurd (false≢true t) }
+
+  pub bounds-lower : (from to : ℕ) → (length lower ≡ 32 → ⊥) → Bounded false from to lower upper
+  bounds-lower from to h = unsized from to (simp (ne-eqb _ _ h))
+
+  pub bounds-upper : (from to : ℕ) → length lower ≡ 32 → (length upper ≡ 32 → ⊥) → Bounded false from to lower upper
+  bounds-upper from to h i = unsized from to (simp (eq-eqb _ _ h, ne-eqb _ _ i))
+
+  pub bounds-read : (from to : ℕ) → length lower ≡ 32 → length upper ≡ 32 → from ≡ number lower → to ≡ number upper → Bounded true from to lower upper
+  bounds-read from to h i e f = record { sized-is = simp (eq-eqb _ _ h, eq-eqb _ _ i); lower-is = λ t. e; upper-is = λ t. f }
+
+module _ (sized : Bool) (from to : ℕ) (lower upper : List ℕ) (e : Bounded sized from to lower upper) where
+  -- what refuses them is what refuses the bytes
+  query-of : (P a b room : ℕ) → queryRefusal P sized from to a b room ≡ queryRefusal P (sizes lower upper) (number lower) (number upper) a b room
+  unfolding queryRefusal pick
+  query-of P a b room =
+      cases sized
+      (λ t. rw (sym (e .sized-is) ∙ t, t, e .lower-is t, e .upper-is t))
+      (λ f. rw (sym (e .sized-is) ∙ f, f))
+
+  pub limited-of : (W : ℕ) (p : Policy) (ledger : List ℕ) (u k a b room : ℕ)
+      → limitedRefusal W p ledger u k sized from to a b room
+      ≡ limitedRefusal W p ledger u k (sizes lower upper) (number lower) (number upper) a b room
+  unfolding limitedRefusal askRefusal
+  limited-of W p ledger u k a b room = rw (query-of (p .head .permissions) a b room)
+
 -- ---- the whole
-module _ (W : ℕ) (p : Policy) (ledger : List ℕ) (u k : ℕ) (lower upper : List ℕ) (a b room : ℕ) where
+module _ (W : ℕ) (p : Policy) (ledger : List ℕ) (u k : ℕ) (sized : Bool) (lower upper a b room : ℕ) where
   -- an ask that nothing before the search refuses
   pub record AskReady : Type 0 where
     pub first : Ready W p ledger u
     pub session : Session W (lineOf W ledger u) k
-    pub query : Query (p .head .permissions) lower upper a b room
+    pub query : Query (p .head .permissions) sized lower upper a b room
 
-  pub ask-ready : 0 ≡ askRefusal W p ledger u k lower upper a b room → AskReady
+  pub ask-ready : 0 ≡ askRefusal W p ledger u k sized lower upper a b room → AskReady
   unfolding askRefusal
   ask-ready h =
       let x = or-none (firstRefusal W p ledger u) (orElse (sessionRefusal W (lineOf W ledger u) k)
-      (queryRefusal (p .head .permissions) lower upper a b room)) h in
-      let y = or-none (sessionRefusal W (lineOf W ledger u) k) (queryRefusal (p .head .permissions) lower upper a b room) (x .1) in
+      (queryRefusal (p .head .permissions) sized lower upper a b room)) h in
+      let y = or-none (sessionRefusal W (lineOf W ledger u) k) (queryRefusal (p .head .permissions) sized lower upper a b room) (x .1) in
       record {
         first = ready W p ledger u (x .0);
         session = session-open W (lineOf W ledger u) k (y .0);
-        query = query-right (p .head .permissions) lower upper a b room (y .1);
+        query = query-right (p .head .permissions) sized lower upper a b room (y .1);
       }
 
 -- a policy that has these parts and limits
@@ -204,29 +223,37 @@ known-limited head own xs limits =
     record { head-is = refl; own-is = λ u l w. sym (authorized-alone (limitedBy head own xs limits) u refl w); exclusions-are = refl }
 
 -- what code that got 0 of them holds: numbers and lengths within their bounds, and for the policy of its parts an ask that may be searched
-pub record Passed (W : ℕ) (head : Head) (own : List ℕ) (xs : Exclusions) (limits ledger : List ℕ) (u k : ℕ) (lower upper : List ℕ) (a b room : ℕ) : Type 0 where
+pub record Passed (W : ℕ) (head : Head) (own : List ℕ) (xs : Exclusions) (limits ledger : List ℕ) (u k : ℕ) (sized : Bool)
+    (from to a b room : ℕ) : Type 0 where
   pub user : u < head .users
   pub fits : length ledger ≡ lineSize W * head .users
   pub line : lineSize W * u + lineSize W ≤ length ledger
   pub session : k < W
-  pub lower-length : length lower ≡ 32
-  pub upper-length : length upper ≡ 32
+  pub lengths : sized ≡ true
   pub space : room ≡ 40
   pub first-aim : a ≤ 2
   pub second-aim : b ≤ 2
-  pub ready : (p : Policy) → Known head own xs p → p .limits ≡ limits → AskReady W p ledger u k lower upper a b room
+  pub ready : (p : Policy) → Known head own xs p → p .limits ≡ limits → (lower upper : List ℕ) → Bounded sized from to lower upper
+      → AskReady W p ledger u k (sizes lower upper) (number lower) (number upper) a b room
   pub quiet : (p : Policy) → Known head own xs p → p .limits ≡ limits → (c : Call) → c .user ≡ u → isAsk (c .operation) ≡ true
       → told W p ledger c .unsound ≡ none
 
-module _ (W : ℕ) (head : Head) (own : List ℕ) (xs : Exclusions) (limits ledger : List ℕ) (u k : ℕ) (lower upper : List ℕ) (a b room n : ℕ)
-    (e : (p : Policy) → Known head own xs p → p .limits ≡ limits → n ≡ limitedRefusal W p ledger u k lower upper a b room) (z : n ≡ 0) where
+module _ (W : ℕ) (head : Head) (own : List ℕ) (xs : Exclusions) (limits ledger : List ℕ) (u k : ℕ) (sized : Bool) (from to a b room n : ℕ)
+    (e : (p : Policy) → Known head own xs p → p .limits ≡ limits → n ≡ limitedRefusal W p ledger u k sized from to a b room) (z : n ≡ 0) where
   none-of : (p : Policy) → Known head own xs p → p .limits ≡ limits
-      → (0 ≡ othersRefusal W p ledger u) × (0 ≡ askRefusal W p ledger u k lower upper a b room)
+      → (0 ≡ othersRefusal W p ledger u) × (0 ≡ askRefusal W p ledger u k sized from to a b room)
   unfolding limitedRefusal
-  none-of p h l = or-none (othersRefusal W p ledger u) (askRefusal W p ledger u k lower upper a b room) (sym z ∙ e p h l)
+  none-of p h l = or-none (othersRefusal W p ledger u) (askRefusal W p ledger u k sized from to a b room) (sym z ∙ e p h l)
 
-  ask-for : (p : Policy) → Known head own xs p → p .limits ≡ limits → AskReady W p ledger u k lower upper a b room
-  ask-for p h l = ask-ready W p ledger u k lower upper a b room (none-of p h l .1)
+  ask-for : (p : Policy) → Known head own xs p → p .limits ≡ limits → AskReady W p ledger u k sized from to a b room
+  ask-for p h l = ask-ready W p ledger u k sized from to a b room (none-of p h l .1)
+
+  ready-of : (p : Policy) → Known head own xs p → p .limits ≡ limits → (lower upper : List ℕ) → Bounded sized from to lower upper
+      → AskReady W p ledger u k (sizes lower upper) (number lower) (number upper) a b room
+  ready-of p h l lower upper e =
+      let r = ask-for p h l in
+      let t = r .query .lengths in
+      rw (← e .sized-is, ← e .lower-is t, ← e .upper-is t) r
 
   -- it is told of no line that is not sound
   quiet-for : (p : Policy) → Known head own xs p → p .limits ≡ limits → (c : Call) → c .user ≡ u → isAsk (c .operation) ≡ true
@@ -236,7 +263,7 @@ module _ (W : ℕ) (head : Head) (own : List ℕ) (xs : Exclusions) (limits ledg
       let i : c .user < p .head .users = rw same (r .below) in
       others-quiet W p ledger c a (none-of p h l .0 ∙ ap (othersRefusal W p ledger) (sym same)) (r .fits) i
 
-  pub passed : Passed W head own xs limits ledger u k lower upper a b room
+  pub passed : Passed W head own xs limits ledger u k sized from to a b room
   unfolding limitedBy
   passed =
       let p = limitedBy head own xs limits in
@@ -248,11 +275,10 @@ module _ (W : ℕ) (head : Head) (own : List ℕ) (xs : Exclusions) (limits ledg
         fits = r .first .fits;
         line = first-room W p ledger u (r .first);
         session = r .session .below;
-        lower-length = lower-32 P lower upper a b room q;
-        upper-length = upper-32 P lower upper a b room q;
-        space = room-40 P lower upper a b room q;
-        first-aim = first-small P lower upper a b room q;
-        second-aim = second-small P lower upper a b room q;
-        ready = ask-for;
+        lengths = q .lengths;
+        space = room-40 P sized from to a b room q;
+        first-aim = first-small P sized from to a b room q;
+        second-aim = second-small P sized from to a b room q;
+        ready = λ p h l lower upper e. ready-of p h l lower upper e;
         quiet = quiet-for;
       }

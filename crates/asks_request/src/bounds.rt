@@ -5,9 +5,17 @@ ghost use lib.Dec.{ltb};
 ghost use lib.ListN.{length};
 ghost use Rattle.model.specs.Bytes.{number};
 ghost use Rattle.sets.specs.Words.{value};
+ghost use Rattle.asks_request.specs.Refusals.{Bounded};
+
+// The bounds of an ask: whether each was 32 bytes long and, where both were, the sets that they hold.
+pub struct Bounds {
+    pub sized: bool,
+    pub lower: [u64; 4],
+    pub upper: [u64; 4],
+}
 
 // The set that 32 bytes hold.
-pub fn bound(bytes: &[u8]) -> [u64; 4]
+fn bound(bytes: &[u8]) -> [u64; 4]
     requires { ⌜ length (now bytes) ≡ 32 ⌝ }
     ensures { λ r. ⌜ value r ≡ number (now (bytes .entry)) ⌝ }
 {
@@ -17,6 +25,30 @@ pub fn bound(bytes: &[u8]) -> [u64; 4]
         octets::get_u64(bytes, 16),
         octets::get_u64(bytes, 24),
     ]
+}
+
+// The bounds read.
+pub fn bounds_of(lower: &[u8], upper: &[u8]) -> Bounds
+    ensures { λ r. ⌜ Bounded (r .sized) (value (r .lower)) (value (r .upper)) (now (lower .entry)) (now (upper .entry)) ⌝ }
+{
+    let none = Bounds {
+        sized: false,
+        lower: [0u64; 4],
+        upper: [0u64; 4],
+    };
+    if lower.len() != 32 {
+        return none;
+    }
+    if upper.len() != 32 {
+        return none;
+    }
+    let from = bound(lower);
+    let to = bound(upper);
+    Bounds {
+        sized: true,
+        lower: from,
+        upper: to,
+    }
 }
 
 // The word, whose lowest bit is permission `at`, has permissions below n alone.

@@ -8,8 +8,8 @@ ghost use Rattle.calls.specs.Calls.{Known};
 ghost use Rattle.sets.specs.Words.{value};
 ghost use Rattle.rows.specs.Rows.{exclusionsIn};
 ghost use Rattle.asks_request.specs.Refusals.{sessionRefusal, boundsRefusal, queryRefusal, askRefusal, limitedRefusal};
+use crate::bounds::Bounds;
 use crate::bounds::below;
-use crate::bounds::bound;
 use calls::first::first_refusal;
 use calls::given::Rules;
 use calls::given::Window;
@@ -17,6 +17,15 @@ use ledger::bytes::line_of;
 use ledger_change::is_open;
 use model::Line;
 use model::SESSIONS;
+
+// What is asked under a policy: its sizes, the session of a user, the bounds, and the objectives (01: aims) on permissions and on roles.
+pub struct Request {
+    pub rules: Rules,
+    pub window: Window,
+    pub bounds: Bounds,
+    pub first: u64,
+    pub second: u64,
+}
 
 // 12 for no such session, 13 for a closed one, else 0.
 pub fn session_refusal(l: Line, session: u64) -> u64
@@ -65,42 +74,33 @@ fn bounds_refusal(
 }
 
 // 15 for a bound that is not 32 bytes long, else what refuses the bounds.
-pub fn query_refusal(
-    lower: &[u8],
-    upper: &[u8],
-    permissions: u16,
-    first: u64,
-    second: u64,
-    room: usize,
-) -> u64
-    ensures { λ r. ⌜ r ≡ queryRefusal permissions (now (lower .entry)) (now (upper .entry)) first second room ⌝ }
+fn query_refusal(bounds: Bounds, permissions: u16, first: u64, second: u64, room: usize) -> u64
+    ensures { λ r. ⌜ r ≡ queryRefusal permissions (bounds .sized) (value (bounds .lower)) (value (bounds .upper)) first second room ⌝ }
 {
-    if lower.len() != 32 {
+    let sized = bounds.sized;
+    if !sized {
         return 15;
     }
-    if upper.len() != 32 {
-        return 15;
-    }
-    bounds_refusal(bound(lower), bound(upper), permissions, first, second, room)
+    let lower = bounds.lower;
+    let upper = bounds.upper;
+    bounds_refusal(lower, upper, permissions, first, second, room)
 }
 
 // The first of the refusals 9 to 19 that holds for an ask, else 0.
 pub fn ask_refusal(
     ledger: &[u8],
-    rules: Rules,
     authorized: &[u64; 64],
     xs: &[[u64; 2]; 32],
-    window: Window,
-    lower: &[u8],
-    upper: &[u8],
-    first: u64,
-    second: u64,
+    request: Request,
     room: usize,
 ) -> u64
-    requires { ⌜ (rules .head .users ≤ 64) × (rules .count ≤ 32) × (length (now xs) ≡ 32) ⌝ }
-    ensures { λ r. ⌜ ((p : Policy) → Known (rules .head) (now (authorized .entry)) (exclusionsIn (now (xs .entry)) (rules .count)) p
-        → r ≡ askRefusal SESSIONS p (now (ledger .entry)) (window .user) (window .session) (now (lower .entry)) (now (upper .entry)) first second room) ⌝ }
+    requires { ⌜ (request .rules .head .users ≤ 64) × (request .rules .count ≤ 32) × (length (now xs) ≡ 32) ⌝ }
+    ensures { λ r. ⌜ ((p : Policy) → Known (request .rules .head) (now (authorized .entry)) (exclusionsIn (now (xs .entry)) (request .rules .count)) p
+        → r ≡ askRefusal SESSIONS p (now (ledger .entry)) (request .window .user) (request .window .session) (request .bounds .sized)
+        (value (request .bounds .lower)) (value (request .bounds .upper)) (request .first) (request .second) room) ⌝ }
 {
+    let rules = request.rules;
+    let window = request.window;
     let n = first_refusal(ledger, rules, authorized, xs, window.user);
     if n != 0 {
         return n;
@@ -111,42 +111,36 @@ pub fn ask_refusal(
         return m;
     }
     let head = rules.head;
-    query_refusal(lower, upper, head.permissions, first, second, room)
+    let bounds = request.bounds;
+    query_refusal(
+        bounds,
+        head.permissions,
+        request.first,
+        request.second,
+        room,
+    )
 }
 
 // The same under limits: a line that is not sound refuses it after 9 and 10 and before 12, whosever it is.
 pub fn limited_refusal(
     ledger: &[u8],
-    rules: Rules,
     authorized: &[u64; 64],
     limits: &[u64; 64],
     xs: &[[u64; 2]; 32],
-    window: Window,
-    lower: &[u8],
-    upper: &[u8],
-    first: u64,
-    second: u64,
+    request: Request,
     room: usize,
 ) -> u64
-    requires { ⌜ (rules .head .users ≤ 64) × (rules .count ≤ 32) × (length (now xs) ≡ 32) × (length (now limits) ≡ 64) ⌝ }
-    ensures { λ r. ⌜ ((p : Policy) → Known (rules .head) (now (authorized .entry)) (exclusionsIn (now (xs .entry)) (rules .count)) p
+    requires { ⌜ (request .rules .head .users ≤ 64) × (request .rules .count ≤ 32) × (length (now xs) ≡ 32) × (length (now limits) ≡ 64) ⌝ }
+    ensures { λ r. ⌜ ((p : Policy) → Known (request .rules .head) (now (authorized .entry)) (exclusionsIn (now (xs .entry)) (request .rules .count)) p
         → p .limits ≡ now (limits .entry)
-        → r ≡ limitedRefusal SESSIONS p (now (ledger .entry)) (window .user) (window .session) (now (lower .entry)) (now (upper .entry)) first second room) ⌝ }
+        → r ≡ limitedRefusal SESSIONS p (now (ledger .entry)) (request .window .user) (request .window .session) (request .bounds .sized)
+        (value (request .bounds .lower)) (value (request .bounds .upper)) (request .first) (request .second) room) ⌝ }
 {
+    let rules = request.rules;
+    let window = request.window;
     let n = others::lines::refusal(ledger, rules, authorized, limits, xs, window.user);
     if n != 0 {
         return n;
     }
-    ask_refusal(
-        ledger,
-        rules,
-        authorized,
-        xs,
-        window,
-        lower,
-        upper,
-        first,
-        second,
-        room,
-    )
+    ask_refusal(ledger, authorized, xs, request, room)
 }

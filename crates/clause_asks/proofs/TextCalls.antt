@@ -23,7 +23,7 @@ use Rattle.model.specs.Session as rules
 use Rattle.model.specs.Run.{Call, Event, stepOn, clausesBy, returned, written, lineOf, told}
 use Rattle.model_laws.proofs.SoundLaws.{sound-parts}
 use Rattle.calls.proofs.FirstSteps.{refusedBy, refuses, performs, holds, fails, ends}
-use Rattle.asks_request.specs.Refusals.{queryRefusal, boundsRefusal, limitedRefusal}
+use Rattle.asks_request.specs.Refusals.{sizes, queryRefusal, boundsRefusal, limitedRefusal}
 use Rattle.asks.specs.Asks.{leftTo}
 use Rattle.asks_request.proofs.Requests.{AskReady}
 use Rattle.asks_request.proofs.Refused.{numberOf, extras, or-session, test, own-tests, refused}
@@ -61,15 +61,16 @@ module _ (W : ℕ) (p : Policy) (ledger : List ℕ) (u k : ℕ) (lower upper : L
   Quiet = others .unsound ≡ none
 
   -- refused as an ask is whose answer buffer is right
-  pub clauses-refused : (n : ℕ) (before : List ℕ) → n ≡ limitedRefusal W p ledger u k lower upper a b 40 → (n ≡ 0 → ⊥)
+  pub clauses-refused : (n : ℕ) (before : List ℕ) → n ≡ limitedRefusal W p ledger u k (sizes lower upper) (number lower) (number upper) a b 40 → (n ≡ 0 → ⊥)
       → Tells (stepOn W p ledger (clausesBy u k lower upper a b room)) n before before
   unfolding clausesBy isAsk canGive sessionOf queryOf applies refusalNumber refusalExtra numberOf extras queryRefusal boundsRefusal meaning pick
   clauses-refused n before h z =
-      let w = refused W p ledger call tests (too-long ∷ []) refl refl refl k lower upper a b 40 (or-session W _ k _) n h z in
+      let w = refused W p ledger call tests (too-long ∷ []) refl refl refl k (sizes lower upper) (number lower) (number upper) a b 40
+      (or-session W _ k _) n h z in
       tells-refusal _ n (w .number) (w .extra) ledger before (w .sum) (w .step)
 
   -- not refused so
-  module _ (r : AskReady W p ledger u k lower upper a b 40) (quiet : Quiet) where
+  module _ (r : AskReady W p ledger u k (sizes lower upper) (number lower) (number upper) a b 40) (quiet : Quiet) where
     passes : (let f = test W p ledger call tests (too-long ∷ []) (unfold canGive in refl) in
         first f (canGive (call .operation)) ≡ first f (too-long ∷ []))
     unfolding applies meaning canGive sessionOf queryOf
@@ -112,7 +113,8 @@ module _ (p : Policy) (ledger : List ℕ) (u k : ℕ) (lower upper : List ℕ) (
   abbrev told-by : Event
   told-by = stepOn SESSIONS p ledger (clausesBy u k lower upper a b (length before))
 
-  pub tells-text : InRange p → AskReady SESSIONS p ledger u k lower upper a b 40 → Quiet SESSIONS p ledger u k lower upper a b (length before)
+  pub tells-text : InRange p → AskReady SESSIONS p ledger u k (sizes lower upper) (number lower) (number upper) a b 40
+      → Quiet SESSIONS p ledger u k lower upper a b (length before)
       → lo ≡ number lower → hi ≡ number upper → Written before (textOf m (lineOf SESSIONS ledger u) k lo hi a b) after size
       → n ≡ pick {X = ℕ} (ltb (length before) size) 19 (size * 256 % 2 ^ 64) → Tells told-by n before after
   unfolding textFor pick returned wrote written unbarred exclusionsMet

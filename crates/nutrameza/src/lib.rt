@@ -13,6 +13,7 @@ ghost use Rattle.stopped.specs.Stopped.{stoppedCall};
 ghost use Rattle.tidying.specs.Tidy.{tidyCall};
 ghost use Rattle.turned_table.specs.TableCalls.{tableCall};
 ghost use Rattle.turned.specs.Calls.{turnCall, unturnCall};
+use calls::given::Window;
 
 pub mod clauses; // clauses.rt: the clause text of an ask
 pub mod obstacle; // obstacle.rt: what stands in the way of an ask
@@ -128,11 +129,11 @@ pub extern "C" fn nutrameza_ask(
         (step SESSIONS (now (image .entry)) (now (ledger .entry))
         (askBy user session (now (lower .entry)) (now (upper .entry)) «permission_aim» «role_aim» (length (now (answer .entry)))) .reply)) ⌝ }
 {
+    let window = Window { user, session };
     session_calls::ask_roles(
         image,
         ledger,
-        user,
-        session,
+        window,
         lower,
         upper,
         permission_aim,

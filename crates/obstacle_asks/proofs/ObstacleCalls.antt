@@ -18,7 +18,7 @@ use Rattle.model.specs.Session as rules
 use Rattle.model.specs.Run.{Call, Event, lineAt, stepOn, obstacleBy, returned, filledWith, answered, lineOf, told}
 use Rattle.calls.specs.Calls.{Shows}
 use Rattle.calls.proofs.FirstSteps.{shows-refusal, refuses, performs, holds, fails, ends}
-use Rattle.asks_request.specs.Refusals.{queryRefusal, boundsRefusal, limitedRefusal}
+use Rattle.asks_request.specs.Refusals.{sizes, queryRefusal, boundsRefusal, limitedRefusal}
 use Rattle.asks_request.proofs.Requests.{AskReady}
 use Rattle.asks_request.proofs.Refused.{numberOf, extras, or-session, test, own-tests, refused}
 use Rattle.obstacle_asks.specs.Telling.{replyOf, Tells}
@@ -50,15 +50,15 @@ module _ (W : ℕ) (p : Policy) (ledger : List ℕ) (u k : ℕ) (lower upper : L
   Quiet = others .unsound ≡ none
 
   -- refused as an ask is whose objectives and answer buffer are right
-  pub obstacle-refused : (n : ℕ) (before : List ℕ) → n ≡ limitedRefusal W p ledger u k lower upper 0 0 40 → (n ≡ 0 → ⊥)
+  pub obstacle-refused : (n : ℕ) (before : List ℕ) → n ≡ limitedRefusal W p ledger u k (sizes lower upper) (number lower) (number upper) 0 0 40 → (n ≡ 0 → ⊥)
       → Shows (stepOn W p ledger (obstacleBy u k lower upper room)) n before before
   unfolding obstacleBy isAsk canGive sessionOf queryOf applies refusalNumber refusalExtra numberOf extras queryRefusal boundsRefusal meaning pick
   obstacle-refused n before h z =
-      let w = refused W p ledger call tests behind refl refl refl k lower upper 0 0 40 (or-session W _ k _) n h z in
+      let w = refused W p ledger call tests behind refl refl refl k (sizes lower upper) (number lower) (number upper) 0 0 40 (or-session W _ k _) n h z in
       shows-refused _ n (w .number) (w .extra) ledger before (w .sum) (w .step)
 
   -- not refused so
-  module _ (r : AskReady W p ledger u k lower upper 0 0 40) (quiet : Quiet) where
+  module _ (r : AskReady W p ledger u k (sizes lower upper) (number lower) (number upper) 0 0 40) (quiet : Quiet) where
     passes : (let f = test W p ledger call tests behind (unfold canGive in refl) in first f (canGive (call .operation)) ≡ first f behind)
     unfolding applies meaning canGive sessionOf queryOf
     passes =
@@ -92,7 +92,8 @@ module _ (W : ℕ) (p : Policy) (ledger : List ℕ) (u k : ℕ) (lower upper : L
 
 -- what code finds and tells is what the call shows
 pub shows-told : (p : Policy) (ledger : List ℕ) (u k : ℕ) (lower upper : List ℕ) (lo hi n : ℕ) (o : Option Obstacle) (before after : List ℕ)
-    → AskReady SESSIONS p ledger u k lower upper 0 0 40 → Quiet SESSIONS p ledger u k lower upper (length before) → length before ≡ 16
+    → AskReady SESSIONS p ledger u k (sizes lower upper) (number lower) (number upper) 0 0 40
+    → Quiet SESSIONS p ledger u k lower upper (length before) → length before ≡ 16
     → lo ≡ number lower → hi ≡ number upper
     → o ≡ obstacleOf (meaning p u) (others SESSIONS p ledger u k lower upper (length before)) (lineOf SESSIONS ledger u) k lo hi
     → Tells o n before after → Shows (stepOn SESSIONS p ledger (obstacleBy u k lower upper (length before))) n before after

@@ -1,8 +1,8 @@
 // What stands in the way of an ask under an accepted policy: refused as a short ask is up to 17, then for a buffer of another length, else
 // told.
 ghost use mathlib.Core.Path.{_≡_};
-ghost use mathlib.Core.List.{_++_};
-ghost use Prim.Native.Nat.{_*_, _+_, _≤_, _<_};
+ghost use mathlib.Core.List.{List, _++_};
+ghost use Prim.Native.Nat.{ℕ, _*_, _+_, _≤_, _<_};
 ghost use lib.ListN.{length};
 ghost use Rattle.model.specs.Bytes.{bytesOf};
 ghost use Rattle.model.specs.Policy.{Policy, belowTable, meaning};
@@ -13,11 +13,12 @@ ghost use Rattle.model.specs.Run.{stepOn, obstacleBy, lineOf};
 ghost use Rattle.sets.specs.Words.{value, values};
 ghost use Rattle.rows.specs.Rows.{exclusionsIn};
 ghost use Rattle.calls.specs.Calls.{Known, Shows};
+ghost use Rattle.asks_request.specs.Refusals.{Bounded};
 ghost use Rattle.asks.specs.Asks.{Searched};
 ghost use Rattle.obstacle_lacks.specs.Founds.{foundOf};
 ghost use Rattle.obstacle_asks.specs.Telling.{Tells};
 use asks::ask::Wanted;
-use asks_request::bounds::bound;
+use asks_request::request::Request;
 use asks_request::request::limited_refusal;
 use calls::first::roles_of;
 use calls::given::Rules;
@@ -88,48 +89,39 @@ fn found_for(
 // What stands in the way of an ask, written to the buffer and returned. Limits bar roles as in an ask.
 pub fn ask_obstacle(
     ledger: &[u8],
-    rules: Rules,
     authorized: &[u64; 64],
     granted: &[[u64; 4]; 64],
     below: &[u64; 64],
     limits: &[u64; 64],
     xs: &[[u64; 2]; 32],
-    window: Window,
-    lower: &[u8],
-    upper: &[u8],
+    request: Request,
     roles: &mut [u8],
 ) -> u64
-    requires { ⌜ (rules .head .users ≤ 64) × (rules .count ≤ 32) × (length (now xs) ≡ 32) × (length (now limits) ≡ 64) ⌝ }
-    ensures { λ r. ⌜ ((p : Policy) → Known (rules .head) (now (authorized .entry)) (exclusionsIn (now (xs .entry)) (rules .count)) p
+    requires { ⌜ (request .rules .head .users ≤ 64) × (request .rules .count ≤ 32) × (length (now xs) ≡ 32) × (length (now limits) ≡ 64)
+        × (request .first ≡ 0) × (request .second ≡ 0) ⌝ }
+    ensures { λ r. ⌜ ((p : Policy) (lower upper : List ℕ)
+        → Known (request .rules .head) (now (authorized .entry)) (exclusionsIn (now (xs .entry)) (request .rules .count)) p
         → values (now (granted .entry)) ≡ p .granted → now (below .entry) ≡ belowTable p → p .limits ≡ now (limits .entry)
+        → Bounded (request .bounds .sized) (value (request .bounds .lower)) (value (request .bounds .upper)) lower upper
         → Shows (stepOn SESSIONS p (now (ledger .entry))
-        (obstacleBy (window .user) (window .session) (now (lower .entry)) (now (upper .entry)) (length (now (roles .entry)))))
+        (obstacleBy (request .window .user) (request .window .session) lower upper (length (now (roles .entry)))))
         r (now (roles .entry)) (now (roles .exit))) ⌝ }
 {
-    let n = limited_refusal(
-        ledger,
-        rules,
-        authorized,
-        limits,
-        xs,
-        window,
-        lower,
-        upper,
-        0,
-        0,
-        40,
-    );
+    let n = limited_refusal(ledger, authorized, limits, xs, request, 40);
     if n != 0 {
         return n;
     }
     if roles.len() != 16 {
         return 19;
     }
+    let rules = request.rules;
+    let window = request.window;
     let free = roles_left(ledger, rules, authorized, limits, window);
     let own = roles_of(authorized, window.user as usize);
     let mine = Roles { own, free };
-    let lower = bound(lower);
-    let upper = bound(upper);
+    let bounds = request.bounds;
+    let lower = bounds.lower;
+    let upper = bounds.upper;
     let wanted = Wanted {
         lower,
         upper,

@@ -4,6 +4,8 @@ ghost use lib.ListN.{length};
 ghost use Rattle.model.specs.Line.{SESSIONS};
 ghost use Rattle.model.specs.Run.{step, obstacleBy};
 ghost use Rattle.calls.specs.Calls.{Shows};
+use asks_request::bounds::bounds_of;
+use asks_request::request::Request;
 use calls::given::Rules;
 use calls::given::Window;
 use image_calls::read_image;
@@ -44,17 +46,22 @@ pub fn tell_obstacle(
     let count = all.count;
     let rules = Rules { head, count };
     let window = Window { user, session };
+    let bounds = bounds_of(lower, upper);
+    let request = Request {
+        rules,
+        window,
+        bounds,
+        first: 0,
+        second: 0,
+    };
     obstacle_asks::ask_obstacle(
         ledger,
-        rules,
         &authorized,
         &granted,
         &below,
         &limits,
         &xs,
-        window,
-        lower,
-        upper,
+        request,
         roles,
     )
 }

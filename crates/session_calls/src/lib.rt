@@ -6,6 +6,8 @@ ghost use Rattle.model.specs.Run.{step, openBy, closeBy, showBy, askBy, explain
 ghost use Rattle.asks.specs.Asks.{Answers};
 ghost use Rattle.calls.specs.Calls.{Gives, Shows};
 ghost use Rattle.clause_asks.specs.Tells.{Tells};
+use asks_request::bounds::bounds_of;
+use asks_request::request::Request;
 use calls::given::Rules;
 use calls::given::Window;
 use image_calls::read_image;
@@ -142,16 +144,15 @@ pub fn explain_session(image: &[u8], ledger: &[u8], user: u64, session: u64, per
 pub fn ask_roles(
     image: &[u8],
     ledger: &mut [u8],
-    user: u64,
-    session: u64,
+    window: Window,
     lower: &[u8],
     upper: &[u8],
-    permission_aim: u64,
-    role_aim: u64,
+    first: u64,
+    second: u64,
     answer: &mut [u8],
 ) -> u64
     ensures { λ r. ⌜ Answers (step SESSIONS (now (image .entry)) (now (ledger .entry))
-        (askBy user session (now (lower .entry)) (now (upper .entry)) «permission_aim» «role_aim» (length (now (answer .entry)))))
+        (askBy (window .user) (window .session) (now (lower .entry)) (now (upper .entry)) first second (length (now (answer .entry)))))
         r (now (ledger .exit)) (now (answer .entry)) (now (answer .exit)) ⌝ }
 {
     let mut authorized = [0u64; 64];
@@ -173,20 +174,22 @@ pub fn ask_roles(
     };
     let count = all.count;
     let rules = Rules { head, count };
-    let window = Window { user, session };
+    let bounds = bounds_of(lower, upper);
+    let request = Request {
+        rules,
+        window,
+        bounds,
+        first,
+        second,
+    };
     asks::ask::ask_roles(
         ledger,
-        rules,
         &authorized,
         &granted,
         &below,
         &limits,
         &xs,
-        window,
-        lower,
-        upper,
-        permission_aim,
-        role_aim,
+        request,
         answer,
     )
 }
@@ -195,16 +198,15 @@ pub fn ask_roles(
 pub fn ask_clauses(
     image: &[u8],
     ledger: &[u8],
-    user: u64,
-    session: u64,
+    window: Window,
     lower: &[u8],
     upper: &[u8],
-    permission_aim: u64,
-    role_aim: u64,
+    first: u64,
+    second: u64,
     out: &mut [u8],
 ) -> u64
     ensures { λ r. ⌜ Tells (step SESSIONS (now (image .entry)) (now (ledger .entry))
-        (clausesBy user session (now (lower .entry)) (now (upper .entry)) «permission_aim» «role_aim» (length (now (out .entry)))))
+        (clausesBy (window .user) (window .session) (now (lower .entry)) (now (upper .entry)) first second (length (now (out .entry)))))
         r (now (out .entry)) (now (out .exit)) ⌝ }
 {
     let mut authorized = [0u64; 64];
@@ -226,20 +228,22 @@ pub fn ask_clauses(
     };
     let count = all.count;
     let rules = Rules { head, count };
-    let window = Window { user, session };
+    let bounds = bounds_of(lower, upper);
+    let request = Request {
+        rules,
+        window,
+        bounds,
+        first,
+        second,
+    };
     clause_asks::ask_clauses(
         ledger,
-        rules,
         &authorized,
         &granted,
         &below,
         &limits,
         &xs,
-        window,
-        lower,
-        upper,
-        permission_aim,
-        role_aim,
+        request,
         out,
     )
 }

@@ -3,6 +3,7 @@ ghost use lib.ListN.{length};
 ghost use Rattle.model.specs.Line.{SESSIONS};
 ghost use Rattle.model.specs.Run.{step, shortAskBy};
 ghost use Rattle.asks.specs.Asks.{Answers};
+use calls::given::Window;
 use session_calls::ask_roles;
 
 // An ask for the fewest permissions, then the fewest roles.
@@ -19,5 +20,6 @@ pub fn short_ask(
         (shortAskBy user session (now (lower .entry)) (now (upper .entry)) (length (now (answer .entry)))))
         r (now (ledger .exit)) (now (answer .entry)) (now (answer .exit)) ⌝ }
 {
-    ask_roles(image, ledger, user, session, lower, upper, 1, 1, answer)
+    let window = Window { user, session };
+    ask_roles(image, ledger, window, lower, upper, 1, 1, answer)
 }

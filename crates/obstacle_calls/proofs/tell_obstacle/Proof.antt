@@ -13,5 +13,5 @@ pub tell-obstacle-spec : {M : Type 1} → statement M
 tell-obstacle-spec =
     tie.close
     (tie.spec (λ c κs. search needs) (λ c. search needs) (λ c. search needs) (λ c κs. search needs) (λ c. search (needs, shows-refused))
-    (λ c κs. search (needs, held))
+    (λ c κs. search needs) (λ c κs. search (needs, held))
     (λ c. search needs) returns-2)

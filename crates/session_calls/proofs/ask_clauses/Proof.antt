@@ -13,5 +13,5 @@ pub ask-clauses-spec : {M : Type 1} → statement M
 ask-clauses-spec =
     tie.close
     (tie.spec (λ c κs. search needs) (λ c. search needs) (λ c. search needs) (λ c κs. search needs) (λ c. search (needs, tells-refused))
-    (λ c κs. search (needs, held))
+    (λ c κs. search needs) (λ c κs. search (needs, held))
     (λ c. search needs) returns-2)

@@ -13,5 +13,5 @@ pub ask-roles-spec : {M : Type 1} → statement M
 ask-roles-spec =
     tie.close
     (tie.spec (λ c κs. search needs) (λ c. search needs) (λ c. search needs) (λ c κs. search needs) (λ c. search (needs, answers-refused))
-    (λ c κs. search (needs, held))
+    (λ c κs. search needs) (λ c κs. search (needs, held))
     (λ c. search needs) (λ c. search needs) returns-2)

@@ -13,17 +13,20 @@ use Rattle.asks.proofs.Rows.{asked-of, chosen-none, chosen-some, chosen
 use Rattle.asks.proofs.ask.put_best.Statement.{statement}
 use Rattle.asks.proofs.ask.put_best.Tie as tie
 
+abbrev made : tie.After-line-of → tie.After-carried
+made c = c .before .before .before .before
+
 abbrev start : tie.After-line-of → tie.Start
-start c = c .before .before .before .before .before
+start c = let u = made c .before .before .before .before in u .before .before .before .before
 
 -- what the search is given, with the rows and the line that are held
 asked : (c : tie.After-line-of) (p : Policy) (x : Others)
     → (let a = start c .args in
-    let xs = exclusionsIn (a .xs .now) (a .count) in
-    Searched p (a .window .user) x (a .ledger .now) (a .window .session) (values (a .granted .now)) (a .below .now) (a .authorized) xs
-    → Asked p (a .window .user) x (c .line-of .result) (a .window .session) (a .authorized) xs (rowsOf (c .before .before .carried .result)))
+    let xs = exclusionsIn (a .xs .now) (a .request .rules .count) in
+    Searched p (a .request .window .user) x (a .ledger .now) (a .request .window .session) (values (a .granted .now)) (a .below .now) (a .authorized) xs
+    → Asked p (a .request .window .user) x (c .line-of .result) (a .request .window .session) (a .authorized) xs (rowsOf (made c .carried .result)))
 unfolding lineOf
-asked c p x g = asked-of p _ x _ _ _ _ _ _ _ _ g (start c .fits .authorized .fits) (c .before .before .carried .ensures) (c .line-of .ensures)
+asked c p x g = asked-of p _ x _ _ _ _ _ _ _ _ g (start c .fits .authorized .fits) (made c .carried .ensures) (c .line-of .ensures)
 
 returns : tie.Need-returns
 unfolding lineOf
@@ -45,7 +48,7 @@ returns-2 c p x g =
     let q = asked n p x g in
     let o = chosen-some p _ x _ _ (n .line-of .ensures) _ _ _ _ _ _ (b .best .ensures p _ x q) _ (e .choice .given .1) in
     let v = chosen-own p _ x _ _ (a .authorized) _ _ _ _ _ (g .own-is) o in
-    let k = f .before .carried-by .ensures (meaning p (a .window .user)) (carry-within p _ _ _ _ (q .carry) v) in
+    let k = f .before .carried-by .ensures (meaning p (a .request .window .user)) (carry-within p _ _ _ _ (q .carry) v) in
     answers-some p _ _ _ _ _ _ _ _ _ _ _ o k (n .line-of .ensures) (i .put-in .ensures) (w .put-line .ensures) (f .fill .ensures)
 
 fill-requires : tie.Need-fill-requires
@@ -58,6 +61,8 @@ pub put-best-spec : {M : Type 1} → statement M
 put-best-spec =
     tie.close
     (tie.spec
+    (λ c. search needs)
+    (λ c. search needs)
     (λ c κs. search needs)
     (λ c κs. search needs)
     (λ c κs. search needs)
@@ -65,8 +70,8 @@ put-best-spec =
     (λ c. search needs)
     (λ c. search needs)
     returns
-    (λ c κs. search needs)
-    (λ c κs. search needs)
+    (λ c κs. start (c .before .before .before .before .before) .pre .2)
+    (λ c κs. let e = c .before .before in start (e .before .before .before .before .before) .pre .1)
     (λ c κs. search needs)
     fill-requires
     (λ c. search needs)

@@ -26,11 +26,11 @@ returns-2 c p h =
 returns-3 : tie.Need-returns-3
 unfolding askRefusal lineOf
 returns-3 c p h =
-    let s = c .before .before .before in
+    let s = c .before .before .before .before in
     let l = s .before in
     let i = l .before in
     or-second _ _ _ _ (i .before .first-refusal .ensures p h) (i .if1 .left)
-    (or-second _ _ _ _ (rw (← l .line-of .ensures) (s .session-refusal .ensures)) (c .before .before .if2 .left)
+    (or-second _ _ _ _ (rw (← l .line-of .ensures) (s .session-refusal .ensures)) (c .before .before .before .if2 .left)
     (rw (h .head-is) (c .query-refusal .ensures)))
 
 pub ask-refusal-spec : {M : Type 1} → statement M
