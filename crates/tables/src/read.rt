@@ -20,6 +20,7 @@ use model::Checked;
 use model::Head;
 use tables_exclusions::exclusions::exclusions_at;
 use tables_usual::usual::pass;
+use tables_words::take::Placed;
 use tables_words::take::end_fault;
 use tables_words::take::step;
 
@@ -82,6 +83,10 @@ fn read_words(
     while at.place + 1 < words {
         let w = octets::word_at(image, at.place);
         let word = decode(w);
+        let placed = Placed {
+            word,
+            place: at.place,
+        };
         let number = step(
             h,
             assigned,
@@ -90,8 +95,7 @@ fn read_words(
             limits,
             &mut places,
             t,
-            at.place,
-            word,
+            placed,
         );
         if number != 0 {
             return refused(number, at.place as u16);

@@ -88,6 +88,12 @@ fn take_exclusion(
     n
 }
 
+// A word of an image, and its place.
+pub struct Placed {
+    pub word: Word,
+    pub place: usize,
+}
+
 // A word before the last. One match a word: each arm judges and stores.
 pub fn step(
     h: Head,
@@ -97,14 +103,14 @@ pub fn step(
     limits: &mut [u64; 64],
     places: &mut [usize; 32],
     t: Scan,
-    place: usize,
-    w: Word,
+    at: Placed,
 ) -> u8
-    requires { ⌜ Small (w .entry) ⌝ }
-    ensures { λ n. ⌜ Step h t false place w (now (assigned .entry)) (values (now (granted .entry))) (now (juniors .entry)) (now (limits .entry))
+    requires { ⌜ Small (at .word .entry) ⌝ }
+    ensures { λ n. ⌜ Step h t false (at .place) (at .word) (now (assigned .entry)) (values (now (granted .entry))) (now (juniors .entry)) (now (limits .entry))
         (now (places .entry)) n
         (now (assigned .exit)) (values (now (granted .exit))) (now (juniors .exit)) (now (limits .exit)) (now (places .exit)) ⌝ }
 {
+    let w = at.word;
     let e = w.entry;
     let spare = w.spare;
     if wrong_kind(false, t.due, e) {
@@ -114,7 +120,7 @@ pub fn step(
         Entry::Assignment(u, r) => take_assignment(h, assigned, spare, u, r),
         Entry::Grant(r, p) => take_grant(h, granted, spare, r, p),
         Entry::Senior(a, b) => take_senior(h, juniors, spare, a, b),
-        Entry::Exclude(x, m) => take_exclusion(h, places, spare, t, x, m, place),
+        Entry::Exclude(x, m) => take_exclusion(h, places, spare, t, x, m, at.place),
         Entry::Member(r) => spared(spare, member_fault(h, t, r)),
         Entry::Limit(r, n) => take_limit(h, limits, spare, r, n),
         Entry::End => spared(spare, 0),

@@ -15,12 +15,12 @@ unfolding Small assigning granting ordering limiting noting entryFault inRange r
 step-spec =
     tie.close
     (tie.spec (λ c κs. search needs) (λ c. search (needs, mistook)) (λ c. search needs)
-    (λ c κs. rw (c .before .before .e .given .1) at (c .before .before .before .before .before .before .pre)) (λ c. search needs)
-    (λ c κs. rw (c .before .before .e2 .given .1) at (c .before .before .before .before .before .before .pre)) (λ c. search needs)
-    (λ c κs. rw (c .before .before .e3 .given .1) at (c .before .before .before .before .before .before .pre)) (λ c. search needs)
-    (λ c κs. search needs) (λ c. search needs) (λ c κs. rw (c .before .e5 .given .1) at (c .before .before .before .before .before .pre))
+    (λ c κs. let w = c .before .before in rw (w .e .given .1) at (w .before .before .before .before .before .pre)) (λ c. search needs)
+    (λ c κs. let w = c .before .before in rw (w .e2 .given .1) at (w .before .before .before .before .before .pre)) (λ c. search needs)
+    (λ c κs. let w = c .before .before in rw (w .e3 .given .1) at (w .before .before .before .before .before .pre)) (λ c. search needs)
+    (λ c κs. search needs) (λ c. search needs) (λ c κs. let w = c .before in rw (w .e5 .given .1) at (w .before .before .before .before .before .pre))
     (λ c κs. search needs) (λ c. search needs)
-    (λ c κs. rw (c .before .before .e6 .given .1) at (c .before .before .before .before .before .before .pre)) (λ c. search needs)
+    (λ c κs. let w = c .before .before in rw (w .e6 .given .1) at (w .before .before .before .before .before .pre)) (λ c. search needs)
     (λ c κs. search needs) (λ c. search needs) (λ c κs. search needs)
     (λ c. search (needs, took, c .take-assignment .ensures .0, c .take-assignment .ensures .1))
     (λ c. search (needs, took, c .take-grant .ensures .0, c .take-grant .ensures .1))
