@@ -1,6 +1,6 @@
 // One pass over an image that judges it and fills the tables of its policy on the way.
 ghost use mathlib.Core.Path.{_≡_};
-ghost use Prim.Native.Nat.{_-_, _*_, _≤_};
+ghost use Prim.Native.Nat.{_-_, _*_, _/_, _≤_};
 ghost use lib.ListN.{length};
 ghost use Rattle.model.specs.declared.Head.{Head as HeadOf};
 ghost use Rattle.model.specs.Image.{scan, start, judgeWords};
@@ -57,9 +57,9 @@ fn closing(image: &[u8], words: usize, h: Head, due: u32, sum: u32) -> Checked
     Checked::Accepted(h)
 }
 
+// Judges the words behind a right head, and fills the tables; `first` is the head's word.
 fn read_words(
     image: &[u8],
-    words: usize,
     h: Head,
     first: u32,
     assigned: &mut [u64; 64],
@@ -68,12 +68,15 @@ fn read_words(
     limits: &mut [u64; 64],
     xs: &mut [[u64; 2]; 32],
 ) -> Reading
-    requires { ⌜ (4 * words ≤ length (now image)) × (2 ≤ words) × (words ≤ 4096) × (length (now xs) ≡ 32) ⌝ }
-    ensures { λ r. ⌜ (r .checked ≡ scan (now (image .entry)) h (words - 1) 1 (now (assigned .entry)) start first)
+    requires { ⌜ (4 * (length (now image) / 4) ≤ length (now image)) × (2 ≤ length (now image) / 4) × (length (now image) / 4 ≤ 4096)
+        × (length (now xs) ≡ 32) ⌝ }
+    ensures { λ r. ⌜ (r .checked ≡ scan (now (image .entry)) h (length (now (image .entry)) / 4 - 1) 1 (now (assigned .entry)) start first)
         × ((g : HeadOf) → r .checked ≡ Checked.Accepted g
-        → Gathered (now (image .entry)) (words - 1) (now (assigned .entry)) (values (now (granted .entry))) (now (juniors .entry)) (now (limits .entry))
+        → Gathered (now (image .entry)) (length (now (image .entry)) / 4 - 1) (now (assigned .entry)) (values (now (granted .entry)))
+        (now (juniors .entry)) (now (limits .entry))
         (now (assigned .exit)) (values (now (granted .exit))) (now (juniors .exit)) (now (limits .exit)) (now (xs .exit)) (r .count)) ⌝ }
 {
+    let words = image.len() / 4;
     let mut places = [0usize; 32];
     let mut t = fresh();
     let mut at = Run {
@@ -151,17 +154,7 @@ fn gather(
     }
     let w = octets::word_at(image, 0);
     if head_right(w) {
-        return read_words(
-            image,
-            len / 4,
-            head_of(w),
-            w,
-            assigned,
-            granted,
-            juniors,
-            limits,
-            xs,
-        );
+        return read_words(image, head_of(w), w, assigned, granted, juniors, limits, xs);
     }
     refused(2, 0)
 }

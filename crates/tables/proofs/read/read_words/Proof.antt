@@ -3,7 +3,7 @@
 -- Assumes nothing.
 use mathlib.Core.Path.{_≡_, refl, sym, ap, subst, _∙_}
 use mathlib.Core.List.{List, _++_, map}
-use Prim.Native.Nat.{ℕ, _+_, _-_, _≤_, _<_}
+use Prim.Native.Nat.{ℕ, _+_, _-_, _/_, _≤_, _<_}
 use native.Mathlib.Omega.{arith}
 use lib.ListN.{length, getD, take}
 use borrow.Author.Needs.{needs}
@@ -23,7 +23,7 @@ use Rattle.tables.proofs.read.read_words.Statement.{statement}
 use Rattle.tables.proofs.read.read_words.Tie as tie
 
 abbrev Inv-loop : tie.InvT-loop
-Inv-loop image words h first assigned₀ granted₀ juniors₀ limits₀ xs places₀ t₀ at₀ assigned granted juniors limits places t at =
+Inv-loop image h first assigned₀ granted₀ juniors₀ limits₀ xs words places₀ t₀ at₀ assigned granted juniors limits places t at =
     (1 ≤ at .place) × (at .place ≤ words - 1)
     × (scan image h (words - at .place) (at .place) assigned t (at .sum) ≡ scan image h (words - 1) 1 assigned₀ start first)
     × (t .exclusions ≤ 32) × (length places ≡ 32) × ((j : ℕ) → getD places j 0 < words)
@@ -34,13 +34,13 @@ Inv-loop image words h first assigned₀ granted₀ juniors₀ limits₀ xs plac
     × (take (t .exclusions) places ++ placesFrom image (words - at .place) (at .place) ≡ placesFrom image (words - 1) 1)
 
 abbrev μ-loop : tie.MeasureT-loop
-μ-loop image words h first assigned₀ granted₀ juniors₀ limits₀ xs places₀ t₀ at₀ assigned granted juniors limits places t at = words - at .place
+μ-loop image h first assigned₀ granted₀ juniors₀ limits₀ xs words places₀ t₀ at₀ assigned granted juniors limits places t at = words - at .place
 
 loop-holds : tie.Need-loop-holds Inv-loop μ-loop
 unfolding start
 loop-holds c =
     let a = c .before .before in
-    let none = none-noted 32 (a .args .words) (omega (arith, a .pre .1)) in
+    let none = none-noted 32 (length (a .args .image .now) / 4) (omega (arith, a .pre .1)) in
     let e = c .fresh .ensures in
     (omega arith, omega (arith, a .pre .1), rw e, rw e (omega arith), refl, none, refl, refl, refl, refl, rw e)
 
@@ -53,7 +53,7 @@ returns c =
     let l = w .before .before .before in
     let a = l .before .before .before .args in
     let more = w .before .if1 .taken in
-    let lt : l .loop .at .place < a .words = omega (arith, more) in
+    let lt : l .loop .at .place < length (a .image .now) / 4 = omega (arith, more) in
     let e = before-last _ _ _ _ _ _ _ more (f .step .ensures .faulty) in (
       c .refused .ensures
           ∙ stops _ _ _ _ _ _ _ _ _ _ lt (w .word-at .ensures) (d .decode .ensures .0) e _ (i .if2 .taken) (l .loop .inv .2),
@@ -95,7 +95,7 @@ loop-again c =
     let a = l .before .before .before .args in
     let z = n .before .if2 .left in
     let more = w .before .if1 .taken in
-    let lt : l .loop .at .place < a .words = omega (arith, more) in
+    let lt : l .loop .at .place < length (a .image .now) / 4 = omega (arith, more) in
     let ew = w .word-at .ensures in
     let ed = d .decode .ensures .0 in
     let e = f .step .ensures in
@@ -108,7 +108,7 @@ loop-again c =
           (s .wrapping-add-u32 .ensures) (l .loop .inv .2),
       rw (j .exclusions-same) (subst (λ (x : Scan). x .exclusions ≤ 32) (sym (n .next .ensures)) (next-few (l .loop .t) _ due (l .loop .inv .3))),
       ap length noted ∙ length-noted _ _ _ _ ∙ l .loop .inv .4,
-      λ j. subst (λ (v : List ℕ). getD v j 0 < a .words) (sym noted) (noted-below _ _ _ _ _ lt (l .loop .inv .5) j),
+      λ j. subst (λ (v : List ℕ). getD v j 0 < length (a .image .now) / 4) (sym noted) (noted-below _ _ _ _ _ lt (l .loop .inv .5) j),
       r .passed .assigned-is ∙ j .folded assigning (λ x y. refl) _ ∙ fold-next _ _ _ _ _ _ _ _ _ lt ew ed (e .assigned-is z) (l .loop .inv .6),
       r .granted-is ∙ j .folded granting (λ x y. refl) _ ∙ fold-next _ _ _ _ _ _ _ _ _ lt ew ed (e .granted-is z) (l .loop .inv .7),
       r .passed .juniors-is ∙ j .folded ordering (λ x y. refl) _ ∙ fold-next _ _ _ _ _ _ _ _ _ lt ew ed (e .juniors-is z) (l .loop .inv .8),
@@ -156,8 +156,8 @@ returns-3 c =
         limits-is = fold-last _ _ _ p ee limiting _ _ refl (l .loop .inv .9);
         exclusions-are =
             x .ensures .0
-            ∙ ap (map (exclusionAt s (a .words))) (places-last _ _ _ p ee (l .loop .t) (l .loop .places) (l .loop .inv .4) ∙ l .loop .inv .10)
-            ∙ sym (exclusions-placed s (a .words) (a .words - 1) 1 (omega (arith, l .before .before .before .pre .1)));
+            ∙ ap (map (exclusionAt s (length (a .image .now) / 4))) (places-last _ _ _ p ee (l .loop .t) (l .loop .places) (l .loop .inv .4) ∙ l .loop .inv .10)
+            ∙ sym (exclusions-placed s (length (a .image .now) / 4) (length (a .image .now) / 4 - 1) 1 (omega (arith, l .before .before .before .pre .1)));
         few = l .loop .inv .3;
         full = x .ensures .1;
       },
