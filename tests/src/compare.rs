@@ -1,18 +1,19 @@
 //! The kit and the solver side by side: cases spread over the cores, answers counted, what differs shrunk and printed.
 
 use crate::gen::order::Moved;
-use crate::gen::Rng;
+use crate::gen::{damage, Rng};
 use crate::kit::{self, Empty};
 use crate::solver::calls::{self, Call, Reply};
-use crate::solver::image::{judge, Judged};
+use crate::solver::filled::Filled;
+use crate::solver::image::{judge, Judged, Refused};
 use crate::solver::line::LINE;
-use crate::solver::loops::{self, Found};
+use crate::solver::loops::{self, CHAIN};
 #[cfg(feature = "calls")]
-use crate::solver::moves::{self, Carried, Move};
+use crate::solver::moves::{self, Move};
 #[cfg(feature = "calls")]
-use crate::solver::stopped::{self, Told};
-use crate::solver::tidy::{self, Written};
-use crate::solver::turned::{self, Filled, Way};
+use crate::solver::stopped::{self, USERS};
+use crate::solver::tidy;
+use crate::solver::turned::{self, Way};
 use crate::words;
 use std::collections::BTreeMap;
 use std::io::Write;
@@ -219,20 +220,20 @@ fn over_image<T>(name: &str, image: &[u8], by_both: impl Fn(&[u8]) -> Result<T, 
 }
 
 /// The loop call by both on a chain buffer of this length; panics with a shrunk image if they differ.
-pub fn find_loop(image: &[u8], room: usize, empty: Empty, guard: u8) -> Found {
+pub fn find_loop(image: &[u8], room: usize, empty: Empty, guard: u8) -> Filled<[u8; CHAIN]> {
     over_image(&format!("the loop call on {room} bytes"), image, |image| {
         let found = loops::find(image, room);
-        let expected = (found.returned(), found.chain.as_ref().map(|bytes| &bytes[..]));
+        let expected = (found.returned(), found.bytes.as_ref().map(|bytes| &bytes[..]));
         filled(image, room, guard, expected, |image, chain| kit::find_loop(empty, image, chain))?;
         Ok(found)
     })
 }
 
 /// The tidy call by both on a buffer of this length; panics with a shrunk image if they differ.
-pub fn tidy(image: &[u8], room: usize, empty: Empty, guard: u8) -> Written {
+pub fn tidy(image: &[u8], room: usize, empty: Empty, guard: u8) -> Filled {
     over_image(&format!("the tidy call on {room} bytes"), image, |image| {
         let written = tidy::write(image, room);
-        filled(image, room, guard, (written.returned(), written.image.as_deref()), |image, out| kit::tidy(empty, image, out))?;
+        filled(image, room, guard, (written.returned(), written.bytes.as_deref()), |image, out| kit::tidy(empty, image, out))?;
         Ok(written)
     })
 }
@@ -241,7 +242,7 @@ pub fn tidy(image: &[u8], room: usize, empty: Empty, guard: u8) -> Written {
 pub fn table(image: &[u8], room: usize, empty: Empty, guard: u8) -> Filled {
     over_image(&format!("the table call on {room} bytes"), image, |image| {
         let table = turned::table(image, room);
-        filled(image, room, guard, (table.returned(), table.table.as_deref()), |image, out| kit::table(empty, image, out))?;
+        filled(image, room, guard, (table.returned(), table.bytes.as_deref()), |image, out| kit::table(empty, image, out))?;
         Ok(table)
     })
 }
@@ -249,7 +250,7 @@ pub fn table(image: &[u8], room: usize, empty: Empty, guard: u8) -> Filled {
 /// A table turned one way or the other by both, into a target of this length; panics if they differ.
 pub fn turn(way: Way, source: &[u8], room: usize, empty: Empty, guard: u8) -> Filled {
     let table = turned::turn(way, source, room);
-    let expected = (table.returned(), table.table.as_deref());
+    let expected = (table.returned(), table.bytes.as_deref());
     if let Err(text) = filled(source, room, guard, expected, |source, target| kit::turn(empty, way, source, target)) {
         panic!("seed {}: {way:?} of {} bytes into {room}: {text}, on {source:02x?}", seed(), source.len());
     }
@@ -258,12 +259,12 @@ pub fn turn(way: Way, source: &[u8], room: usize, empty: Empty, guard: u8) -> Fi
 
 /// A move by both from an old ledger to a target that holds these bytes: what it did, or what differs.
 #[cfg(feature = "calls")]
-fn carried(way: Move, image: &[u8], old: &[u8], new: &[u8], empty: Empty, guard: u8) -> Result<Carried, String> {
+fn carried(way: Move, image: &[u8], old: &[u8], new: &[u8], empty: Empty, guard: u8) -> Result<Filled, String> {
     let before = image.to_vec();
     let (mut kit_old, mut kit_new) = (Guarded::new(old, guard), Guarded::new(new, !guard));
     let returned = kit::carry(empty, way, image, kit_old.inner(), kit_new.inner());
     let carried = moves::carry(way, &judge(image), old, new.len());
-    let target = carried.target.as_deref().unwrap_or(new);
+    let target = carried.bytes.as_deref().unwrap_or(new);
     if returned != carried.returned() {
         let (number, extra) = (returned % 256, returned / 256);
         return Err(format!("returned {number} + 256 * {extra}, the solver {} + 256 * {}", carried.number, carried.extra));
@@ -283,7 +284,7 @@ fn carried(way: Move, image: &[u8], old: &[u8], new: &[u8], empty: Empty, guard:
 
 /// A move by both; panics with a shrunk image and ledger if they differ.
 #[cfg(feature = "calls")]
-pub fn carry(way: Move, image: &[u8], old: &[u8], new: &[u8], empty: Empty, guard: u8) -> Carried {
+pub fn carry(way: Move, image: &[u8], old: &[u8], new: &[u8], empty: Empty, guard: u8) -> Filled {
     carried(way, image, old, new, empty, guard).unwrap_or_else(|_| {
         let (mut small, mut less) = (image.to_vec(), old.to_vec());
         shrink_image(&mut small, |image| carried(way, image, old, new, empty, guard).is_err());
@@ -297,10 +298,10 @@ pub fn carry(way: Move, image: &[u8], old: &[u8], new: &[u8], empty: Empty, guar
 
 /// The stopped call by both on a buffer of this length: what it told, or what differs.
 #[cfg(feature = "calls")]
-fn told(image: &[u8], ledger: &[u8], room: usize, empty: Empty, guard: u8) -> Result<Told, String> {
+fn told(image: &[u8], ledger: &[u8], room: usize, empty: Empty, guard: u8) -> Result<Filled<[u8; USERS]>, String> {
     let told = stopped::stopped(&judge(image), ledger, room);
     let mut kept = Guarded::new(ledger, !guard);
-    let expected = (told.returned(), told.users.as_ref().map(|users| &users[..]));
+    let expected = (told.returned(), told.bytes.as_ref().map(|users| &users[..]));
     filled(image, room, guard, expected, |image, users| kit::stopped(empty, image, kept.inner(), users))?;
     if kept.inner() != ledger || !kept.guards_stand() {
         return Err(format!("after answer {} the ledger changed", told.number));
@@ -310,7 +311,7 @@ fn told(image: &[u8], ledger: &[u8], room: usize, empty: Empty, guard: u8) -> Re
 
 /// The stopped call by both; panics with a shrunk image and ledger if they differ.
 #[cfg(feature = "calls")]
-pub fn stopped(image: &[u8], ledger: &[u8], room: usize, empty: Empty, guard: u8) -> Told {
+pub fn stopped(image: &[u8], ledger: &[u8], room: usize, empty: Empty, guard: u8) -> Filled<[u8; USERS]> {
     told(image, ledger, room, empty, guard).unwrap_or_else(|_| {
         let (mut small, mut less) = (image.to_vec(), ledger.to_vec());
         shrink_image(&mut small, |image| told(image, ledger, room, empty, guard).is_err());
@@ -541,4 +542,32 @@ pub fn alike(moved: &Moved, ledger: &[u8], calls: &[Call], empty: Empty) -> Vec<
             nonzero_lines(&ledger, LINE),
         );
     })
+}
+
+/// Plays a run by both, by itself and with up to two other calls before each of its own: what its own calls answer, which is the same.
+pub fn unmoved_by(rng: &mut Rng, run: &Run, mut other: impl FnMut(&mut Rng) -> Call) -> Vec<Played> {
+    let mut mixed = Vec::new();
+    for call in &run.calls {
+        (0..rng.below(3)).for_each(|_| mixed.push((other(rng), false)));
+        mixed.push((call.clone(), true));
+    }
+    let alone = play(run);
+    let together = play(&Run { calls: mixed.iter().map(|(call, _)| call.clone()).collect(), ..run.clone() });
+    let kept: Vec<Played> = mixed.iter().zip(together).filter(|((_, own), _)| *own).map(|(_, played)| played).collect();
+    assert_eq!(alone, kept);
+    alone
+}
+
+/// Draws damaged images and hands each that a check refuses to the test, with the refusal; every number of a check is among them.
+pub fn refused_images(seed: u64, images: usize, mut test: impl FnMut(&mut Rng, &[u8], (u64, u64))) {
+    let (mut rng, mut seen) = (Rng::new(seed), Vec::new());
+    for _ in 0..images {
+        let image = damage::image(&mut rng);
+        let Err(Refused { number, extra }) = judge(&image) else { continue };
+        test(&mut rng, &image, (number, extra as u64));
+        seen.push(number);
+    }
+    seen.sort();
+    seen.dedup();
+    assert_eq!(seen, [1, 2, 3, 4, 5, 6, 7, 8, 22, 23]);
 }

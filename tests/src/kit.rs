@@ -159,93 +159,89 @@ impl Empty {
     }
 }
 
+/// Makes a call of the library: a slice that it reads or writes is handed over as pointer and length, a number as it is.
+macro_rules! call {
+    (@ $empty:ident $call:expr, [$($given:expr),*]) => {
+        // SAFETY: each pointer and length are those of a slice, or NULL and 0; the slices do not overlap.
+        unsafe { $call($($given),*) }
+    };
+    (@ $empty:ident $call:expr, [$($given:expr),*] reads $slice:expr; $($rest:tt)*) => {
+        call!(@ $empty $call, [$($given,)* $empty.read($slice), $slice.len()] $($rest)*)
+    };
+    (@ $empty:ident $call:expr, [$($given:expr),*] writes $slice:expr; $($rest:tt)*) => {
+        call!(@ $empty $call, [$($given,)* $empty.write($slice), $slice.len()] $($rest)*)
+    };
+    (@ $empty:ident $call:expr, [$($given:expr),*] takes $number:expr; $($rest:tt)*) => {
+        call!(@ $empty $call, [$($given,)* $number] $($rest)*)
+    };
+    ($empty:ident, $call:expr, $($rest:tt)*) => {
+        call!(@ $empty $call, [] $($rest)*)
+    };
+}
+
 /// Check.
 pub fn check(empty: Empty, image: &[u8]) -> u64 {
-    // SAFETY: pointer and length are those of a slice, or NULL and 0.
-    unsafe { raw::nutrameza_check(empty.read(image), image.len()) }
+    call!(empty, raw::nutrameza_check, reads image;)
 }
 
 /// The loop call.
 pub fn find_loop(empty: Empty, image: &[u8], chain: &mut [u8]) -> u64 {
-    // SAFETY: each pointer and length are those of a slice, or NULL and 0; the slices do not overlap.
-    unsafe { raw::nutrameza_loop(empty.read(image), image.len(), empty.write(chain), chain.len()) }
+    call!(empty, raw::nutrameza_loop, reads image; writes chain;)
 }
 
 /// The tidy call.
 pub fn tidy(empty: Empty, image: &[u8], out: &mut [u8]) -> u64 {
-    // SAFETY: as in `find_loop`.
-    unsafe { raw::nutrameza_tidy(empty.read(image), image.len(), empty.write(out), out.len()) }
+    call!(empty, raw::nutrameza_tidy, reads image; writes out;)
 }
 
 /// The table call.
 pub fn table(empty: Empty, image: &[u8], table: &mut [u8]) -> u64 {
-    // SAFETY: as in `find_loop`.
-    unsafe { raw::nutrameza_table(empty.read(image), image.len(), empty.write(table), table.len()) }
+    call!(empty, raw::nutrameza_table, reads image; writes table;)
 }
 
 /// A table turned or turned back: the source is read, the target written.
 pub fn turn(empty: Empty, way: Way, source: &[u8], target: &mut [u8]) -> u64 {
-    let call = match way {
+    let turned = match way {
         Way::Turn => raw::nutrameza_turn,
         Way::Unturn => raw::nutrameza_unturn,
     };
-    // SAFETY: as in `find_loop`.
-    unsafe { call(empty.read(source), source.len(), empty.write(target), target.len()) }
+    call!(empty, turned, reads source; writes target;)
 }
 
 #[cfg(feature = "calls")]
 pub fn open(empty: Empty, image: &[u8], ledger: &mut [u8], user: u64) -> u64 {
-    // SAFETY: each pointer and length are those of a slice, or NULL and 0; the slices do not overlap.
-    unsafe { raw::nutrameza_open(empty.read(image), image.len(), empty.write(ledger), ledger.len(), user) }
+    call!(empty, raw::nutrameza_open, reads image; writes ledger; takes user;)
 }
 
 #[cfg(feature = "calls")]
 pub fn close(empty: Empty, image: &[u8], ledger: &mut [u8], user: u64, session: u64) -> u64 {
-    // SAFETY: as in `open`.
-    unsafe { raw::nutrameza_close(empty.read(image), image.len(), empty.write(ledger), ledger.len(), user, session) }
+    call!(empty, raw::nutrameza_close, reads image; writes ledger; takes user; takes session;)
 }
 
 #[cfg(feature = "calls")]
 pub fn show(empty: Empty, image: &[u8], ledger: &[u8], user: u64, session: u64, answer: &mut [u8]) -> u64 {
-    // SAFETY: as in `open`.
-    unsafe {
-        raw::nutrameza_show(
-            empty.read(image),
-            image.len(),
-            empty.read(ledger),
-            ledger.len(),
-            user,
-            session,
-            empty.write(answer),
-            answer.len(),
-        )
-    }
+    call!(empty, raw::nutrameza_show, reads image; reads ledger; takes user; takes session; writes answer;)
 }
 
 #[cfg(feature = "calls")]
 pub fn explain(empty: Empty, image: &[u8], ledger: &[u8], user: u64, session: u64, permission: u64) -> u64 {
-    // SAFETY: as in `open`.
-    unsafe { raw::nutrameza_explain(empty.read(image), image.len(), empty.read(ledger), ledger.len(), user, session, permission) }
+    call!(empty, raw::nutrameza_explain, reads image; reads ledger; takes user; takes session; takes permission;)
 }
 
 /// The stopped call: the ledger is read, the set of users written.
 #[cfg(feature = "calls")]
 pub fn stopped(empty: Empty, image: &[u8], ledger: &[u8], users: &mut [u8]) -> u64 {
-    // SAFETY: as in `open`.
-    unsafe {
-        raw::nutrameza_stopped(empty.read(image), image.len(), empty.read(ledger), ledger.len(), empty.write(users), users.len())
-    }
+    call!(empty, raw::nutrameza_stopped, reads image; reads ledger; writes users;)
 }
 
 /// A move: the old ledger is read, the new one written.
 #[cfg(feature = "calls")]
 pub fn carry(empty: Empty, way: Move, image: &[u8], old: &[u8], new: &mut [u8]) -> u64 {
-    let call = match way {
+    let moved = match way {
         Move::Widen => raw::nutrameza_widen,
         Move::Narrow => raw::nutrameza_narrow,
     };
-    // SAFETY: as in `open`.
-    unsafe { call(empty.read(image), image.len(), empty.read(old), old.len(), empty.write(new), new.len()) }
+    call!(empty, moved, reads image; reads old; writes new;)
 }
 
 /// What an ask names beside image, ledger and answer.
@@ -259,90 +255,30 @@ pub struct Wish<'a> {
 
 #[cfg(feature = "asks")]
 pub fn ask(empty: Empty, image: &[u8], ledger: &mut [u8], wish: &Wish, objectives: (u64, u64), answer: &mut [u8]) -> u64 {
-    // SAFETY: as in `open`.
-    unsafe {
-        raw::nutrameza_ask(
-            empty.read(image),
-            image.len(),
-            empty.write(ledger),
-            ledger.len(),
-            wish.user,
-            wish.session,
-            empty.read(wish.lower),
-            wish.lower.len(),
-            empty.read(wish.upper),
-            wish.upper.len(),
-            objectives.0,
-            objectives.1,
-            empty.write(answer),
-            answer.len(),
-        )
-    }
+    let Wish { user, session, lower, upper } = *wish;
+    call!(empty, raw::nutrameza_ask, reads image; writes ledger; takes user; takes session; reads lower; reads upper;
+        takes objectives.0; takes objectives.1; writes answer;)
 }
 
 #[cfg(feature = "asks")]
 pub fn short_ask(empty: Empty, image: &[u8], ledger: &mut [u8], wish: &Wish, answer: &mut [u8]) -> u64 {
-    // SAFETY: as in `open`.
-    unsafe {
-        raw::nutrameza_short_ask(
-            empty.read(image),
-            image.len(),
-            empty.write(ledger),
-            ledger.len(),
-            wish.user,
-            wish.session,
-            empty.read(wish.lower),
-            wish.lower.len(),
-            empty.read(wish.upper),
-            wish.upper.len(),
-            empty.write(answer),
-            answer.len(),
-        )
-    }
+    let Wish { user, session, lower, upper } = *wish;
+    call!(empty, raw::nutrameza_short_ask, reads image; writes ledger; takes user; takes session; reads lower; reads upper;
+        writes answer;)
 }
 
 #[cfg(feature = "asks")]
 pub fn clauses(empty: Empty, image: &[u8], ledger: &[u8], wish: &Wish, objectives: (u64, u64), out: &mut [u8]) -> u64 {
-    // SAFETY: as in `open`.
-    unsafe {
-        raw::nutrameza_clauses(
-            empty.read(image),
-            image.len(),
-            empty.read(ledger),
-            ledger.len(),
-            wish.user,
-            wish.session,
-            empty.read(wish.lower),
-            wish.lower.len(),
-            empty.read(wish.upper),
-            wish.upper.len(),
-            objectives.0,
-            objectives.1,
-            empty.write(out),
-            out.len(),
-        )
-    }
+    let Wish { user, session, lower, upper } = *wish;
+    call!(empty, raw::nutrameza_clauses, reads image; reads ledger; takes user; takes session; reads lower; reads upper;
+        takes objectives.0; takes objectives.1; writes out;)
 }
 
 #[cfg(feature = "asks")]
 pub fn obstacle(empty: Empty, image: &[u8], ledger: &[u8], wish: &Wish, roles: &mut [u8]) -> u64 {
-    // SAFETY: as in `open`.
-    unsafe {
-        raw::nutrameza_obstacle(
-            empty.read(image),
-            image.len(),
-            empty.read(ledger),
-            ledger.len(),
-            wish.user,
-            wish.session,
-            empty.read(wish.lower),
-            wish.lower.len(),
-            empty.read(wish.upper),
-            wish.upper.len(),
-            empty.write(roles),
-            roles.len(),
-        )
-    }
+    let Wish { user, session, lower, upper } = *wish;
+    call!(empty, raw::nutrameza_obstacle, reads image; reads ledger; takes user; takes session; reads lower; reads upper;
+        writes roles;)
 }
 
 /// Makes a call; the answer buffer is the call's room long.

@@ -479,3 +479,13 @@ pub fn obstacle_cases() -> Vec<LedgerCase> {
         ),
     ]
 }
+
+/// The image of the second clause text of docs/CLAUSES.md: one exclusion of the present and one of the past, both reduced.
+pub fn image_reduced() -> Vec<u8> {
+    let mut list = vec![words::head(1, 4, 3)];
+    list.extend((0..3).map(|role| words::assignment(0, role)));
+    list.extend([(0, 0), (1, 1), (2, 0), (2, 2), (3, 1), (3, 2)].map(|(role, permission)| words::grant(role, permission)));
+    list.extend(words::exclusion(0, 3, &[0, 1, 2]));
+    list.extend(words::exclusion(3, 2, &[1, 2, 3]));
+    words::bytes(&words::closed(list))
+}

@@ -5,7 +5,6 @@ use nutrameza_tests::compare::{play, say, spread, Played, Run, Tally};
 use nutrameza_tests::gen::{call, damage, ledger, policy, Rng};
 use nutrameza_tests::kit::{self, Empty};
 use nutrameza_tests::solver::calls::{read_permissions, Call, SHORT_OBJECTIVES};
-use nutrameza_tests::solver::image::judge;
 use nutrameza_tests::solver::line::LINE;
 use nutrameza_tests::solver::policy::Policy;
 use nutrameza_tests::{ward, words};
@@ -213,8 +212,7 @@ fn answers_a_hundred_thousand_asks_as_the_solver_does() {
             _ => policy::WIDE,
         };
         let draft = policy::policy(rng, size);
-        let mut image = words::bytes(&draft.words());
-        let policy = judge(&image).expect("a policy in good order is accepted");
+        let (mut image, policy) = draft.built();
         let damaged = rng.pick(&[0, 0, 0, 6]);
         let mut ledger = ledger::ledger(rng, &policy, damaged);
         if rng.one_in(24) {
@@ -276,8 +274,7 @@ fn made(image: &[u8], ledger: &[u8], call: &Call) -> (u64, Vec<u8>, Vec<u8>) {
 fn a_short_ask_is_the_ask_for_the_fewest_of_both() {
     let tally = spread("short asks", 20_000, |rng, tally| {
         let draft = if rng.one_in(8) { policy::policy(rng, policy::MIDDLE) } else { policy::overlapping(rng) };
-        let image = words::bytes(&draft.words());
-        let policy = judge(&image).expect("a policy in good order is accepted");
+        let (image, policy) = draft.built();
         let mut ledger = ledger::ledger(rng, &policy, 0);
         for _ in 0..8 {
             let short = short_ask(rng, &policy, &ledger);
@@ -307,8 +304,7 @@ fn a_short_ask_is_the_ask_for_the_fewest_of_both() {
 
 /// A user of 16 roles, some sessions open, asked for what some of the roles carry.
 fn crowded_run(rng: &mut Rng, exclusions: u64, asks: usize) -> (Run, Policy) {
-    let image = words::bytes(&policy::crowded(rng, exclusions).words());
-    let policy = judge(&image).expect("a policy in good order is accepted");
+    let (image, policy) = policy::crowded(rng, exclusions).built();
     let ledger = ledger::ledger(rng, &policy, 0);
     let mut calls = vec![open(0), open(0)];
     for _ in 0..asks {
@@ -339,8 +335,7 @@ fn each_user_is_told_the_same_whatever_the_others_do() {
     let tally = spread("runs of several users", 3_000, |rng, tally| {
         let mut draft = policy::policy(rng, policy::SMALL);
         draft.users = draft.users.max(2);
-        let image = words::bytes(&draft.words());
-        let policy = judge(&image).expect("a policy in good order is accepted");
+        let (image, policy) = draft.built();
         let first = ledger::ledger(rng, &policy, 8);
         let calls: Vec<Call> = (0..16).map(|_| call::any(rng, &policy, &first)).collect();
         let together = play(&Run { image, ledger: first.clone(), calls: calls.clone(), empty: Empty::Null });

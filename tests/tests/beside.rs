@@ -6,14 +6,9 @@ use nutrameza_tests::gen::policy::Draft;
 use nutrameza_tests::gen::{call, ledger, policy, Rng};
 use nutrameza_tests::kit::Empty;
 use nutrameza_tests::solver::calls::Call;
-use nutrameza_tests::solver::image::judge;
 use nutrameza_tests::solver::line::LINE;
 use nutrameza_tests::solver::policy::Policy;
 use nutrameza_tests::{ward, words};
-
-fn accepted(image: &[u8]) -> Policy {
-    judge(image).expect("a policy in good order is accepted")
-}
 
 /// The policy without its limits.
 fn unlimited(mut draft: Draft) -> Draft {
@@ -56,7 +51,7 @@ fn a_call_reads_its_users_line_alone() {
         let limited = rng.one_in(2);
         let draft = if limited { policy::limited(rng) } else { unlimited(policy::any(rng)) };
         let image = words::bytes(&draft.words());
-        let policy = accepted(&image);
+        let policy = policy::accepted(&image);
         let damaged = rng.pick(&[0, 4]);
         let mut ledger = ledger::ledger(rng, &policy, damaged);
         if rng.one_in(20) {
@@ -132,7 +127,7 @@ fn calls_of_different_users_may_be_made_in_any_order_without_limits() {
         let mut draft = unlimited(policy::policy(rng, policy::SMALL));
         draft.users = draft.users.max(2);
         let image = words::bytes(&draft.words());
-        let policy = accepted(&image);
+        let policy = policy::accepted(&image);
         let first = ledger::ledger(rng, &policy, 6);
         let calls = busy(rng, &policy, &first, true);
         let (one, left) = run(&image, &first, &calls);
@@ -151,7 +146,7 @@ fn calls_of_different_users_may_be_made_in_any_order_without_limits() {
 fn under_limits_the_order_of_asks_matters_and_that_of_other_calls_does_not() {
     let tally = spread("interleaved runs under limits", 4_000, |rng, tally| {
         let image = words::bytes(&policy::limited(rng).words());
-        let policy = accepted(&image);
+        let policy = policy::accepted(&image);
         let damaged = rng.pick(&[0, 0, 9]);
         let first = ledger::ledger(rng, &policy, damaged);
         let asks = rng.one_in(2);

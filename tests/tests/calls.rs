@@ -30,8 +30,7 @@ fn doctors_line() -> [u8; LINE] {
 fn of_many_users(rng: &mut Rng) -> (Vec<u8>, Policy) {
     let mut draft = policy::policy(rng, policy::MIDDLE);
     draft.users = 9;
-    let image = words::bytes(&draft.words());
-    let policy = judge(&image).expect("a policy in good order is accepted");
+    let (image, policy) = draft.built();
     (image, policy)
 }
 
@@ -207,8 +206,7 @@ fn of_user(call: Call, user: u64) -> Call {
 
 /// An image with the policy that guides the calls under it: in good order mostly, else damaged.
 fn image_and_policy(rng: &mut Rng) -> (Vec<u8>, Policy) {
-    let image = words::bytes(&policy::any(rng).words());
-    let policy = judge(&image).expect("a policy in good order is accepted");
+    let (image, policy) = policy::any(rng).built();
     if rng.one_in(8) {
         return (damage::image(rng), policy);
     }

@@ -11,7 +11,7 @@ use nutrameza_tests::solver::image::judge;
 use nutrameza_tests::solver::line::{Line, LINE};
 use nutrameza_tests::solver::policy::{Kind, Policy, Roles};
 use nutrameza_tests::solver::wcnf::read;
-use nutrameza_tests::{ward, words};
+use nutrameza_tests::ward;
 
 /// The text blocks of docs/CLAUSES.md.
 fn listed() -> Vec<&'static str> {
@@ -43,15 +43,10 @@ fn writes_the_text_of_image_a_as_it_is_listed() {
 
 #[test]
 fn writes_the_text_of_reduced_exclusions_as_it_is_listed() {
-    let mut list = vec![words::head(1, 4, 3)];
-    list.extend((0..3).map(|role| words::assignment(0, role)));
-    list.extend([(0, 0), (1, 1), (2, 0), (2, 2), (3, 1), (3, 2)].map(|(role, permission)| words::grant(role, permission)));
-    list.extend(words::exclusion(0, 3, &[0, 1, 2]));
-    list.extend(words::exclusion(3, 2, &[1, 2, 3]));
     let mut line = opened();
     line.history[1] = true;
     line.sessions[0].history[1] = true;
-    assert_eq!(text(&words::bytes(&words::closed(list)), &line, 0x1, 0x3, (2, 0)), listed()[1]);
+    assert_eq!(text(&ward::image_reduced(), &line, 0x1, 0x3, (2, 0)), listed()[1]);
 }
 
 #[test]
@@ -139,8 +134,7 @@ fn asker(rng: &mut Rng, policy: &Policy, ledger: &[u8]) -> Option<(usize, usize)
 fn says_what_is_admissible_and_what_is_best() {
     let tally = spread("clause texts", 6_000, |rng, tally| {
         let size = if rng.one_in(4) { policy::TINY } else { policy::SMALL };
-        let image = words::bytes(&policy::policy(rng, size).words());
-        let policy = judge(&image).expect("a policy in good order is accepted");
+        let (image, policy) = policy::policy(rng, size).built();
         let ledger = ledger::ledger(rng, &policy, 0);
         let Some((user, session)) = asker(rng, &policy, &ledger) else { return };
         let line = Line::read(&ledger[LINE * user..LINE * (user + 1)]);

@@ -1,7 +1,7 @@
 //! The clause text through the C interface: the examples of docs/CLAUSES.md, each refusal in its order, buffers of every length, then
 //! texts by the ten thousand beside the solver's, read back and held to the admissible sets.
 
-use nutrameza_tests::compare::{play, say, spread, step, Played, Run};
+use nutrameza_tests::compare::{play, refused_images, say, spread, step, unmoved_by, Played, Run};
 use nutrameza_tests::gen::{call, damage, ledger, policy, Rng};
 use nutrameza_tests::kit::{self, Empty};
 use nutrameza_tests::meaning::meant;
@@ -80,17 +80,12 @@ fn writes_the_text_of_image_a_as_it_is_listed() {
 
 #[test]
 fn writes_the_text_of_reduced_exclusions_as_it_is_listed() {
-    let mut list = vec![words::head(1, 4, 3)];
-    list.extend((0..3).map(|role| words::assignment(0, role)));
-    list.extend([(0, 0), (1, 1), (2, 0), (2, 2), (3, 1), (3, 2)].map(|(role, permission)| words::grant(role, permission)));
-    list.extend(words::exclusion(0, 3, &[0, 1, 2]));
-    list.extend(words::exclusion(3, 2, &[1, 2, 3]));
     let mut line = Line::read(&OPENED);
     line.history[1] = true;
     line.sessions[0].history[1] = true;
     let mut ledger = OPENED;
     line.write(&mut ledger);
-    assert_eq!(written(&words::bytes(&words::closed(list)), &ledger, &asked(0, 0x1, 0x3, (2, 0), 0)), listed()[1]);
+    assert_eq!(written(&ward::image_reduced(), &ledger, &asked(0, 0x1, 0x3, (2, 0), 0)), listed()[1]);
 }
 
 #[test]
@@ -148,22 +143,12 @@ fn refuses_in_the_order_of_the_register() {
 
 #[test]
 fn refuses_the_image_before_all_else() {
-    let mut seen = Vec::new();
-    let mut rng = Rng::new(10);
-    for _ in 0..4_000 {
-        let image = damage::image(&mut rng);
-        if let Err(refused) = judge(&image) {
-            for room in [0, 4_096] {
-                let call = Call::Clauses { user: 9, session: 9, lower: vec![], upper: vec![], objectives: (9, 9), room };
-                let expected = (refused.number, refused.extra as u64);
-                assert_eq!(answer(&image, &[0xFF; 3], call), expected, "{room} bytes");
-            }
-            seen.push(refused.number);
+    refused_images(10, 4_000, |_, image, refused| {
+        for room in [0, 4_096] {
+            let call = Call::Clauses { user: 9, session: 9, lower: vec![], upper: vec![], objectives: (9, 9), room };
+            assert_eq!(answer(image, &[0xFF; 3], call), refused, "{room} bytes");
         }
-    }
-    seen.sort();
-    seen.dedup();
-    assert_eq!(seen, [1, 2, 3, 4, 5, 6, 7, 8, 22, 23]);
+    });
 }
 
 #[test]
@@ -275,8 +260,7 @@ fn says_what_is_admissible_and_what_is_best() {
             3 => policy::limited(rng),
             _ => policy::policy(rng, policy::SMALL),
         };
-        let image = words::bytes(&draft.words());
-        let policy = judge(&image).expect("a policy in good order is accepted");
+        let (image, policy) = draft.built();
         let ledger = ledger::ledger(rng, &policy, 0);
         for _ in 0..3 {
             let call = call::clauses(rng, &policy, &ledger);
@@ -314,8 +298,7 @@ fn says_what_is_admissible_and_what_is_best() {
 fn answers_as_the_solver_does_on_every_kind_of_call() {
     let tally = spread("clause texts", 20_000, |rng, tally| {
         let size = rng.pick(&[policy::TINY, policy::SMALL, policy::SMALL, policy::MIDDLE]);
-        let mut image = words::bytes(&policy::policy(rng, size).words());
-        let policy = judge(&image).expect("a policy in good order is accepted");
+        let (mut image, policy) = policy::policy(rng, size).built();
         let damaged = rng.pick(&[0, 0, 0, 4]);
         let mut ledger = ledger::ledger(rng, &policy, damaged);
         if rng.one_in(16) {
@@ -451,8 +434,7 @@ fn each_user_is_told_the_same_text_whatever_the_others_do() {
     let tally = spread("clause texts in runs of several users", 3_000, |rng, tally| {
         let mut draft = policy::policy(rng, policy::SMALL);
         draft.users = draft.users.max(2);
-        let image = words::bytes(&draft.words());
-        let policy = judge(&image).expect("a policy in good order is accepted");
+        let (image, policy) = draft.built();
         let first = ledger::ledger(rng, &policy, 8);
         let drawn = |rng: &mut Rng| match rng.one_in(3) {
             true => call::clauses(rng, &policy, &first),
@@ -484,21 +466,12 @@ fn each_user_is_told_the_same_text_whatever_the_others_do() {
 #[test]
 fn a_clause_text_between_the_calls_changes_nothing() {
     let tally = spread("clause texts between calls", 2_000, |rng, tally| {
-        let image = words::bytes(&policy::policy(rng, policy::SMALL).words());
-        let policy = judge(&image).expect("a policy in good order is accepted");
+        let (image, policy) = policy::policy(rng, policy::SMALL).built();
         let ledger = ledger::ledger(rng, &policy, 8);
         let calls: Vec<Call> = (0..8).map(|_| call::any(rng, &policy, &ledger)).collect();
-        let mut mixed = Vec::new();
-        for call in &calls {
-            (0..rng.below(3)).for_each(|_| mixed.push((call::clauses(rng, &policy, &ledger), false)));
-            mixed.push((call.clone(), true));
-        }
-        let run = |calls| Run { image: image.clone(), ledger: ledger.clone(), calls, empty: Empty::Somewhere };
-        let alone: Vec<Played> = play(&run(calls));
-        let together = play(&run(mixed.iter().map(|(call, _)| call.clone()).collect()));
-        let kept: Vec<Played> = mixed.iter().zip(together).filter(|((_, kept), _)| *kept).map(|(_, played)| played).collect();
-        assert_eq!(alone, kept);
-        alone.iter().for_each(|played| tally.see_number(played.reply.number));
+        let run = Run { image, ledger: ledger.clone(), calls, empty: Empty::Somewhere };
+        let told = unmoved_by(rng, &run, |rng| call::clauses(rng, &policy, &ledger));
+        told.iter().for_each(|played| tally.see_number(played.reply.number));
     });
     tally.expect(200, &["0", "20"]);
 }
@@ -523,8 +496,7 @@ fn clasp_finds_the_same_least_weight_where_it_is_installed() {
     }
     assert_eq!(clasp(listed()[0]), Some(Some(13)));
     let tally = spread("clasp", 300, |rng, tally| {
-        let image = words::bytes(&policy::policy(rng, policy::MIDDLE).words());
-        let policy = judge(&image).expect("a policy in good order is accepted");
+        let (image, policy) = policy::policy(rng, policy::MIDDLE).built();
         let ledger = ledger::ledger(rng, &policy, 0);
         let call = call::clauses(rng, &policy, &ledger);
         let Some(text) = text_of(&image, &ledger, &call) else { return };

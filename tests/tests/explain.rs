@@ -1,7 +1,7 @@
 //! Explain through the C interface: each refusal in its order, the roles that it names, then explains by the ten thousand beside the
 //! solver and beside show.
 
-use nutrameza_tests::compare::{play, spread, step, Played, Run};
+use nutrameza_tests::compare::{play, refused_images, spread, step, unmoved_by, Run};
 use nutrameza_tests::gen::{call, damage, ledger, policy, Rng};
 use nutrameza_tests::kit::{self, Empty};
 use nutrameza_tests::solver::calls::{read_permissions, Call};
@@ -155,24 +155,14 @@ fn refuses_in_the_order_line_session_closed_permission_none() {
 
 #[test]
 fn refuses_the_image_before_all_else() {
-    let mut seen = Vec::new();
-    let mut rng = Rng::new(8);
-    for _ in 0..4_000 {
-        let image = damage::image(&mut rng);
-        if let Err(refused) = judge(&image) {
-            for length in [0, LINE - 1, LINE, 2 * LINE] {
-                let call = Call::Explain { user: u64::MAX, session: 8, permission: 256 };
-                let expected = (refused.number, refused.extra as u64);
-                assert_eq!(answer(&image, &vec![0xFF; length], call), expected, "{length} bytes");
-            }
-            seen.push(refused.number);
+    refused_images(8, 4_000, |_, image, refused| {
+        for length in [0, LINE - 1, LINE, 2 * LINE] {
+            let call = Call::Explain { user: u64::MAX, session: 8, permission: 256 };
+            assert_eq!(answer(image, &vec![0xFF; length], call), refused, "{length} bytes");
         }
-    }
+    });
     let looped = image(&[1], &[(1, 7)], &[(9, 4), (4, 9)]);
     assert_eq!(answer(&looped, &[0xFF; 3], explain(9, 999)), (22, 4));
-    seen.sort();
-    seen.dedup();
-    assert_eq!(seen, [1, 2, 3, 4, 5, 6, 7, 8, 22, 23]);
 }
 
 #[test]
@@ -224,8 +214,7 @@ fn drawn(rng: &mut Rng) -> (Vec<u8>, Policy, Vec<u8>) {
     }
     draft.fit(rng);
     rng.shuffle(&mut draft.entries);
-    let image = words::bytes(&draft.words());
-    let policy = judge(&image).expect("a policy in good order is accepted");
+    let (image, policy) = draft.built();
     let damaged = rng.pick(&[0, 0, 0, 4]);
     let ledger = ledger::ledger(rng, &policy, damaged);
     (image, policy, ledger)
@@ -316,17 +305,9 @@ fn an_explain_between_the_calls_of_others_changes_nothing() {
     let tally = spread("explains between calls", 4_000, |rng, tally| {
         let (image, policy, ledger) = drawn(rng);
         let calls: Vec<Call> = (0..8).map(|_| call::plain(rng, &policy)).collect();
-        let mut mixed = Vec::new();
-        for call in &calls {
-            (0..rng.below(3)).for_each(|_| mixed.push((call::explain(rng, &policy, &ledger), false)));
-            mixed.push((call.clone(), true));
-        }
-        let run = |calls| Run { image: image.clone(), ledger: ledger.clone(), calls, empty: Empty::Somewhere };
-        let alone: Vec<Played> = play(&run(calls));
-        let together = play(&run(mixed.iter().map(|(call, _)| call.clone()).collect()));
-        let kept: Vec<Played> = mixed.iter().zip(together).filter(|((_, kept), _)| *kept).map(|(_, played)| played).collect();
-        assert_eq!(alone, kept);
-        alone.iter().for_each(|played| tally.see_number(played.reply.number));
+        let run = Run { image, ledger: ledger.clone(), calls, empty: Empty::Somewhere };
+        let told = unmoved_by(rng, &run, |rng| call::explain(rng, &policy, &ledger));
+        told.iter().for_each(|played| tally.see_number(played.reply.number));
     });
     tally.expect(300, &["0", "11", "12", "13", "14", "16", "19", "20"]);
 }

@@ -245,8 +245,7 @@ fn runs_from_the_zero_ledger_never_exceed_a_limit() {
 #[test]
 fn no_call_puts_a_role_over_its_limit_and_one_that_is_over_stays_until_its_sessions_end() {
     let tally = spread("calls from any sound ledger", 6_000, |rng, tally| {
-        let image = words::bytes(&limited(rng).words());
-        let policy = judge(&image).expect("a policy in good order is accepted");
+        let (image, policy) = limited(rng).built();
         let mut ledger = ledger::ledger(rng, &policy, 0);
         let calls = some_calls(rng, &policy, &ledger, 8);
         let run = Run { image, ledger: ledger.clone(), calls: calls.clone(), empty: Empty::Null };
@@ -296,8 +295,7 @@ fn answers_calls_under_random_limits_as_the_solver_does() {
         } else {
             limited(rng)
         };
-        let image = words::bytes(&draft.words());
-        let policy = judge(&image).expect("a policy in good order is accepted");
+        let (image, policy) = draft.built();
         let damaged = rng.pick(&[0, 0, 0, 12]);
         let mut ledger = ledger::ledger(rng, &policy, damaged);
         if rng.one_in(40) {
@@ -329,8 +327,7 @@ fn without_limits_an_ask_answers_the_same_whatever_stands_in_other_lines() {
     let tally = spread("garbage beside", 4_000, |rng, tally| {
         let mut draft = policy::policy(rng, policy::SMALL);
         draft.users = draft.users.max(2);
-        let image = words::bytes(&draft.words());
-        let policy = judge(&image).expect("a policy in good order is accepted");
+        let (image, policy) = draft.built();
         let (sound, user) = (ledger::ledger(rng, &policy, 0), rng.place(policy.users));
         let mut garbage = rng.bytes(sound.len());
         garbage[LINE * user..LINE * (user + 1)].copy_from_slice(&sound[LINE * user..LINE * (user + 1)]);
@@ -389,8 +386,7 @@ fn shared(rng: &mut Rng) -> Draft {
 #[test]
 fn two_ledgers_that_agree_in_counts_and_in_the_lowest_damaged_line_answer_a_user_alike() {
     let tally = spread("agreeing in counts", 6_000, |rng, tally| {
-        let image = words::bytes(&shared(rng).words());
-        let policy = judge(&image).expect("a policy in good order is accepted");
+        let (image, policy) = shared(rng).built();
         let user = rng.place(policy.users);
         let mut first = ledger::ledger(rng, &policy, 0);
         let mut second = dealt_anew(rng, &policy, &first, user);

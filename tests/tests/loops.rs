@@ -35,7 +35,7 @@ fn checked(image: &[u8]) -> (u64, u64) {
 fn chain(image: &[u8]) -> Vec<u8> {
     let found = find_loop(image, 64, Empty::Somewhere, 0xA5);
     assert_eq!(found.number, 0);
-    let chain = found.chain.expect("a done call fills the chain");
+    let chain = found.bytes.expect("a done call fills the chain");
     let (chain, rest) = chain.split_at(found.extra as usize);
     assert!(rest.iter().all(|byte| *byte == 0));
     chain.to_vec()
@@ -210,7 +210,7 @@ fn chain_buffers_of_0_to_80_bytes_stay_as_they_were_on_every_refusal() {
                 let found = find_loop(&image, room, empty, room as u8 ^ 0x3C);
                 let expected = if number % 20 == 0 && room != 64 { 19 } else { number };
                 assert_eq!(found.number, expected, "{room} bytes");
-                assert_eq!(found.chain.is_some(), expected == 0);
+                assert_eq!(found.bytes.is_some(), expected == 0);
             }
         }
     }
@@ -304,7 +304,7 @@ fn finds_the_loops_of_forty_thousand_hierarchies_as_the_solver_and_the_lists_do(
         match judged {
             Ok(_) => assert_eq!(found.number, 20),
             Err(refused) => {
-                let chain = found.chain.expect("a loop has a chain");
+                let chain = found.bytes.expect("a loop has a chain");
                 hold_chain(tally, &policy, refused.extra, &chain[..found.extra as usize]);
             }
         }

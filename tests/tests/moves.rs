@@ -2,13 +2,14 @@
 //! of the target, every kind of damage at every user, round trips, runs that start on a target, then moves by the ten thousand beside
 //! the solver.
 
-use nutrameza_tests::compare::{carry, play, spread, step, Run, Tally};
+use nutrameza_tests::compare::{carry, play, refused_images, spread, step, Run, Tally};
 use nutrameza_tests::gen::{call, damage, ledger, policy, Rng};
 use nutrameza_tests::kit::{self, Empty};
 use nutrameza_tests::solver::calls::{play_with, Call};
+use nutrameza_tests::solver::filled::Filled;
 use nutrameza_tests::solver::image::judge;
 use nutrameza_tests::solver::line::{sound, Line, LINE, SESSIONS};
-use nutrameza_tests::solver::moves::{Carried, Move, BOTH, OLD_LINE, OLD_SESSIONS};
+use nutrameza_tests::solver::moves::{Move, BOTH, OLD_LINE, OLD_SESSIONS};
 use nutrameza_tests::solver::policy::Policy;
 use nutrameza_tests::{ward, words};
 
@@ -41,7 +42,7 @@ fn filler(length: usize) -> Vec<u8> {
 }
 
 /// A move by both to a target of the fitting size.
-fn moved(way: Move, image: &[u8], old: &[u8]) -> Carried {
+fn moved(way: Move, image: &[u8], old: &[u8]) -> Filled {
     let (from, to) = way.lines();
     carry(way, image, old, &filler(old.len() / from * to), Empty::Somewhere, 0xC3)
 }
@@ -49,7 +50,7 @@ fn moved(way: Move, image: &[u8], old: &[u8]) -> Carried {
 /// Number and extra of such a move.
 fn answer(way: Move, image: &[u8], old: &[u8]) -> (u64, u64) {
     let carried = moved(way, image, old);
-    assert_eq!(carried.target.is_some(), carried.number == 0);
+    assert_eq!(carried.bytes.is_some(), carried.number == 0);
     (carried.number, carried.extra)
 }
 
@@ -57,7 +58,7 @@ fn answer(way: Move, image: &[u8], old: &[u8]) -> (u64, u64) {
 fn target(way: Move, image: &[u8], old: &[u8]) -> Vec<u8> {
     let carried = moved(way, image, old);
     assert_eq!((carried.number, carried.extra), (0, 0));
-    carried.target.expect("a done move fills the target")
+    carried.bytes.expect("a done move fills the target")
 }
 
 /// Closes the sessions 4 to 7 in each line of a ledger of eight.
@@ -82,8 +83,7 @@ fn drawn(rng: &mut Rng, users: u32) -> (Vec<u8>, Policy) {
     let size = rng.pick(&[policy::TINY, policy::SMALL, policy::SMALL, policy::MIDDLE]);
     let mut draft = policy::policy(rng, size);
     draft.users = draft.users.max(users);
-    let image = words::bytes(&draft.words());
-    let policy = judge(&image).expect("a policy in good order is accepted");
+    let (image, policy) = draft.built();
     (image, policy)
 }
 
@@ -113,19 +113,11 @@ fn the_past_and_each_session_stand_under_their_numbers_and_new_sessions_are_clos
 
 #[test]
 fn refuses_the_image_before_all_else() {
-    let mut seen = Vec::new();
-    let mut rng = Rng::new(6);
-    for _ in 0..3_000 {
-        let image = damage::image(&mut rng);
-        let Err(refused) = judge(&image) else { continue };
+    refused_images(6, 3_000, |rng, image, refused| {
         let (old, new) = (rng.pick(&[0, 79, 80, 144, 160]), rng.pick(&[0, 80, 143, 144, 288]));
-        let carried = carry(rng.pick(&BOTH), &image, &vec![0xFF; old], &filler(new), Empty::Null, 9);
-        assert_eq!((carried.number, carried.extra), (refused.number, refused.extra as u64));
-        seen.push(refused.number);
-    }
-    seen.sort();
-    seen.dedup();
-    assert_eq!(seen, [1, 2, 3, 4, 5, 6, 7, 8, 22, 23]);
+        let carried = carry(rng.pick(&BOTH), image, &vec![0xFF; old], &filler(new), Empty::Null, 9);
+        assert_eq!((carried.number, carried.extra), refused);
+    });
 }
 
 /// Lengths about a fitting one: off by a byte, by a line of either size and by half, none, the other move's, and all small ones.
@@ -435,26 +427,12 @@ fn each_user_is_told_the_same_from_widened_ledgers_that_agree_in_the_line() {
     tally.expect(100, &["0", "13", "20"]);
 }
 
-/// The session that a call names.
-fn session_of(call: &Call) -> Option<u64> {
-    match call {
-        Call::Open { .. } => None,
-        Call::Close { session, .. }
-        | Call::Show { session, .. }
-        | Call::Ask { session, .. }
-        | Call::ShortAsk { session, .. }
-        | Call::Explain { session, .. }
-        | Call::Clauses { session, .. }
-        | Call::Obstacle { session, .. } => Some(*session),
-    }
-}
-
 /// A call for which a user of four sessions is told what one of eight is: it names none of the sessions 4 to 7 and opens none of them.
 fn within_four(call: &Call, old: &[u8]) -> bool {
     let full = old.chunks_exact(OLD_LINE).nth(call.user() as usize).is_some_and(|line| line[0] == 15);
-    match session_of(call) {
-        None => !full,
-        Some(session) => !(OLD_SESSIONS as u64..SESSIONS as u64).contains(&session),
+    match call {
+        Call::Open { .. } => !full,
+        _ => !(OLD_SESSIONS as u64..SESSIONS as u64).contains(&call.session()),
     }
 }
 
@@ -521,7 +499,7 @@ fn the_old_ledger_may_be_kept_and_moved_again_to_the_same_bytes() {
         let first = target(way, &image, &old);
         for byte in [0, 0xFF, 0x5A] {
             let carried = carry(way, &image, &old, &vec![byte; first.len()], Empty::Somewhere, byte);
-            assert_eq!(carried.target.as_deref(), Some(&first[..]));
+            assert_eq!(carried.bytes.as_deref(), Some(&first[..]));
         }
     }
 }
@@ -548,8 +526,7 @@ fn any_old(rng: &mut Rng, way: Move, policy: &Policy) -> Vec<u8> {
 #[test]
 fn moves_twenty_thousand_ledgers_as_the_solver_does() {
     let tally = spread("moves", 20_000, |rng, tally| {
-        let mut image = words::bytes(&policy::any(rng).words());
-        let policy = judge(&image).expect("a policy in good order is accepted");
+        let (mut image, policy) = policy::any(rng).built();
         let way = rng.pick(&BOTH);
         let old = any_old(rng, way, &policy);
         let mut new = filler(way.lines().1 * policy.users);
@@ -568,7 +545,7 @@ fn moves_twenty_thousand_ledgers_as_the_solver_does() {
         if carried.number == 11 || carried.number == 24 {
             tally.see(if carried.extra == 0 { "at user 0" } else { "at a later user" });
         }
-        if let Some(target) = carried.target {
+        if let Some(target) = carried.bytes {
             assert_eq!(self::target(way.back(), &image, &target), old);
         }
     });

@@ -2,7 +2,7 @@
 //! exclusions, each refusal in its order; then obstacles by the hundred thousand beside the solver, beside asks with
 //! the same bounds, on images whose entries are moved about and on tidy images.
 
-use nutrameza_tests::compare::{alike, leaves, play, spread, Left, Played, Run, Tally};
+use nutrameza_tests::compare::{alike, leaves, play, refused_images, spread, unmoved_by, Left, Played, Run, Tally};
 use nutrameza_tests::gen::order::{moved, WAYS};
 use nutrameza_tests::gen::policy::{self, Draft};
 use nutrameza_tests::gen::{call, damage, ledger, Rng};
@@ -421,8 +421,7 @@ fn every_kind_and_n_of_an_exclusion_is_told_up_to_64() {
 #[test]
 fn empty_lower_bounds_are_never_hindered_on_a_sound_line() {
     let tally = spread("empty bounds", 2_000, |rng, tally| {
-        let image = words::bytes(&policy::any(rng).words());
-        let policy = judge(&image).expect("a policy in good order is accepted");
+        let (image, policy) = policy::any(rng).built();
         let ledger = ledger::ledger(rng, &policy, 0);
         for user in 0..policy.users.min(4) as u64 {
             for session in 0..8 {
@@ -499,22 +498,12 @@ fn refuses_users_and_sessions_beyond_up_to_the_largest_number() {
 
 #[test]
 fn refuses_the_image_before_all_else() {
-    let mut seen = Vec::new();
-    let mut rng = Rng::new(14);
-    for _ in 0..4_000 {
-        let image = damage::image(&mut rng);
-        if let Err(refused) = judge(&image) {
-            for length in [0, LINE - 1, LINE, 2 * LINE] {
-                let call = Call::Obstacle { user: u64::MAX, session: 8, lower: vec![1], upper: vec![], room: 3 };
-                let expected = Refused(refused.number, refused.extra as u64);
-                assert_eq!(told(&image, &vec![0xFF; length], call), expected, "{length} bytes");
-            }
-            seen.push(refused.number);
+    refused_images(14, 4_000, |_, image, (number, extra)| {
+        for length in [0, LINE - 1, LINE, 2 * LINE] {
+            let call = Call::Obstacle { user: u64::MAX, session: 8, lower: vec![1], upper: vec![], room: 3 };
+            assert_eq!(told(image, &vec![0xFF; length], call), Refused(number, extra), "{length} bytes");
         }
-    }
-    seen.sort();
-    seen.dedup();
-    assert_eq!(seen, [1, 2, 3, 4, 5, 6, 7, 8, 22, 23]);
+    });
 }
 
 #[test]
@@ -559,7 +548,7 @@ fn drawn(rng: &mut Rng) -> (Draft, Policy, Vec<u8>) {
     }
     draft.fit(rng);
     rng.shuffle(&mut draft.entries);
-    let policy = judge(&words::bytes(&draft.words())).expect("a policy in good order is accepted");
+    let policy = draft.built().1;
     let damaged = rng.pick(&[0, 0, 0, 0, 0, 8]);
     let ledger = ledger::ledger(rng, &policy, damaged);
     (draft, policy, ledger)
@@ -688,7 +677,7 @@ fn entries_moved_about_and_the_tidy_image_tell_the_same_bytes() {
         let [image, other] = moved.images();
         let calls: Vec<Call> = (0..6).map(|_| call::obstacle(rng, &policy, &ledger)).collect();
         let left: Vec<Left> = alike(&moved, &ledger, &calls, rng.pick(&[Empty::Null, Empty::Somewhere]));
-        let tidy = tidy::write(&image, 4 * words::MOST_WORDS).image.expect("the image is accepted");
+        let tidy = tidy::write(&image, 4 * words::MOST_WORDS).bytes.expect("the image is accepted");
         for (call, left) in calls.iter().zip(left) {
             assert_eq!(leaves(&tidy, &ledger, call, Empty::Null), left, "{call:?} on the tidy image of {image:02x?}");
             assert_eq!(left.ledger, ledger, "{call:?} touches the ledger");
@@ -803,17 +792,9 @@ fn an_obstacle_between_the_calls_of_others_changes_nothing() {
             }
         };
         let calls: Vec<Call> = (0..8).map(|_| plain(rng)).collect();
-        let mut mixed = Vec::new();
-        for call in &calls {
-            (0..rng.below(3)).for_each(|_| mixed.push((call::obstacle(rng, &policy, &ledger), false)));
-            mixed.push((call.clone(), true));
-        }
-        let run = |calls| Run { image: image.clone(), ledger: ledger.clone(), calls, empty: Empty::Somewhere };
-        let alone: Vec<Played> = play(&run(calls));
-        let together = play(&run(mixed.iter().map(|(call, _)| call.clone()).collect()));
-        let kept: Vec<Played> = mixed.iter().zip(together).filter(|((_, kept), _)| *kept).map(|(_, played)| played).collect();
-        assert_eq!(alone, kept);
-        alone.iter().for_each(|played| tally.see_number(played.reply.number));
+        let run = Run { image, ledger: ledger.clone(), calls, empty: Empty::Somewhere };
+        let told = unmoved_by(rng, &run, |rng| call::obstacle(rng, &policy, &ledger));
+        told.iter().for_each(|played| tally.see_number(played.reply.number));
     });
     tally.expect(100, &["0", "11", "12", "13", "19", "20"]);
 }
@@ -826,8 +807,7 @@ fn tells_users_of_sixteen_roles_under_thirty_two_exclusions() {
         if rng.one_in(3) {
             draft.limit_some(rng);
         }
-        let image = words::bytes(&draft.words());
-        let policy = judge(&image).expect("a policy in good order is accepted");
+        let (image, policy) = draft.built();
         let ledger = ledger::ledger(rng, &policy, 0);
         let mut calls = vec![Call::Open { user: 0 }, Call::Open { user: 0 }];
         for _ in 0..4 {

@@ -156,7 +156,7 @@ fn whole_runs_from_the_zero_ledger_and_from_any_other_go_alike() {
         let draft = draft(rng);
         let moved = moved(rng, &draft, Way::Any);
         let image = moved.images()[0].clone();
-        let policy = judge(&image).expect("a policy in good order is accepted");
+        let policy = policy::accepted(&image);
         let (first, _) = a_ledger(rng, &policy);
         let (mut ledger, mut calls) = (first.clone(), Vec::new());
         for _ in 0..60 {
@@ -279,7 +279,7 @@ fn a_clause_text_follows_the_order_of_exclusions() {
         let draft = policy::overlapping(rng);
         let moved = moved(rng, &draft, Way::Any);
         let [image, other] = moved.images();
-        let policy = judge(&image).expect("a policy in good order is accepted");
+        let policy = policy::accepted(&image);
         let ledger = ledger::ledger(rng, &policy, 0);
         let call = call::clauses(rng, &policy, &ledger);
         let [one, two] = [&image, &other].map(|image| leaves(image, &ledger, &call, Empty::Null));
@@ -301,8 +301,7 @@ fn a_member_moved_across_exclusions_is_accepted_and_answered_otherwise() {
         let mut draft = policy::overlapping(rng);
         draft.exclude(rng);
         draft.exclude(rng);
-        let image = words::bytes(&draft.words());
-        let policy = judge(&image).expect("a policy in good order is accepted");
+        let (image, policy) = draft.built();
         let exclusions = exclusions(&draft);
         let [from, to] = [rng.pick(&exclusions), rng.pick(&exclusions)];
         let [out, into] = [from, to].map(|entry| rng.from_to(1, draft.entries[entry].len() as u64 - 1) as usize);

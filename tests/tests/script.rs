@@ -4,7 +4,6 @@
 use nutrameza_tests::compare::spread;
 use nutrameza_tests::gen::{damage, policy, script, Rng};
 use nutrameza_tests::program::{self, ending, fresh, golden, run_in, run_on_file, start, start_in, Ending};
-use nutrameza_tests::solver::image::judge;
 use nutrameza_tests::solver::script::output;
 use nutrameza_tests::{ward, words};
 use std::fs::{File, OpenOptions, Permissions};
@@ -364,8 +363,7 @@ fn shrunk(image: &[u8], script: &[u8]) -> Vec<u8> {
 fn plays_generated_scripts_as_the_solver_does() {
     let tally = spread("scripts", 600, |rng: &mut Rng, tally| {
         let draft = if rng.one_in(12) { policy::limits(rng) } else { policy::policy(rng, policy::SMALL) };
-        let mut image = words::bytes(&draft.words());
-        let policy = judge(&image).expect("a policy in good order is accepted");
+        let (mut image, policy) = draft.built();
         let length = rng.from_to(0, 120) as usize;
         let script = script::script(rng, &policy, length);
         if rng.one_in(12) {

@@ -2,10 +2,11 @@
 //! against is held against the papers.
 
 use nutrameza_tests::solver::calls::{play, Call, Reply};
+use nutrameza_tests::solver::filled::Filled;
 use nutrameza_tests::solver::image::{judge, Refused};
 use nutrameza_tests::solver::line::LINE;
 use nutrameza_tests::solver::loops::find;
-use nutrameza_tests::solver::moves::{carry, Carried, Move};
+use nutrameza_tests::solver::moves::{carry, Move};
 use nutrameza_tests::solver::tidy::write;
 use nutrameza_tests::ward::{self, Case};
 use nutrameza_tests::words;
@@ -61,7 +62,7 @@ fn hierarchy(roles: u32, pairs: &[(u32, u32)]) -> Vec<u8> {
 /// What the loop call fills a buffer of 64 bytes with, up to its extra; all after that is zero.
 fn chain(roles: u32, pairs: &[(u32, u32)]) -> Vec<u8> {
     let found = find(&hierarchy(roles, pairs), 64);
-    let chain = found.chain.expect("there is a loop");
+    let chain = found.bytes.expect("there is a loop");
     let (chain, rest) = chain.split_at(found.extra as usize);
     assert!(rest.iter().all(|byte| *byte == 0));
     chain.to_vec()
@@ -139,7 +140,7 @@ fn managers_line(bytes: usize, also_open: u8) -> Vec<u8> {
 #[test]
 fn a_line_is_carried_to_eight_sessions_and_back_under_the_same_numbers() {
     let image = judge(&ward::image_a());
-    let done = |target| Carried { number: 0, extra: 0, target: Some(target) };
+    let done = |target| Filled::done(0, target);
     assert_eq!(carry(Move::Widen, &image, &managers_line(80, 8), 144), done(managers_line(144, 8)));
     assert_eq!(carry(Move::Narrow, &image, &managers_line(144, 8), 80), done(managers_line(80, 8)));
 }
@@ -149,7 +150,7 @@ fn a_move_refuses_by_the_image_9_19_11_and_24_in_this_order() {
     let (image, none) = (judge(&ward::image_a()), judge(&[]));
     let refused = |way, image, old: &[u8], room| {
         let carried = carry(way, image, old, room);
-        assert_eq!((carried.extra, carried.target), (0, None));
+        assert_eq!((carried.extra, carried.bytes), (0, None));
         carried.number
     };
     assert_eq!(refused(Move::Narrow, &none, &[], 0), 1);
@@ -225,8 +226,8 @@ fn a_role_has_the_smallest_of_its_limits_and_the_tidy_image_has_that_one_behind_
     let policy = judge(&image(&[(1, 9), (0, 256), (1, 3), (1, 4)])).expect("it is accepted");
     assert_eq!(policy.limits.into_iter().collect::<Vec<_>>(), [(0, 256), (1, 3)]);
     let tidy = write(&image(&[(1, 9), (0, 256), (1, 3), (1, 4)]), 100);
-    assert_eq!((tidy.number, tidy.extra, &tidy.image), (0, 17, &write(&image(&[(0, 256), (1, 3)]), 100).image));
-    let list = words::from_bytes(&tidy.image.expect("it is written"));
+    assert_eq!((tidy.number, tidy.extra, &tidy.bytes), (0, 17, &write(&image(&[(0, 256), (1, 3)]), 100).bytes));
+    let list = words::from_bytes(&tidy.bytes.expect("it is written"));
     assert_eq!(list[11..16], [0x54102000, 0x60000000, 0x60400000, words::limit(0, 256), words::limit(1, 3)]);
 }
 

@@ -1,35 +1,32 @@
 //! Whom an image stops, through the C interface: each refusal in its order with every byte of the buffer, every kind of damage at every
 //! user, then policies that change while people work, beside the solver.
 
-use nutrameza_tests::compare::{play, spread, step, stopped, Played, Run, Tally};
+use nutrameza_tests::compare::{play, refused_images, spread, step, stopped, Played, Run, Tally};
 use nutrameza_tests::gen::change::{self, Change};
 use nutrameza_tests::gen::policy::Draft;
 use nutrameza_tests::gen::{call, damage, ledger, policy, Rng};
 use nutrameza_tests::kit::{self, Empty};
 use nutrameza_tests::solver::calls::Call;
+use nutrameza_tests::solver::filled::Filled;
 use nutrameza_tests::solver::image::judge;
 use nutrameza_tests::solver::line::{sound, LINE};
 use nutrameza_tests::solver::policy::Policy;
-use nutrameza_tests::solver::stopped::{Told, USERS};
+use nutrameza_tests::solver::stopped::{names, USERS};
 use nutrameza_tests::{ward, words};
 
 /// The numbers that the stopped call can give.
 const NUMBERS: [&str; 13] = ["0", "1", "2", "3", "4", "5", "6", "7", "8", "22", "23", "9", "19"];
 
 /// The call by both with a buffer of the right size.
-fn told(image: &[u8], ledger: &[u8]) -> Told {
+fn told(image: &[u8], ledger: &[u8]) -> Filled<[u8; USERS]> {
     let told = stopped(image, ledger, USERS, Empty::Somewhere, 0xC3);
-    assert_eq!(told.users.is_some(), told.number == 0);
+    assert_eq!(told.bytes.is_some(), told.number == 0);
     told
 }
 
 /// The answer to an open by the kit on a copy of the ledger.
 fn opened(image: &[u8], ledger: &[u8], user: usize) -> u64 {
     kit::open(Empty::Somewhere, image, &mut ledger.to_vec(), user as u64) % 256
-}
-
-fn accepted(image: &[u8]) -> Policy {
-    judge(image).expect("a policy in good order is accepted")
 }
 
 /// So many users with the roles 0 and 1 of four, which exclude each other over the open windows of a user.
@@ -44,15 +41,15 @@ fn image(users: u32) -> Vec<u8> {
 #[test]
 fn each_user_alone_is_told_as_that_users_bit() {
     for users in [1, 2, 7, 8, 9, 63, 64] {
-        assert_eq!(told(&image(users), &vec![0; LINE * users as usize]).users, Some([0; 8]));
+        assert_eq!(told(&image(users), &vec![0; LINE * users as usize]).bytes, Some([0; 8]));
         for user in 0..users as usize {
             let mut ledger = vec![0; LINE * users as usize];
             ledger[LINE * user + 1] = 1;
             let told = told(&image(users), &ledger);
-            assert_eq!((told.number, told.extra, told.users), (0, 1, Some((1u64 << user).to_le_bytes())));
+            assert_eq!((told.number, told.extra, told.bytes), (0, 1, Some((1u64 << user).to_le_bytes())));
         }
         let all = told(&image(users), &vec![0xFF; LINE * users as usize]);
-        assert_eq!((all.extra, all.users), (users as u64, Some((u64::MAX >> (64 - users)).to_le_bytes())));
+        assert_eq!((all.extra, all.bytes), (users as u64, Some((u64::MAX >> (64 - users)).to_le_bytes())));
     }
 }
 
@@ -60,9 +57,9 @@ fn each_user_alone_is_told_as_that_users_bit() {
 fn a_zero_line_is_never_stopped() {
     let tally = spread("zero lines", 3_000, |rng, tally| {
         let image = words::bytes(&policy::any(rng).words());
-        let policy = accepted(&image);
+        let policy = policy::accepted(&image);
         let told = told(&image, &vec![0; LINE * policy.users]);
-        assert_eq!((told.number, told.extra, told.users), (0, 0, Some([0; 8])));
+        assert_eq!((told.number, told.extra, told.bytes), (0, 0, Some([0; 8])));
         tally.see("policies");
     });
     tally.expect(3_000, &["policies"]);
@@ -70,19 +67,11 @@ fn a_zero_line_is_never_stopped() {
 
 #[test]
 fn refuses_the_image_before_all_else() {
-    let mut seen = Vec::new();
-    let mut rng = Rng::new(15);
-    for _ in 0..3_000 {
-        let image = damage::image(&mut rng);
-        let Err(refused) = judge(&image) else { continue };
+    refused_images(15, 3_000, |rng, image, refused| {
         let (length, room) = (rng.pick(&[0, 143, 144, 145, 288]), rng.pick(&[0, 7, 8, 9]));
-        let told = stopped(&image, &vec![0xFF; length], room, Empty::Null, 9);
-        assert_eq!((told.number, told.extra), (refused.number, refused.extra as u64));
-        seen.push(refused.number);
-    }
-    seen.sort();
-    seen.dedup();
-    assert_eq!(seen, [1, 2, 3, 4, 5, 6, 7, 8, 22, 23]);
+        let told = stopped(image, &vec![0xFF; length], room, Empty::Null, 9);
+        assert_eq!((told.number, told.extra), refused);
+    });
 }
 
 #[test]
@@ -135,7 +124,7 @@ fn a_role_over_its_limit_stops_nobody() {
         line[0] |= 1 << session;
         (line[8], line[16 + 16 * session], line[24 + 16 * session]) = (1, 1, 1);
     }
-    assert_eq!(told(&image, &[line.clone(), line.clone(), line].concat()).users, Some([0; 8]));
+    assert_eq!(told(&image, &[line.clone(), line.clone(), line].concat()).bytes, Some([0; 8]));
 }
 
 #[test]
@@ -143,7 +132,7 @@ fn tells_a_line_damaged_in_any_field_at_every_user() {
     let tally = spread("damaged lines told", 12_000, |rng, tally| {
         let size = rng.pick(&[policy::TINY, policy::SMALL, policy::SMALL, policy::MIDDLE]);
         let image = words::bytes(&policy::policy(rng, size).words());
-        let policy = accepted(&image);
+        let policy = policy::accepted(&image);
         let mut ledger = ledger::ledger(rng, &policy, 0);
         let (user, how) = (rng.place(policy.users), rng.pick(&ledger::DAMAGES));
         let line = &mut ledger[LINE * user..LINE * (user + 1)];
@@ -152,7 +141,7 @@ fn tells_a_line_damaged_in_any_field_at_every_user() {
         let told = told(&image, &ledger);
         assert_eq!((told.number, told.extra), (0, u64::from(bad)));
         for other in 0..policy.users {
-            assert_eq!(told.names(other), other == user && bad);
+            assert_eq!(names(&told, other), other == user && bad);
         }
         if bad {
             tally.see(&format!("{how:?}"));
@@ -166,16 +155,16 @@ fn tells_a_line_damaged_in_any_field_at_every_user() {
 fn a_user_is_told_exactly_if_an_open_gives_11() {
     let tally = spread("users told and opened", 12_000, |rng, tally| {
         let image = words::bytes(&policy::any(rng).words());
-        let policy = accepted(&image);
+        let policy = policy::accepted(&image);
         let damaged = rng.pick(&[0, 2, 5]);
         let ledger = ledger::ledger(rng, &policy, damaged);
         let told = told(&image, &ledger);
         for user in 0..policy.users {
             let number = opened(&image, &ledger, user);
-            assert_eq!(told.names(user), number == 11, "user {user} is answered {number}");
+            assert_eq!(names(&told, user), number == 11, "user {user} is answered {number}");
             tally.see_number(number);
         }
-        (policy.users..64).for_each(|user| assert!(!told.names(user)));
+        (policy.users..64).for_each(|user| assert!(!names(&told, user)));
     });
     tally.expect(1_000, &["0", "11", "14"]);
 }
@@ -185,7 +174,7 @@ fn tells_twenty_thousand_ledgers_as_the_solver_does() {
     let tally = spread("ledgers told", 20_000, |rng, tally| {
         let mut image = words::bytes(&policy::any(rng).words());
         let damaged = rng.pick(&[0, 3, 24]);
-        let mut ledger = ledger::ledger(rng, &accepted(&image), damaged);
+        let mut ledger = ledger::ledger(rng, &policy::accepted(&image), damaged);
         if rng.one_in(10) {
             ledger::misfit(rng, &mut ledger);
         }
@@ -245,30 +234,30 @@ fn a_change_stops_whom_the_call_told_and_nobody_else() {
     let tally = spread("changes with windows open", 6_000, |rng, tally| {
         let mut draft = first(rng);
         let mut image = words::bytes(&draft.words());
-        let mut ledger = ledger::ledger(rng, &accepted(&image), 0);
+        let mut ledger = ledger::ledger(rng, &policy::accepted(&image), 0);
         let mut old = told(&image, &ledger);
         for _ in 0..4 {
             let way = rng.pick(&ways);
             draft = change::change(rng, &draft, way);
             image = words::bytes(&draft.words());
-            let (policy, before) = (accepted(&image), ledger.len() / LINE);
+            let (policy, before) = (policy::accepted(&image), ledger.len() / LINE);
             ledger = grown(ledger, draft.users);
             let now = told(&image, &ledger);
-            (before..policy.users).for_each(|user| assert!(!now.names(user), "added user {user} is stopped by {way:?}"));
+            (before..policy.users).for_each(|user| assert!(!names(&now, user), "added user {user} is stopped by {way:?}"));
             if quiet(way) {
-                assert!((0..policy.users).all(|user| old.names(user) || !now.names(user)), "{way:?} stops somebody");
+                assert!((0..policy.users).all(|user| names(&old, user) || !names(&now, user)), "{way:?} stops somebody");
                 tally.see("quiet changes");
             }
             let lines = ledger.clone();
             for (call, number) in worked(rng, &image, &policy, &mut ledger, tally) {
                 let user = call.user() as usize;
-                if user < policy.users && now.names(user) {
+                if user < policy.users && names(&now, user) {
                     assert_eq!(number, 11, "{call:?} of a stopped user");
                 } else if policy.limits.is_empty() || !call.is_ask() {
                     assert_ne!(number, 11, "{call:?} of a user who is not stopped");
                 }
             }
-            for user in (0..policy.users).filter(|user| now.names(*user)) {
+            for user in (0..policy.users).filter(|user| names(&now, *user)) {
                 assert_eq!(ledger[LINE * user..LINE * (user + 1)], lines[LINE * user..LINE * (user + 1)]);
             }
             tally.see(&format!("{way:?}"));
@@ -308,11 +297,12 @@ fn a_user_is_told_the_same_over_changes_whatever_the_others_do() {
         draft.users = draft.users.max(2);
         let user = rng.place(draft.users as usize);
         let mut images = [words::bytes(&draft.words()), words::bytes(&draft.others_redrawn(rng, user as u32).words())];
-        let mut ledgers = [ledger::ledger(rng, &accepted(&images[0]), 6), ledger::ledger(rng, &accepted(&images[1]), 2)];
+        let mut ledgers =
+            [ledger::ledger(rng, &policy::accepted(&images[0]), 6), ledger::ledger(rng, &policy::accepted(&images[1]), 2)];
         let line = ledgers[0][LINE * user..LINE * (user + 1)].to_vec();
         ledgers[1][LINE * user..LINE * (user + 1)].copy_from_slice(&line);
         for _ in 0..4 {
-            let policy = accepted(&images[0]);
+            let policy = policy::accepted(&images[0]);
             let calls: Vec<Call> = (0..10).map(|_| call::any(rng, &policy, &ledgers[0])).collect();
             let mut others: Vec<Call> = (0..6).map(|_| call::any(rng, &policy, &ledgers[1])).collect();
             others.retain(|call| call.user() != user as u64);
@@ -345,7 +335,7 @@ fn the_largest_call_fits_a_stack_of_64_kib() {
         list.push(words::grant(list.len() as u32 % 64, list.len() as u32 % 256));
     }
     let image = words::bytes(&words::closed(list));
-    let mut ledger = ledger::ledger(&mut Rng::new(64), &accepted(&image), 0);
+    let mut ledger = ledger::ledger(&mut Rng::new(64), &policy::accepted(&image), 0);
     ledger[LINE * 63 + 1] = 1;
     let run = move || {
         let mut users = [0xA5; USERS];

@@ -254,8 +254,7 @@ fn figures(printed: &str) -> (Vec<Vec<u64>>, Vec<Vec<u64>>) {
 fn surveys_generated_policies_and_scripts_as_the_solver_does() {
     let tally = spread("surveys", 400, |rng: &mut Rng, tally| {
         let draft = if rng.one_in(4) { policy::crowded(rng, 32) } else { policy::any(rng) };
-        let image = words::bytes(&draft.words());
-        let policy = judge(&image).expect("a policy in good order is accepted");
+        let (image, policy) = draft.built();
         let length = rng.from_to(0, 60) as usize;
         let script = script::script(rng, &policy, length);
         let (exclusions, counts) = figures(&text(Some(&image), &script));

@@ -21,7 +21,7 @@ const MOST_BYTES: usize = 4 * words::MOST_WORDS;
 fn tidied(image: &[u8]) -> Vec<u8> {
     let written = tidy(image, MOST_BYTES, Empty::Somewhere, 0xA5);
     assert_eq!(written.number, 0);
-    let bytes = written.image.expect("a done call writes the image");
+    let bytes = written.bytes.expect("a done call writes the image");
     assert_eq!(written.extra, bytes.len() as u64 / 4);
     assert!(bytes.len() <= image.len(), "it has no more words than the image");
     bytes
@@ -265,7 +265,7 @@ fn every_refusal_of_the_check_comes_before_the_buffer_and_leaves_it() {
 fn answers_images_and_buffers_of_every_sort_as_the_solver_does() {
     let tally = spread("tidy", 60_000, |rng, tally| {
         let image = if rng.one_in(3) { words::bytes(&policy::any(rng).words()) } else { damage::image(rng) };
-        let exact = write(&image, MOST_BYTES).image.map_or(image.len(), |bytes| bytes.len());
+        let exact = write(&image, MOST_BYTES).bytes.map_or(image.len(), |bytes| bytes.len());
         let room = match rng.below(5) {
             0 => exact,
             1 => exact.saturating_sub(1 + rng.place(8)),
@@ -275,7 +275,7 @@ fn answers_images_and_buffers_of_every_sort_as_the_solver_does() {
         };
         let written = tidy(&image, room, rng.pick(&[Empty::Null, Empty::Somewhere]), rng.draw() as u8);
         tally.see_number(written.number);
-        if let Some(bytes) = written.image {
+        if let Some(bytes) = written.bytes {
             tally.see(if bytes.len() < image.len() { "shorter" } else { "as long" });
             tally.see(if bytes == image { "tidy already" } else { "not tidy" });
         }
@@ -424,8 +424,7 @@ fn every_call_answers_alike_on_an_image_and_on_its_tidy_one() {
             _ => policy::policy(rng, policy::SMALL),
         };
         draft.fit(rng);
-        let image = words::bytes(&jumbled(rng, &draft).words());
-        let policy = judge(&image).expect("a policy in good order is accepted");
+        let (image, policy) = jumbled(rng, &draft).built();
         let tidy = tidied(&image);
         assert_eq!(check(&tidy, tally).err(), None);
         let mut ledger = ledger::ledger(rng, &policy, 6);

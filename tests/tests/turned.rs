@@ -27,7 +27,7 @@ fn turned(way: Way, source: &[u8]) -> Vec<u8> {
 fn table_of(image: &[u8]) -> Vec<u8> {
     let filled = table(image, TABLE, Empty::Null, 0x5A);
     assert_eq!((filled.number, filled.extra), (0, 0));
-    filled.table.expect("a done call fills the table")
+    filled.bytes.expect("a done call fills the table")
 }
 
 /// A table of zeros but for one bit.
@@ -77,8 +77,8 @@ fn any_bytes_come_back_in_both_orders() {
         let bytes = bytes(rng);
         let (empty, guard) = (rng.pick(&[Empty::Null, Empty::Somewhere]), rng.draw() as u8);
         for (way, back) in [(Way::Turn, Way::Unturn), (Way::Unturn, Way::Turn)] {
-            let there = turn(way, &bytes, TABLE, empty, guard).table.expect("2,048 bytes are turned");
-            let here = turn(back, &there, TABLE, empty, !guard).table.expect("2,048 bytes are turned back");
+            let there = turn(way, &bytes, TABLE, empty, guard).bytes.expect("2,048 bytes are turned");
+            let here = turn(back, &there, TABLE, empty, !guard).bytes.expect("2,048 bytes are turned back");
             assert_eq!(here, bytes);
             tally.see(if there == bytes { "as it was" } else { "another" });
         }
@@ -94,7 +94,7 @@ fn refuses_sources_and_targets_of_every_other_length_and_leaves_the_target() {
                 for (source, room) in [(length, TABLE), (TABLE, length), (length, length), (length, 2049), (2047, length)] {
                     let source: Vec<u8> = (0..source).map(|place| place as u8 ^ 0xC3).collect();
                     let filled = turn(way, &source, room, empty, length as u8 ^ 0x3C);
-                    assert_eq!((filled.number, filled.extra, filled.table), (19, 0, None), "{} into {room}", source.len());
+                    assert_eq!((filled.number, filled.extra, filled.bytes), (19, 0, None), "{} into {room}", source.len());
                 }
             }
         }
@@ -177,7 +177,7 @@ fn the_table_call_refuses_targets_of_every_other_length() {
     for room in WRONG.into_iter().chain([40, 64, 2000, 2040, 2047, 2049, 16384]) {
         for empty in [Empty::Null, Empty::Somewhere] {
             let filled = table(&ward::image_a(), room, empty, 0x21);
-            assert_eq!((filled.number, filled.extra, filled.table), (19, 0, None), "{room} bytes");
+            assert_eq!((filled.number, filled.extra, filled.bytes), (19, 0, None), "{room} bytes");
         }
     }
 }
@@ -193,7 +193,7 @@ fn gives_the_tables_of_images_of_every_sort_as_the_solver_does() {
         let room = if rng.one_in(8) { rng.pick(&WRONG) } else { TABLE };
         let filled = table(&image, room, rng.pick(&[Empty::Null, Empty::Somewhere]), rng.draw() as u8);
         tally.see_number(filled.number);
-        if let Some(rows) = filled.table {
+        if let Some(rows) = filled.bytes {
             tally.see(if rows.iter().all(|byte| *byte == 0) { "empty tables" } else { "filled tables" });
             assert_eq!(turned(Way::Unturn, &turned(Way::Turn, &rows)), rows);
         }

@@ -2,6 +2,8 @@
 //! no user reaches more than 16 roles.
 
 use super::Rng;
+use crate::solver::image::judge;
+use crate::solver::policy::Policy;
 use crate::words;
 
 /// A policy as entries still to be ordered, each with all of its words.
@@ -36,9 +38,21 @@ pub const WIDE: Size =
 pub const LARGE: Size =
     Size { users: 64, roles: 64, permissions: 256, roles_of_a_user: 16, grants_of_a_role: 12, seniors: 60, exclusions: 32 };
 
+/// The policy of an image in good order.
+pub fn accepted(image: &[u8]) -> Policy {
+    judge(image).expect("a policy in good order is accepted")
+}
+
 impl Draft {
     pub fn blank(users: u32, roles: u32, permissions: u32) -> Draft {
         Draft { users, roles, permissions, entries: Vec::new() }
+    }
+
+    /// Its image, and the policy that a check reads off it.
+    pub fn built(&self) -> (Vec<u8>, Policy) {
+        let image = words::bytes(&self.words());
+        let policy = accepted(&image);
+        (image, policy)
     }
 
     /// The words: head, entries, end.

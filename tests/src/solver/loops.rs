@@ -1,5 +1,6 @@
 //! The loop call: a shortest chain of senior words from the lowest role on a loop down and back to it.
 
+use super::filled::Filled;
 use super::image::read;
 use super::policy::Policy;
 use std::collections::BTreeMap;
@@ -7,43 +8,24 @@ use std::collections::BTreeMap;
 /// The bytes of a chain.
 pub const CHAIN: usize = 64;
 
-/// What the loop call answers: the number, the extra and the bytes that fill the chain buffer, if any do.
-#[derive(Clone, Debug, PartialEq, Eq)]
-pub struct Found {
-    pub number: u64,
-    pub extra: u64,
-    pub chain: Option<[u8; CHAIN]>,
-}
-
-impl Found {
-    fn refused(number: u64, extra: u64) -> Found {
-        Found { number, extra, chain: None }
-    }
-
-    /// The number that the C interface returns.
-    pub fn returned(&self) -> u64 {
-        self.number + 256 * self.extra
-    }
-}
-
 /// The loop call on an image, for a chain buffer of this length.
-pub fn find(image: &[u8], room: usize) -> Found {
+pub fn find(image: &[u8], room: usize) -> Filled<[u8; CHAIN]> {
     let policy = match read(image) {
         Ok(policy) => policy,
-        Err(refused) => return Found::refused(refused.number, refused.extra as u64),
+        Err(refused) => return Filled::as_check(&refused),
     };
     if room != CHAIN {
-        return Found::refused(19, 0);
+        return Filled::refused(19, 0);
     }
     let Some(role) = policy.lowest_on_loop() else {
-        return Found::refused(20, 0);
+        return Filled::refused(20, 0);
     };
     let roles = lowest_shortest(&policy, role);
     let mut chain = [0u8; CHAIN];
     for (byte, role) in chain.iter_mut().zip(&roles) {
         *byte = *role as u8;
     }
-    Found { number: 0, extra: roles.len() as u64, chain: Some(chain) }
+    Filled::done(roles.len() as u64, chain)
 }
 
 /// The lowest, role by role, of the shortest chains from a role on a loop down and back to it; the first role is left out.

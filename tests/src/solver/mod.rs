@@ -6,6 +6,7 @@
 pub mod calls;
 pub mod choice;
 pub mod clauses;
+pub mod filled;
 pub mod image;
 pub mod line;
 pub mod loops;

@@ -1,5 +1,6 @@
 //! The moves: a ledger carried from four sessions a user to eight, and back.
 
+use super::filled::Filled;
 use super::image::Judged;
 use super::line::{line_bytes, sound, Line, SESSIONS};
 
@@ -41,51 +42,32 @@ impl Move {
     }
 }
 
-/// What a move answers: the number, the extra and the bytes that fill the target, if any do.
-#[derive(Clone, Debug, PartialEq, Eq)]
-pub struct Carried {
-    pub number: u64,
-    pub extra: u64,
-    pub target: Option<Vec<u8>>,
-}
-
-impl Carried {
-    fn refused(number: u64, extra: u64) -> Carried {
-        Carried { number, extra, target: None }
-    }
-
-    /// The number that the C interface returns.
-    pub fn returned(&self) -> u64 {
-        self.number + 256 * self.extra
-    }
-}
-
 /// Carries an old ledger over under a judged image, to a target of this length.
-pub fn carry(way: Move, image: &Judged, old: &[u8], room: usize) -> Carried {
+pub fn carry(way: Move, image: &Judged, old: &[u8], room: usize) -> Filled {
     let policy = match image {
         Ok(policy) => policy,
-        Err(refused) => return Carried::refused(refused.number, refused.extra as u64),
+        Err(refused) => return Filled::as_check(refused),
     };
     let ((before, after), (old_line, new_line)) = (way.sessions(), way.lines());
     if old.len() != old_line * policy.users {
-        return Carried::refused(9, 0);
+        return Filled::refused(9, 0);
     }
     if room != new_line * policy.users {
-        return Carried::refused(19, 0);
+        return Filled::refused(19, 0);
     }
     let mut target = Vec::new();
     for user in 0..policy.users {
         let bytes = &old[old_line * user..old_line * (user + 1)];
         if !sound(policy, user, bytes) {
-            return Carried::refused(11, user as u64);
+            return Filled::refused(11, user as u64);
         }
         let line = Line::read(bytes);
         if (after..before).any(|session| line.sessions[session].open) {
-            return Carried::refused(24, user as u64);
+            return Filled::refused(24, user as u64);
         }
         target.extend(line_of(&line, after));
     }
-    Carried { number: 0, extra: 0, target: Some(target) }
+    Filled::done(0, target)
 }
 
 /// The bytes of a line's history and of its sessions under their numbers, in a line of so many sessions, those that it lacks closed.

@@ -1,37 +1,19 @@
 //! The tidy image: what an accepted image says, each thing once and in one order.
 
+use super::filled::Filled;
 use super::image::judge;
 use super::policy::{Exclusion, Policy};
 use std::collections::BTreeMap;
 
-/// What the tidy call answers: the number, the extra and the bytes that stand in front of the buffer, if any are written.
-#[derive(Clone, Debug, PartialEq, Eq)]
-pub struct Written {
-    pub number: u64,
-    pub extra: u64,
-    pub image: Option<Vec<u8>>,
-}
-
-impl Written {
-    fn refused(number: u64, extra: u64) -> Written {
-        Written { number, extra, image: None }
-    }
-
-    /// The number that the C interface returns.
-    pub fn returned(&self) -> u64 {
-        self.number + 256 * self.extra
-    }
-}
-
 /// The tidy call on an image, for a buffer of this length.
-pub fn write(image: &[u8], room: usize) -> Written {
+pub fn write(image: &[u8], room: usize) -> Filled {
     let policy = match judge(image) {
         Ok(policy) => policy,
-        Err(refused) => return Written::refused(refused.number, refused.extra as u64),
+        Err(refused) => return Filled::as_check(&refused),
     };
     let words = words(&policy);
     if room < 4 * words.len() {
-        return Written::refused(19, 0);
+        return Filled::refused(19, 0);
     }
     let mut bytes = Vec::new();
     for mut word in words.iter().copied() {
@@ -40,7 +22,7 @@ pub fn write(image: &[u8], room: usize) -> Written {
             word /= 256;
         }
     }
-    Written { number: 0, extra: words.len() as u64, image: Some(bytes) }
+    Filled::done(words.len() as u64, bytes)
 }
 
 /// A word: its kind and its fields, each with the bit that it starts at.

@@ -1,32 +1,10 @@
 //! The closed grant table in bytes, and tables turned, bit by bit.
 
+use super::filled::Filled;
 use super::image::judge;
 
 /// The bytes of a table: 64 rows of 32, or turned 256 rows of 8.
 pub const TABLE: usize = 2048;
-
-/// What a call on tables answers: the number, the extra and the bytes that fill the target, if any do.
-#[derive(Clone, Debug, PartialEq, Eq)]
-pub struct Filled {
-    pub number: u64,
-    pub extra: u64,
-    pub table: Option<Vec<u8>>,
-}
-
-impl Filled {
-    fn refused(number: u64, extra: u64) -> Filled {
-        Filled { number, extra, table: None }
-    }
-
-    fn done(table: Vec<u8>) -> Filled {
-        Filled { number: 0, extra: 0, table: Some(table) }
-    }
-
-    /// The number that the C interface returns.
-    pub fn returned(&self) -> u64 {
-        self.number + 256 * self.extra
-    }
-}
 
 /// Which way a table is turned.
 #[derive(Clone, Copy, Debug, PartialEq, Eq)]
@@ -51,7 +29,7 @@ fn set(bytes: &mut [u8], width: usize, row: usize, bit: usize) {
 pub fn table(image: &[u8], room: usize) -> Filled {
     let policy = match judge(image) {
         Ok(policy) => policy,
-        Err(refused) => return Filled::refused(refused.number, refused.extra as u64),
+        Err(refused) => return Filled::as_check(&refused),
     };
     if room != TABLE {
         return Filled::refused(19, 0);
@@ -62,7 +40,7 @@ pub fn table(image: &[u8], room: usize) -> Filled {
             set(&mut table, 32, role, permission);
         }
     }
-    Filled::done(table)
+    Filled::done(0, table)
 }
 
 /// Turns a table one way or the other, for a target of this length.
@@ -80,5 +58,5 @@ pub fn turn(way: Way, source: &[u8], room: usize) -> Filled {
             }
         }
     }
-    Filled::done(target)
+    Filled::done(0, target)
 }
