@@ -1,5 +1,8 @@
 #!/usr/bin/env python3
-"""tools/edits: which refusals of a wrong version it lets pass, on logs as the prover writes them. The last line is 'N passed, M failed'."""
+"""tools/edits: which refusals of a wrong version it lets pass, on logs as the prover writes them, and what its replacements make.
+
+The last line is 'N passed, M failed'.
+"""
 import importlib.machinery
 import importlib.util
 import os
@@ -46,15 +49,40 @@ def judged(edit, log):
         return edits.complaint(os.path.join(folder, "it.edit"), path, folder)
 
 
+# what a case is called, the file's text, the edit's replacements, words of the complaint ('': none), the text then
+REPLACED = [
+    ("one text", "a 28 b\n", "old: 28\nnew: 27\n", "", "a 27 b\n"),
+    ("two, the second in what the first made", "a 28 b\n", "old: 28\nnew: 27\nold: 27 b\nnew: c\n", "", "a c\n"),
+    ("a text left out", "a 28 b\n", "old: 28 \nnew:\n", "", "a b\n"),
+    ("a text that is not there", "a 28 b\n", "old: 29\nnew: 27\n", "stands 0 times", "a 28 b\n"),
+    ("a text that stands twice", "28 28\n", "old: 28\nnew: 27\n", "stands 2 times", "28 28\n"),
+    ("no replacement", "a 28 b\n", "", "replaces nothing", "a 28 b\n"),
+]
+
+
+def replaced(text, pairs):
+    with tempfile.TemporaryDirectory() as folder:
+        edit, source = os.path.join(folder, "it.edit"), os.path.join(folder, "it.rt")
+        for path, content in ((edit, "file: it.rt\n" + pairs), (source, text)):
+            with open(path, "w", encoding="utf-8") as f:
+                f.write(content)
+        return edits.apply(edit, folder) or "", open(source, encoding="utf-8").read()
+
+
 def main():
     failed = 0
+    for name, text, pairs, words, then in REPLACED:
+        found, left = replaced(text, pairs)
+        if left != then or (found != "" if words == "" else words not in found):
+            failed += 1
+            print("FAILED: %s: %r, %r" % (name, found, left))
     for name, edit, log, words in CASES:
         found = judged(edit, log) or ""
         good = found == "" if words == "" else words in found
         if not good:
             failed += 1
             print("FAILED: %s: %r" % (name, found))
-    print("%d passed, %d failed" % (len(CASES) - failed, failed))
+    print("%d passed, %d failed" % (len(CASES) + len(REPLACED) - failed, failed))
     return 1 if failed else 0
 
 
