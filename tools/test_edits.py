@@ -1,5 +1,5 @@
 #!/usr/bin/env python3
-"""tools/edits: which refusals of a wrong version it lets pass, on logs as the prover writes them, and what its replacements make.
+"""tools/edits: which refusals of a wrong version pass, on logs as the prover writes them; what its replacements make.
 
 The last line is 'N passed, M failed'.
 """

@@ -159,7 +159,8 @@ impl Empty {
     }
 }
 
-/// Makes a call of the library: a slice that it reads or writes is handed over as pointer and length, a number as it is.
+/// Makes a call of the library: a slice that it reads or writes is handed over as pointer and length, a number as it
+/// is.
 macro_rules! call {
     (@ $empty:ident $call:expr, [$($given:expr),*]) => {
         // SAFETY: each pointer and length are those of a slice, or NULL and 0; the slices do not overlap.
