@@ -4,7 +4,8 @@
  * A refused call changes no byte of any buffer. A buffer is its pointer, then its length in bytes; the
  * pointer may be NULL where the length is 0. The host keeps to this: the buffers of a call do not overlap, one
  * call at a time is made on a ledger, and a run's ledger is given to no call as any other buffer.
- * docs/HOST.md says how a host uses the calls, what it persists and when.
+ * docs/START.md is where to begin, docs/REFERENCE.md has the calls one by one, and docs/OPERATIONS.md says what a host
+ * persists and when.
  */
 #ifndef NUTRAMEZA_H
 #define NUTRAMEZA_H
@@ -414,8 +415,9 @@ uint64_t nutrameza_narrow(const uint8_t *image, size_t image_len, const uint8_t 
  * behind the text. Refusals 1 to 8, 22, 23, 9 to 13, 15 to 18, and 19 if the text is longer than the buffer; never 20,
  * since an ask without an admissible role set has a text too. */
 uint64_t nutrameza_clauses(const uint8_t *image, size_t image_len, const uint8_t *ledger, size_t ledger_len,
-                           uint64_t user, uint64_t session, const uint8_t *lower, size_t lower_len, const uint8_t *upper,
-                           size_t upper_len, uint64_t permission_aim, uint64_t role_aim, uint8_t *out, size_t out_len);
+                           uint64_t user, uint64_t session, const uint8_t *lower, size_t lower_len,
+                           const uint8_t *upper, size_t upper_len, uint64_t permission_aim, uint64_t role_aim,
+                           uint8_t *out, size_t out_len);
 
 #ifdef __cplusplus
 }
