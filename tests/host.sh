@@ -1,7 +1,8 @@
 #!/usr/bin/env bash
-# The kit as a record maker meets it: the header in three languages, an install into a fresh prefix, hosts that are built from
-# pkg-config alone and outside the repository. It needs libnutrameza.a (target/staticlib, or the folder that NUTRAMEZA_LIB names) and
-# target/bin/nutrameza_survey; without them the tests fail. The last line is 'N passed, M failed'.
+# The kit as a record maker meets it: the header in three languages, an install into a fresh prefix, hosts that are
+# built from pkg-config alone and outside the repository. It needs libnutrameza.a (target/staticlib, or the folder that
+# NUTRAMEZA_LIB names) and target/bin/nutrameza_survey; without them the tests fail. The last line is 'N passed, M
+# failed'.
 . "$(dirname "${BASH_SOURCE[0]}")/it.sh"
 lib=$(cd "$root" && realpath -m "${NUTRAMEZA_LIB:-target/staticlib}")
 prefix=$work/prefix
@@ -100,7 +101,8 @@ shown() {
     python3 -c 'import sys; sys.exit(open(sys.argv[1]).read() not in open(sys.argv[2]).read())' part "$4"
 }
 
-# The commands of the first page, by what pkg-config says; what the page shows of the program and of the policy is theirs.
+# The commands of the first page, by what pkg-config says; what the page shows of the program and of the policy is
+# theirs.
 first_host() {
   local cflags libs
   cflags=$(flags --cflags) && libs=$(flags --libs) && mkdir -p "$work/first" && cd "$work/first" && ln -s "$root/tools" "$root/examples" . &&
@@ -182,7 +184,8 @@ carrying() {
     replayed < "$work/carry.out" > said && diff said "$work/carry.out"
 }
 
-# The ledger over and back is the old one byte for byte, and so is the busy one once its window 4 is closed; the files carried stay.
+# The ledger over and back is the old one byte for byte, and so is the busy one once its window 4 is closed; the files
+# carried stay.
 carried() {
   cd "$work/carry" && numbers 2 3 0 0 2 2 0 0 0 0 | cmp - ledger.4 && cmp ledger.4 ledger.back && cmp ledger.4 busy.4 &&
     numbers 2 3 0 0 2 2 0 0 0 0 0 0 0 0 0 0 0 0 | cmp - ledger.8 && numbers 18 3 0 0 2 2 0 0 0 0 0 0 0 0 0 0 0 0 | cmp - busy.8
@@ -249,7 +252,8 @@ small_stack() {
   host stack "$root/tests/host/stack.c" -pthread && timeout 300 ./host
 }
 
-# An ask as clauses, solved by a program that tries every assignment: Doctor, with four permissions of weight 3 and itself.
+# An ask as clauses, solved by a program that tries every assignment: Doctor, with four permissions of weight 3 and
+# itself.
 clauses_solved() {
   local form
   for form in '' --row; do
