@@ -297,9 +297,9 @@ uint64_t nutrameza_loop(const uint8_t *image, size_t image_len, uint8_t *chain, 
 /* Tidy writes the tidy image, the one that all images of the same meaning share: head, assignments, grants, seniors,
  * exclusions, limits, each group ascending by its fields, nothing repeated; exclusions by kind, n, then the number of
  * the member set (role r counts 2 to the power r), members ascending; of a role's limits the smallest; the end word
- * that balances them. It stands in front of the buffer, no byte behind it changes, and the extra is the number of its
- * words: never more than the image has, so that a buffer of image_len bytes is enough. Refusals 1 to 8, 22, 23, and 19
- * if the buffer is smaller than the tidy image. */
+ * that balances them. It is written at the start of the buffer, no byte after it changes, and the extra is the number
+ * of its words: never more than the image has, so that a buffer of image_len bytes is enough. Refusals 1 to 8, 22, 23,
+ * and 19 if the buffer is smaller than the tidy image. */
 uint64_t nutrameza_tidy(const uint8_t *image, size_t image_len, uint8_t *out, size_t out_len);
 
 /* Table fills 2,048 bytes with the closed grant table, who carries what after seniority: 32 bytes for each of 64 roles,
@@ -413,7 +413,7 @@ uint64_t nutrameza_narrow(const uint8_t *image, size_t image_len, const uint8_t 
 /* Clauses writes an ask as weighted clauses for a PMaxSAT program, in the classic DIMACS form with a 'p wcnf' line,
  * into the first bytes of a buffer: the extra is how many. docs/CLAUSES.md has the rule for the text, in which a barred
  * role is none of the user's. The numbers and bounds are those of ask. It changes no ledger byte and no byte of the
- * buffer behind the text. Refusals 1 to 8, 22, 23, 9 to 13, 15 to 18, and 19 if the text is longer than the buffer;
+ * buffer after the text. Refusals 1 to 8, 22, 23, 9 to 13, 15 to 18, and 19 if the text is longer than the buffer;
  * never 20, since an ask without an admissible role set has a text too. */
 uint64_t nutrameza_clauses(const uint8_t *image, size_t image_len, const uint8_t *ledger, size_t ledger_len,
                            uint64_t user, uint64_t session, const uint8_t *lower, size_t lower_len,
