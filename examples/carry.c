@@ -4,11 +4,12 @@
  *     ./carry over OLD NEW
  *     ./carry back OLD NEW
  *
- * It carries the ledger in the file OLD, under policy.img, and writes NEW; OLD stays as it is. No window lives while it
- * runs, so it closes those above 3 itself; a host that is up asks its users first. The exit status is 0 if NEW is
- * written, 1 if the move is refused or NEW can't be written, 2 for wrong usage.
+ * It carries the ledger in the file OLD, under policy.img, and writes NEW, a file in the folder that it is run in; OLD
+ * stays as it is. No window lives while it runs, so it closes those above 3 itself; a host that is up asks its users
+ * first. The exit status is 0 if NEW is written, 1 if the move is refused or NEW can't be written, 2 for wrong usage.
  */
 #define _POSIX_C_SOURCE 200809L
+#include <fcntl.h>
 #include <inttypes.h>
 #include <stdio.h>
 #include <string.h>
@@ -33,6 +34,16 @@ static size_t load(const char *path, uint8_t *bytes, size_t most)
     return length;
 }
 
+/* Puts the folder on disk, without which a crash could undo the rename; 1 if it is there. */
+static int sync_folder(void)
+{
+    int folder = open(".", O_RDONLY);
+    if (folder < 0)
+        return 0;
+    int good = fsync(folder) == 0;
+    return close(folder) == 0 && good;
+}
+
 /* Puts the new ledger on disk, whole or not at all; 1 if it is there. */
 static int save(const char *path)
 {
@@ -41,7 +52,7 @@ static int save(const char *path)
         return 0;
     int good = fwrite(new_ledger, 1, new_len, file) == new_len && fflush(file) == 0 && fsync(fileno(file)) == 0;
     good = fclose(file) == 0 && good;
-    return good && rename("ledger.part", path) == 0;
+    return good && rename("ledger.part", path) == 0 && sync_folder();
 }
 
 /* Makes the move, and says how it went. */

@@ -7,6 +7,7 @@
  * The exit status is 1 where the image is missing or refused.
  */
 #define _POSIX_C_SOURCE 200809L
+#include <fcntl.h>
 #include <inttypes.h>
 #include <stdio.h>
 #include <string.h>
@@ -38,7 +39,17 @@ static int load_policy(void)
     return number == NUTRAMEZA_DONE;
 }
 
-/* Puts the ledger on disk, the old one or the new one whole; 1 if it is there. */
+/* Puts the folder on disk, without which a crash could undo the rename; 1 if it is there. */
+static int sync_folder(void)
+{
+    int folder = open(".", O_RDONLY);
+    if (folder < 0)
+        return 0;
+    int good = fsync(folder) == 0;
+    return close(folder) == 0 && good;
+}
+
+/* Puts the ledger on disk, so that a crash leaves the old one or the new one whole; 1 if it is there. */
 static int persist(void)
 {
     FILE *file = fopen("ledger.new", "wb");
@@ -46,7 +57,7 @@ static int persist(void)
         return 0;
     int good = fwrite(ledger, 1, sizeof ledger, file) == sizeof ledger && fflush(file) == 0 && fsync(fileno(file)) == 0;
     good = fclose(file) == 0 && good;
-    return good && rename("ledger.new", "ledger") == 0;
+    return good && rename("ledger.new", "ledger") == 0 && sync_folder();
 }
 
 /* What follows a call that may change the ledger: 1 if it is done and on disk, else the ledger is as before and the
