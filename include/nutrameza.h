@@ -1,9 +1,9 @@
 /* The session kit: policy image, ledger and role choice, for hosts in C99 and later or C++.
  *
- * Each call takes any numbers and any buffers and either does what it is for or answers one refusal by number.
- * A refused call changes no byte of any buffer. A buffer is its pointer, then its length in bytes; the
- * pointer may be NULL where the length is 0. The host keeps to this: the buffers of a call do not overlap, one
- * call at a time is made on a ledger, and a run's ledger is given to no call as any other buffer.
+ * Each call takes any numbers and any buffers, and either does its work or answers with one refusal, by number. A
+ * refused call changes no byte of any buffer. A buffer is a pointer, then its length in bytes; the pointer may be NULL
+ * where the length is 0. The host keeps to this: the buffers of a call do not overlap, one call at a time is made on a
+ * ledger, and a run's ledger is passed to no call as any other buffer.
  * docs/START.md is where to begin, docs/REFERENCE.md has the calls one by one, and docs/OPERATIONS.md says what a host
  * persists and when.
  */
@@ -111,13 +111,22 @@ enum nutrameza_obstacle_kind {
     NUTRAMEZA_OBSTACLE_EXCLUSION = 4
 };
 
-/* A call returns its number plus 256 times its extra: the place of the refused word for 1 to 8 (the head is place 0),
- * the lowest role on a loop for 22, the lowest user who may activate more than 16 roles for 23, the user for 24 and
- * for 11 of a move, for 11 of an ask, clause text or obstacle 1 more than the lowest user whose line is not sound
- * where that is not the asker, the session that a done open took, the length of the chain that a done loop call gave,
- * 64 times a role plus its granting role of a done explain, the kind plus 8 times what it is about of a done
- * obstacle, the number of words that a done tidy wrote, how many users a done stopped call told, the length of a
- * clause text, else 0. */
+/* A call returns its number plus 256 times its extra. The extra of a refusal is
+ *   - for 1 to 8 the place of the refused word (the head is place 0);
+ *   - for 22 the lowest role on a loop;
+ *   - for 23 the lowest user who may activate more than 16 roles;
+ *   - for 24, and for 11 of a move, the user;
+ *   - for 11 of an ask, clause text or obstacle 1 more than the lowest user whose line is not sound, where that is not
+ *     the asker;
+ * that of a done call
+ *   - of open the session that it took;
+ *   - of loop the length of the chain;
+ *   - of explain 64 times a role plus its granting role;
+ *   - of obstacle the kind plus 8 times what it is about;
+ *   - of tidy the number of words that it wrote;
+ *   - of stopped how many users it told;
+ *   - of clauses the length of the text;
+ * else it is 0. */
 static inline unsigned nutrameza_number_of(uint64_t returned) { return (unsigned)(returned % 256); }
 static inline uint64_t nutrameza_extra_of(uint64_t returned) { return returned / 256; }
 
