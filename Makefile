@@ -3,14 +3,14 @@
 #   make lib                  proves the kit and writes target/staticlib/libnutrameza.a
 #   make install PREFIX=DIR   library, header, nutrameza.pc and, if built, the programs (DESTDIR is put before PREFIX)
 #   make ward                 runs the ward example: the script beside what the program answers
-#   make survey               surveys the ward example: what its exclusion allows, and how often each number answers the script
+#   make survey               surveys the ward example: what its exclusion allows, and how its script is answered
 #   make host                 runs the ward example as a C host of the library
 #   make test                 the gate: every proof and every test
-#   make bench                the kit beside plain Rust, as ratios; it fails where the worst is over 1.25 (NUTRAMEZA_BAR)
+#   make bench                the kit beside plain Rust, as ratios; fails where the worst is over 1.25 (NUTRAMEZA_BAR)
 #
-# Install, ward, survey, host and bench take the library and the programs that are there; what is missing, they make, except that install
-# does without the programs. NUTRAMEZA_LIB names another folder for the library. Of the prover's output a line for each crate is shown, all
-# of it where something fails; target/make has it.
+# Install, ward, survey, host and bench take the library and the programs that are there; what is missing, they make,
+# except that install does without the programs. NUTRAMEZA_LIB names another folder for the library. Of the prover's
+# output a line for each crate is shown, all of it where something fails; target/make has it.
 
 VERSION := 0.1.0
 PREFIX ?= /usr/local

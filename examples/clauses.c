@@ -3,8 +3,8 @@
  *     clauses IMAGE LEDGER USER SESSION LOWER UPPER PERMISSION_AIM ROLE_AIM
  *
  * IMAGE is a file, LEDGER too, or the word 'new' for a ledger of zeros in which the user has just opened session 0. The
- * bounds are hex numbers whose bit p is permission p, the other numbers are decimal. A refusal is told on standard error,
- * and the exit status is then 1.
+ * bounds are hex numbers whose bit p is permission p, the other numbers are decimal. A refusal is told on standard
+ * error, and the exit status is then 1.
  */
 #include <nutrameza.h>
 

@@ -1,10 +1,11 @@
 /* The session kit: policy image, ledger and role choice, for hosts in C99 and later or C++.
  *
- * Each call takes any numbers and any buffers and either does what it is for or answers one refusal by number.
- * A refused call changes no byte of any buffer. A buffer is its pointer, then its length in bytes; the
- * pointer may be NULL where the length is 0. The host keeps to this: the buffers of a call do not overlap, one
- * call at a time is made on a ledger, and a run's ledger is given to no call as any other buffer.
- * docs/HOST.md says how a host uses the calls, what it persists and when.
+ * Each call takes any numbers and any buffers, and either does its work or answers with one refusal, by number. A
+ * refused call changes no byte of any buffer. A buffer is a pointer, then its length in bytes; the pointer may be NULL
+ * where the length is 0. The host keeps to this: the buffers of a call do not overlap, one call at a time is made on a
+ * ledger, and a run's ledger is passed to no call as any other buffer.
+ * docs/START.md is where to begin, docs/REFERENCE.md has the calls one by one, and docs/OPERATIONS.md says what a host
+ * persists and when.
  */
 #ifndef NUTRAMEZA_H
 #define NUTRAMEZA_H
@@ -78,7 +79,8 @@ enum nutrameza_number {
     NUTRAMEZA_PERMISSION = 16, /* a bound with a permission not below P; a permission to be explained not below P */
     NUTRAMEZA_BOUNDS = 17,     /* lower bound not within the upper */
     NUTRAMEZA_AIM = 18,        /* an aim above 2 */
-    NUTRAMEZA_ROOM = 19,       /* a buffer not of the size that the call asks for; one below the tidy image or the clause text */
+    NUTRAMEZA_ROOM = 19,       /* a buffer not of the size that the call asks for; one below the tidy image or the
+                                * clause text */
     NUTRAMEZA_NONE = 20,       /* no admissible role set; no loop; no active role carries the permission; nothing stands
                                 * in the way of an ask */
     NUTRAMEZA_SCRIPT = 21,     /* unreadable line, given by the script program alone, and counted by the survey */
@@ -109,13 +111,22 @@ enum nutrameza_obstacle_kind {
     NUTRAMEZA_OBSTACLE_EXCLUSION = 4
 };
 
-/* A call returns its number plus 256 times its extra: the place of the refused word for 1 to 8 (the head is place 0),
- * the lowest role on a loop for 22, the lowest user who may activate more than 16 roles for 23, the user for 24 and
- * for 11 of a move, for 11 of an ask, clause text or obstacle 1 more than the lowest user whose line is not sound
- * where that is not the asker, the session that a done open took, the length of the chain that a done loop call gave,
- * 64 times a role plus its granting role of a done explain, the kind plus 8 times what it is about of a done
- * obstacle, the number of words that a done tidy wrote, how many users a done stopped call told, the length of a
- * clause text, else 0. */
+/* A call returns its number plus 256 times its extra. The extra of a refusal is
+ *   - for 1 to 8 the place of the refused word (the head is place 0);
+ *   - for 22 the lowest role on a loop;
+ *   - for 23 the lowest user who may activate more than 16 roles;
+ *   - for 24, and for 11 of a move, the user;
+ *   - for 11 of an ask, clause text or obstacle 1 more than the lowest user whose line is not sound, where that is not
+ *     the asker;
+ * that of a done call
+ *   - of open the session that it took;
+ *   - of loop the length of the chain;
+ *   - of explain 64 times a role plus its granting role;
+ *   - of obstacle the kind plus 8 times what it is about;
+ *   - of tidy the number of words that it wrote;
+ *   - of stopped how many users it told;
+ *   - of clauses the length of the text;
+ * else it is 0. */
 static inline unsigned nutrameza_number_of(uint64_t returned) { return (unsigned)(returned % 256); }
 static inline uint64_t nutrameza_extra_of(uint64_t returned) { return returned / 256; }
 
@@ -251,8 +262,8 @@ static inline uint32_t nutrameza_member_word(uint32_t role)
     return UINT32_C(6) << 28 | role << 22;
 }
 
-/* Fewer than t sessions, over all users, may hold the role (001: CARD); of several for a role the smallest t counts. The
- * check accepts a t of 2 to 256. */
+/* Fewer than t sessions, over all users, may hold the role (001: CARD); of several for a role the smallest t counts.
+ * The check accepts a t of 2 to 256. */
 static inline uint32_t nutrameza_limit_word(uint32_t role, uint32_t t)
 {
     if (role > 63 || t > 511)
@@ -293,11 +304,11 @@ uint64_t nutrameza_check(const uint8_t *image, size_t image_len);
 uint64_t nutrameza_loop(const uint8_t *image, size_t image_len, uint8_t *chain, size_t chain_len);
 
 /* Tidy writes the tidy image, the one that all images of the same meaning share: head, assignments, grants, seniors,
- * exclusions, limits, each group ascending by its fields, nothing repeated; exclusions by kind, n, then the number of the
- * member set (role r counts 2 to the power r), members ascending; of a role's limits the smallest; the end word that
- * balances them. It stands in front of the buffer, no byte behind it changes, and the extra is the number of its words:
- * never more than the image has, so that a buffer of image_len bytes is enough. Refusals 1 to 8, 22, 23, and 19 if the
- * buffer is smaller than the tidy image. */
+ * exclusions, limits, each group ascending by its fields, nothing repeated; exclusions by kind, n, then the number of
+ * the member set (role r counts 2 to the power r), members ascending; of a role's limits the smallest; the end word
+ * that balances them. It is written at the start of the buffer, no byte after it changes, and the extra is the number
+ * of its words: never more than the image has, so that a buffer of image_len bytes is enough. Refusals 1 to 8, 22, 23,
+ * and 19 if the buffer is smaller than the tidy image. */
 uint64_t nutrameza_tidy(const uint8_t *image, size_t image_len, uint8_t *out, size_t out_len);
 
 /* Table fills 2,048 bytes with the closed grant table, who carries what after seniority: 32 bytes for each of 64 roles,
@@ -306,8 +317,8 @@ uint64_t nutrameza_tidy(const uint8_t *image, size_t image_len, uint8_t *out, si
 uint64_t nutrameza_table(const uint8_t *image, size_t image_len, uint8_t *table, size_t table_len);
 
 /* Turn rearranges 2,048 bytes: bit p of row r, of 64 rows of 32 bytes, goes to bit r of row p, of 256 rows of 8 bytes.
- * A turned grant table has for each permission the roles that carry it, role r as bit r mod 8 of byte r div 8. Unturn is
- * the inverse: either undoes the other, for any bytes. Refusal 19 for a source or target of another size. */
+ * A turned grant table has for each permission the roles that carry it, role r as bit r mod 8 of byte r div 8. Unturn
+ * is the inverse: either undoes the other, for any bytes. Refusal 19 for a source or target of another size. */
 uint64_t nutrameza_turn(const uint8_t *source, size_t source_len, uint8_t *target, size_t target_len);
 uint64_t nutrameza_unturn(const uint8_t *source, size_t source_len, uint8_t *target, size_t target_len);
 
@@ -383,10 +394,10 @@ uint64_t nutrameza_obstacle(const uint8_t *image, size_t image_len, const uint8_
                             const uint8_t *upper, size_t upper_len, uint8_t *roles, size_t roles_len);
 
 /* Stopped tells, before a site puts an image in place, whom it would stop: it fills 8 bytes with the set of users whose
- * line of the ledger is not sound under the image, user u as bit u, and the extra is how many they are. A user is in the
- * set exactly if that user's open on this ledger is refused by 11, and every other call of that user is too. It reads
- * the ledger, which has a zero line for each user that the image adds, and changes no byte of it. Refusals 1 to 8, 22,
- * 23, 9, and 19 for another buffer size. docs/CHANGING.md says how a site changes a policy with windows open. */
+ * line of the ledger is not sound under the image, user u as bit u, and the extra is how many they are. A user is in
+ * the set exactly if that user's open on this ledger is refused by 11, and every other call of that user is too. It
+ * reads the ledger, which has a zero line for each user that the image adds, and changes no byte of it. Refusals 1 to
+ * 8, 22, 23, 9, and 19 for another buffer size. docs/CHANGING.md says how a site changes a policy with windows open. */
 uint64_t nutrameza_stopped(const uint8_t *image, size_t image_len, const uint8_t *ledger, size_t ledger_len,
                            uint8_t *users, size_t users_len);
 
@@ -408,14 +419,15 @@ uint64_t nutrameza_widen(const uint8_t *image, size_t image_len, const uint8_t *
 uint64_t nutrameza_narrow(const uint8_t *image, size_t image_len, const uint8_t *old_ledger, size_t old_ledger_len,
                           uint8_t *new_ledger, size_t new_ledger_len);
 
-/* Clauses writes an ask as weighted clauses for a PMaxSAT program, in the classic DIMACS form with a 'p wcnf' line, into
- * the first bytes of a buffer: the extra is how many. docs/CLAUSES.md has the rule for the text, in which a barred role
- * is none of the user's. The numbers and bounds are those of ask. It changes no ledger byte and no byte of the buffer
- * behind the text. Refusals 1 to 8, 22, 23, 9 to 13, 15 to 18, and 19 if the text is longer than the buffer; never 20,
- * since an ask without an admissible role set has a text too. */
+/* Clauses writes an ask as weighted clauses for a PMaxSAT program, in the classic DIMACS form with a 'p wcnf' line,
+ * into the first bytes of a buffer: the extra is how many. docs/CLAUSES.md has the rule for the text, in which a barred
+ * role is none of the user's. The numbers and bounds are those of ask. It changes no ledger byte and no byte of the
+ * buffer after the text. Refusals 1 to 8, 22, 23, 9 to 13, 15 to 18, and 19 if the text is longer than the buffer;
+ * never 20, since an ask without an admissible role set has a text too. */
 uint64_t nutrameza_clauses(const uint8_t *image, size_t image_len, const uint8_t *ledger, size_t ledger_len,
-                           uint64_t user, uint64_t session, const uint8_t *lower, size_t lower_len, const uint8_t *upper,
-                           size_t upper_len, uint64_t permission_aim, uint64_t role_aim, uint8_t *out, size_t out_len);
+                           uint64_t user, uint64_t session, const uint8_t *lower, size_t lower_len,
+                           const uint8_t *upper, size_t upper_len, uint64_t permission_aim, uint64_t role_aim,
+                           uint8_t *out, size_t out_len);
 
 #ifdef __cplusplus
 }

@@ -1,7 +1,8 @@
 #!/usr/bin/env bash
-# The kit as a record maker meets it: the header in three languages, an install into a fresh prefix, hosts that are built from
-# pkg-config alone and outside the repository. It needs libnutrameza.a (target/staticlib, or the folder that NUTRAMEZA_LIB names) and
-# target/bin/nutrameza_survey; without them the tests fail. The last line is 'N passed, M failed'.
+# The kit as a record maker meets it: the header in three languages, an install into a fresh prefix, hosts that are
+# built from pkg-config alone and outside the repository. It needs libnutrameza.a (target/staticlib, or the folder that
+# NUTRAMEZA_LIB names) and target/bin/nutrameza_survey; without them the tests fail. The last line is 'N passed, M
+# failed'.
 . "$(dirname "${BASH_SOURCE[0]}")/it.sh"
 lib=$(cd "$root" && realpath -m "${NUTRAMEZA_LIB:-target/staticlib}")
 prefix=$work/prefix
@@ -88,23 +89,52 @@ host() {
   mkdir -p "$work/$name" && cd "$work/$name" && cc -std=c99 $strict $(flags --cflags) "$source" $(flags --libs) "$@" -o host
 }
 
-# block LANGUAGE NUMBER [PAGE]: of the blocks of that language in docs/HOST.md, or another page, the one of that number, from 1
+# block PAGE NAME NUMBER: of the blocks of that name in a page of docs/, the one of that number, from 1
 block() {
-  awk -v open="\`\`\`$1" -v number="$2" '$0 == "```" { inside = 0 } inside { print } $0 == open { inside = ++seen == number }' \
-    "$root/docs/${3:-HOST.md}"
+  awk -v open="\`\`\`$2" -v number="$3" \
+    '$0 == "```" { inside = 0 } inside { print } $0 == open { inside = ++seen == number }' "$root/docs/$1"
 }
 
-worked_example() {
-  block c 2 > "$work/example.c" && block text 2 > "$work/example.out" && test -s "$work/example.out" &&
-    host example "$work/example.c" && ./host > said && diff said "$work/example.out"
+# shown PAGE NAME NUMBER FILE: the block is a part of the file
+shown() {
+  block "$1" "$2" "$3" > part && test -s part &&
+    python3 -c 'import sys; sys.exit(open(sys.argv[1]).read() not in open(sys.argv[2]).read())' part "$4"
+}
+
+# The commands of the first page, by what pkg-config says; what the page shows of the program and of the policy is
+# theirs.
+first_host() {
+  local cflags libs
+  cflags=$(flags --cflags) && libs=$(flags --libs) && mkdir -p "$work/first" && cd "$work/first" && ln -s "$root/tools" "$root/examples" . &&
+    block START.md 'text first' 1 > page && test -s page &&
+    (pkg-config() { case $1 in --cflags) echo $cflags ;; --libs) echo $libs ;; esac } && replayed < page) > said &&
+    diff said page &&
+    shown START.md 'c first' 1 examples/first.c && shown START.md 'c first' 2 examples/first.c &&
+    shown START.md 'text policy' 1 examples/ward.policy
+}
+
+# After it the ledger has the second window open and both roles in the user's history.
+first_ledger() {
+  [ "$(od -An -v -tx8 "$work/first/ledger" | xargs)" = "$(printf '%016x ' 2 3 0 0 2 2 0 0 0 0 0 0 0 0 0 0 0 0 | xargs)" ]
+}
+
+# It is strict C99 and a C++ program too, and prints the same.
+first_strict() {
+  host first_c "$root/examples/first.c" && cp "$work/first/policy.img" . && ./host > c.out &&
+    g++ -x c++ -std=c++17 $strict $(flags --cflags) "$root/examples/first.c" $(flags --libs) -o cxx && ./cxx > cxx.out &&
+    diff c.out cxx.out && sed '1,/^\$ .*\/first$/d' "$work/first/page" | diff - c.out
+}
+
+# Without an image it is told so.
+first_without_image() {
+  mkdir -p "$work/bare" && cd "$work/bare" && ! "$work/first/first" > said && grep -qx 'policy: refused, 1 length (0)' said
 }
 
 # Each kind of obstacle, told by the example under the policy beside it; what the page shows of it stands in it.
 why_not() {
   host why_not "$root/examples/why_not.c" && "$root/tools/policy" build "$root/examples/clinic.policy" -o policy.img &&
-    block 'text why_not' 1 > page && test -s page && ./host policy.img > said && diff said page &&
-    block 'c why_not' 1 > part && test -s part && python3 -c 'import sys; sys.exit(open(sys.argv[1]).read() not in open(sys.argv[2]).read())' \
-    part "$root/examples/why_not.c"
+    block OPERATIONS.md 'text why_not' 1 > page && test -s page && ./host policy.img > said && diff said page &&
+    shown OPERATIONS.md 'c why_not' 1 "$root/examples/why_not.c"
 }
 
 why_not_cxx() {
@@ -119,19 +149,10 @@ why_not_sanitized() {
 
 # The help desk's command of the page, on a ledger in which ANNA's window 0 holds Doctor and her window 1 is open.
 why_at_the_desk() {
-  mkdir -p "$work/desk" && cd "$work/desk" && ln -s "$root/tools" "$root/examples" . && block 'text why' 1 > page && test -s page &&
+  mkdir -p "$work/desk" && cd "$work/desk" && ln -s "$root/tools" "$root/examples" . &&
+    block OPERATIONS.md 'text why' 1 > page && test -s page &&
     numbers 3 1 1 1 0 0 0 0 0 0 0 0 0 0 0 0 0 0 0 0 0 0 0 0 0 0 0 0 0 0 0 0 0 0 0 0 > ledger &&
     NUTRAMEZA_LIB=$lib replayed < page > said && diff said page
-}
-
-# After the example the ledger has the second window open and both roles in the user's history.
-example_ledger() {
-  [ "$(od -An -v -tx8 "$work/example/ledger" | xargs)" = "$(printf '%016x ' 2 3 0 0 2 2 0 0 0 0 0 0 0 0 0 0 0 0 | xargs)" ]
-}
-
-example_cxx() {
-  g++ -x c++ -std=c++17 $strict $(flags --cflags) "$work/example.c" $(flags --libs) -o "$work/example_cxx" &&
-    cd "$work/example" && "$work/example_cxx" | diff - "$work/example.out"
 }
 
 # numbers N..: a file of numbers below 256, eight bytes each
@@ -150,32 +171,35 @@ replayed() {
 
 # The commands of the officer's page, by the installed program.
 surveyed() {
-  mkdir -p "$work/survey" && cd "$work/survey" && ln -s "$root/tools" "$root/examples" . && block text 1 SURVEY.md > page && test -s page &&
+  mkdir -p "$work/survey" && cd "$work/survey" && ln -s "$root/tools" "$root/examples" . &&
+    block SURVEY.md text 1 > page && test -s page &&
     test -x "$prefix/bin/nutrameza_survey" && PATH=$prefix/bin:$PATH replayed < page > said && diff said page
 }
 
 # A ledger of four windows, and one of eight with window 4 open beside window 1.
 carrying() {
-  block c 1 > "$work/carry.c" && block text 1 > "$work/carry.out" && test -s "$work/carry.out" &&
-    host carry "$work/carry.c" && mv host carry && cp "$work/ward.img" policy.img &&
+  block OPERATIONS.md 'text carry' 1 > "$work/carry.out" && test -s "$work/carry.out" &&
+    host carry "$root/examples/carry.c" && mv host carry && cp "$work/ward.img" policy.img &&
     numbers 2 3 0 0 2 2 0 0 0 0 > ledger.4 && numbers 18 3 0 0 2 2 0 0 0 0 0 0 0 0 0 0 0 0 > busy.8 &&
     replayed < "$work/carry.out" > said && diff said "$work/carry.out"
 }
 
-# The ledger over and back is the old one byte for byte, and so is the busy one once its window 4 is closed; the files carried stay.
+# The ledger over and back is the old one byte for byte, and so is the busy one once its window 4 is closed; the files
+# carried stay.
 carried() {
   cd "$work/carry" && numbers 2 3 0 0 2 2 0 0 0 0 | cmp - ledger.4 && cmp ledger.4 ledger.back && cmp ledger.4 busy.4 &&
     numbers 2 3 0 0 2 2 0 0 0 0 0 0 0 0 0 0 0 0 | cmp - ledger.8 && numbers 18 3 0 0 2 2 0 0 0 0 0 0 0 0 0 0 0 0 | cmp - busy.8
 }
 
 carrying_cxx() {
-  g++ -x c++ -std=c++17 $strict $(flags --cflags) "$work/carry.c" $(flags --libs) -o "$work/carry_cxx" &&
+  g++ -x c++ -std=c++17 $strict $(flags --cflags) "$root/examples/carry.c" $(flags --libs) -o "$work/carry_cxx" &&
     cd "$work/carry" && "$work/carry_cxx" over ledger.4 ledger.cxx && cmp ledger.8 ledger.cxx
 }
 
 # A policy put in place while the user has a window open with a role that is taken away.
 changing() {
-  block text 1 CHANGING.md > "$work/change.out" && test -s "$work/change.out" && host change "$root/examples/change.c" && mv host change &&
+  block CHANGING.md text 1 > "$work/change.out" && test -s "$work/change.out" &&
+    host change "$root/examples/change.c" && mv host change &&
     ln -s "$root/tools" "$root/examples" . && numbers 1 2 2 2 0 0 0 0 0 0 0 0 0 0 0 0 0 0 > ledger &&
     NUTRAMEZA_LIB=$lib replayed < "$work/change.out" > said && diff said "$work/change.out"
 }
@@ -228,7 +252,8 @@ small_stack() {
   host stack "$root/tests/host/stack.c" -pthread && timeout 300 ./host
 }
 
-# An ask as clauses, solved by a program that tries every assignment: Doctor, with four permissions of weight 3 and itself.
+# An ask as clauses, solved by a program that tries every assignment: Doctor, with four permissions of weight 3 and
+# itself.
 clauses_solved() {
   local form
   for form in '' --row; do
@@ -261,15 +286,16 @@ it 'make install puts library, header and nutrameza.pc into a fresh prefix' inst
 it 'make install puts each program there exactly if it is built' programs_installed
 it 'make install with DESTDIR keeps the prefix in nutrameza.pc' staged
 it 'pkg-config says where the header and the library are' same_flags
-it 'the example of docs/HOST.md is built from pkg-config alone and prints what is written there' worked_example
-it 'the example leaves the ledger on disk' example_ledger
-it 'the example is a C++ program too' example_cxx
-it 'the example of obstacles tells of each kind what docs/HOST.md writes, and the page shows a part of it' why_not
+it 'the commands of docs/START.md build a host from pkg-config alone and print what is written there' first_host
+it 'the first host leaves the ledger on disk' first_ledger
+it 'the first host is strict C99 and a C++ program' first_strict
+it 'the first host without an image says so' first_without_image
+it 'the example of obstacles tells of each kind what docs/OPERATIONS.md writes, and the page shows a part of it' why_not
 it 'the example of obstacles is a C++ program too' why_not_cxx
 it 'the example of obstacles runs with sanitizers' why_not_sanitized
-it 'the policy tool explains a refused ask as docs/HOST.md writes it' why_at_the_desk
+it 'the policy tool explains a refused ask as docs/OPERATIONS.md writes it' why_at_the_desk
 it 'the survey of docs/SURVEY.md is what the installed program prints' surveyed
-it 'the program of docs/HOST.md that carries ledgers does what is written there' carrying
+it 'the program that carries ledgers does what docs/OPERATIONS.md writes' carrying
 it 'a ledger carried over and back comes out byte for byte' carried
 it 'the program that carries ledgers is a C++ program too' carrying_cxx
 it 'the change of docs/CHANGING.md, with a window open, does what is written there' changing

@@ -1,5 +1,5 @@
-//! Ask and short ask through the C interface: the paper's examples and rules by name, then asks by the hundred thousand beside
-//! the solver, which tries all subsets.
+//! Ask and short ask through the C interface: the paper's examples and rules by name, then asks by the hundred thousand
+//! beside the solver, which tries all subsets.
 
 use nutrameza_tests::compare::{play, say, spread, Played, Run, Tally};
 use nutrameza_tests::gen::{call, damage, ledger, policy, Rng};

@@ -18,7 +18,8 @@ use ledger_change::is_open;
 use model::Line;
 use model::SESSIONS;
 
-// What is asked under a policy: its sizes, the session of a user, the bounds, and the objectives (01: aims) on permissions and on roles.
+// What is asked under a policy: its sizes, the session of a user, the bounds, and the objectives (01: aims) on
+// permissions and on roles.
 pub struct Request {
     pub rules: Rules,
     pub window: Window,
@@ -40,8 +41,8 @@ pub fn session_refusal(l: Line, session: u64) -> u64
     0
 }
 
-// 16 for a bound with a permission that the policy does not have, 17 for a lower bound that is not within the upper, 18 for an
-// objective (01: aim) that there is not, 19 for an answer buffer of another length, else 0.
+// 16 for a bound with a permission that the policy does not have, 17 for a lower bound that is not within the upper, 18
+// for an objective (01: aim) that there is not, 19 for an answer buffer of another length, else 0.
 fn bounds_refusal(
     lower: [u64; 4],
     upper: [u64; 4],

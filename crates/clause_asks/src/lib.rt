@@ -1,5 +1,5 @@
-// The clause text of an ask under an accepted policy: refused as an ask is before the search, then if the buffer is too short, else
-// written to its front.
+// The clause text of an ask under an accepted policy: refused as an ask is before the search, then if the buffer is too
+// short, else written to its front.
 ghost use mathlib.Core.Path.{_≡_};
 ghost use mathlib.Core.List.{List};
 ghost use Prim.Native.Nat.{ℕ, _+_, _*_, _%_, _^_, _≤_, _<_};
@@ -25,7 +25,8 @@ use clauses_hard::question::Question;
 use ledger::bytes::line_of;
 use limits_left::roles_left;
 
-// The length of the clause text of an ask on a line that meets every exclusion; it is written to the front of the buffer if it fits.
+// The length of the clause text of an ask on a line that meets every exclusion; it is written to the front of the
+// buffer if it fits.
 fn write_clauses(
     ledger: &[u8],
     granted: &[[u64; 4]; 64],
@@ -82,7 +83,8 @@ fn told(size: usize, room: usize) -> u64
     (size as u64) << 8
 }
 
-// The clause text of an ask, written to the front of the buffer; its length in bytes is the extra. Limits bar roles as in an ask.
+// The clause text of an ask, written to the front of the buffer; its length in bytes is the extra. Limits bar roles as
+// in an ask.
 pub fn ask_clauses(
     ledger: &[u8],
     authorized: &[u64; 64],

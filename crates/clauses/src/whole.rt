@@ -8,7 +8,8 @@ use clauses_hard::question::Question;
 use clauses_text::whole::put_text;
 use query_rooms::exclusions::Reduced;
 
-// What the text needs of a buffer of this length: nothing where every text fits, else its length, by a walk that writes nothing.
+// What the text needs of a buffer of this length: nothing where every text fits, else its length, by a walk that writes
+// nothing.
 fn needed(buffer: usize, rows: &[[u64; 4]; 64], q: Question, x: Reduced) -> usize
     requires { ⌜ (q .roles ≤ 64) × (q .permissions ≤ 256) × (x .count ≤ 32) ⌝ }
     ensures { λ n. ⌜ (length (textFor q (now (rows .entry)) x) ≤ TEXT_ROOM → Needs buffer (textFor q (now (rows .entry)) x) n) ⌝ }

@@ -87,7 +87,7 @@ module _ (s : List ℕ) (u : ℕ) (x : Others) (l : Line) (k lower upper : ℕ) 
   pub clause-sizes : (a b : ℕ) → TextSmall (left s u x l k) l k lower upper a b
   clause-sizes = DimacsSizes.text-small (left s u x l k) meant-left l k lower upper (asks .session) met-left
 
--- at the call, for every image, ledger, user and session: what the text that is written reads back to has for its models the sets that an ask
--- may be answered with, and none exactly if an ask is answered 20
+-- at the call, for every image, ledger, user and session: what the text that is written reads back to has for its
+-- models the sets that an ask may be answered with, and none exactly if an ask is answered 20
 pub call-says : (W : ℕ) (image : List ℕ) → CallSays W image
 call-says = CalledProof.call-says

@@ -1,5 +1,5 @@
--- What the theorems on the clauses of an ask are about: an accepted policy, a user's line at which every exclusion is met,
--- as at every sound one, and one of its sessions.
+-- What the theorems on the clauses of an ask are about: an accepted policy, a user's line at which every exclusion is
+-- met, as at every sound one, and one of its sessions.
 -- Assumes nothing.
 use mathlib.Core.Path.{_≡_}
 use mathlib.Core.Bool.{true}
@@ -21,7 +21,7 @@ pub record MayAsk (s : List ℕ) (u : ℕ) (l : Line) (k : ℕ) : Type 0 where
   pub session : k < length (l .sessions)
   pub met : exclusionsMet (meaning (policyOf s) u) l ≡ true
 
--- what the policy then means to user u for a choice for session k, given what is told of the other users: barred roles are
--- not u's
+-- what the policy then means to user u for a choice for session k, given what is told of the other users: barred roles
+-- are not u's
 abbrev pub left : List ℕ → ℕ → Others → Line → ℕ → Meaning
 left s u x l k = unbarred (meaning (policyOf s) u) x l k

@@ -1,6 +1,6 @@
--- An ask as weighted clauses for an outside solver (PMaxSAT): hard clauses that say which role sets are admissible, soft clauses for the
--- two objectives. Role r is variable r + 1, permission q is R + q + 1, and the helpers of the exclusions follow. docs/CLAUSES.md has the
--- rule in words.
+-- An ask as weighted clauses for an outside solver (PMaxSAT): hard clauses that say which role sets are admissible,
+-- soft clauses for the two objectives. Role r is variable r + 1, permission q is R + q + 1, and the helpers of the
+-- exclusions follow. docs/CLAUSES.md has the rule in words.
 -- Assumes nothing.
 use mathlib.Core.Bool.{Bool, true, false, not}
 use mathlib.Core.List.{List, [], _∷_, _++_}
@@ -103,13 +103,14 @@ uncounted x base = variablesIn (maskOf (x .members) base)
 unfoldable pub room : Exclusion → ℕ → ℕ
 room x base = roomOf (x .members) (x .n) base
 
--- The counter of the variables x(1), .., x(e) up to t, as docs/CLAUSES.md has it: helper (i, j), for j from 1 to t, says
--- that at least j of x(1), .., x(i) are true. Where row i of helpers stands behind the number a, (i, j) is variable a + j,
--- and row i + 1 stands behind a + t.
+-- The counter of the variables x(1), .., x(e) up to t, as docs/CLAUSES.md has it: helper (i, j), for j from 1 to t,
+-- says that at least j of x(1), .., x(i) are true. Where row i of helpers stands behind the number a, (i, j) is
+-- variable a + j, and row i + 1 stands behind a + t.
 abbrev pub helper : ℕ → ℕ → ℕ
 helper a j = a + j
 
--- what was counted stays counted, row i - 1 behind a: for each j from 1 to t, `-(i - 1, j)` `(i, j)`; the list counts j from 0
+-- what was counted stays counted, row i - 1 behind a: for each j from 1 to t, `-(i - 1, j)` `(i, j)`; the list counts j
+-- from 0
 unfoldable pub keeping : ℕ → ℕ → List Clause
 keeping t a = listTo t (λ j. gives (helper a j + 1) (helper (a + t) j + 1) ∷ [])
 
@@ -126,8 +127,8 @@ unfoldable pub rows : ℕ → ℕ → List ℕ → List Clause
 rows t a [] = mustNot (helper a t) ∷ []
 rows t a (x ∷ xs) = row t a x ++ rows t (a + t) xs
 
--- fewer than t of the variables are true, by helpers behind a: `-x(1)` `(1, 1)`, then the rows; with no variable no clause
--- is needed
+-- fewer than t of the variables are true, by helpers behind a: `-x(1)` `(1, 1)`, then the rows; with no variable no
+-- clause is needed
 unfoldable pub counter : ℕ → ℕ → List ℕ → List Clause
 counter t a [] = []
 counter t a (x ∷ xs) = gives x (helper a 1) ∷ rows t a xs

@@ -1,5 +1,6 @@
--- The policy image: bytes, words, entries, and the judgement of an image by its words: accepted with the head's numbers, or refused by
--- 1 to 8 with a place. The named parts of a fault follow the lines 3 to 7 of 01's refusal register.
+-- The policy image: bytes, words, entries, and the judgement of an image by its words: accepted with the head's
+-- numbers, or refused by 1 to 8 with a place. The named parts of a fault follow the lines 3 to 7 of 01's refusal
+-- register.
 -- Assumes nothing.
 use mathlib.Core.Bool.{Bool, true, false, _&&_, _||_, not}
 use mathlib.Core.List.{List}
@@ -55,8 +56,8 @@ kindOf k = pick (eqb k 0) SsDmer (pick (eqb k 1) MsDmer (pick (eqb k 2) SsHmer M
 abbrev pub says : Entry → ℕ → Word
 says e spare = record { entry = e; spare = spare }
 
--- A word behind the head decoded: what it says, and its spare bits. Bits 31 to 28 are its kind. From bit 27 down, by 01's
--- table of kinds:
+-- A word behind the head decoded: what it says, and its spare bits. Bits 31 to 28 are its kind. From bit 27 down, by
+-- 01's table of kinds:
 --   2  assignment  user 27 to 22, role 21 to 16; spare 15 to 0
 --   3  grant       role 27 to 22, permission 21 to 14; spare 13 to 0
 --   4  senior      senior 27 to 22, junior 21 to 16; spare 15 to 0
@@ -76,9 +77,11 @@ decode w =
     (pick (isKind w 7) (says (Limit (role (field w 22 6)) (field w 13 9)) (w % 2 ^ 13))
     (pick (isKind w 15) (says End 0) (says Unknown 0)))))))
 
--- ---- the faults of a word behind the head; `final` says that it is the last word, `rows` has the roles assigned so far, a row a user
+-- ---- the faults of a word behind the head; `final` says that it is the last word, `rows` has the roles assigned so
+-- far, a row a user
 
--- 3: a word of no kind, a member not due, another word where a member is due, an end before the end, a last word that is no end
+-- 3: a word of no kind, a member not due, another word where a member is due, an end before the end, a last word that
+-- is no end
 unfoldable pub wrongKind : Bool → ℕ → Entry → Bool
 wrongKind final due (Assignment u r) = final || not (eqb due 0)
 wrongKind final due (Grant r p) = final || not (eqb due 0)

@@ -1,5 +1,5 @@
--- Entries by their kind. Each definition tells an entry of one kind from all others: f is given what an entry of that kind
--- says, and an entry of another kind changes nothing, which leaves a.
+-- Entries by their kind. Each definition tells an entry of one kind from all others: f is given what an entry of that
+-- kind says, and an entry of another kind changes nothing, which leaves a.
 -- Assumes nothing.
 use Prim.Native.Nat.{ℕ}
 use Rattle.model.specs.declared.User.{User}

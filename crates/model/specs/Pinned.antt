@@ -1,5 +1,6 @@
--- What a definition gives on small arguments, by computation: one fact or more for each definition that both sides of a claim cite, so that
--- a wrong one that all claims are proved of is refused here. A definition whose wrong versions must-fail/ tries has its fact in Facts.antt.
+-- What a definition gives on small arguments, by computation: one fact or more for each definition that both sides of a
+-- claim cite, so that a wrong one that all claims are proved of is refused here. A definition whose wrong versions
+-- must-fail/ tries has its fact in Facts.antt.
 -- Assumes nothing.
 use mathlib.Core.Path.{_≡_, refl, ap}
 use mathlib.Core.Logic.{inl, inr}
@@ -73,8 +74,8 @@ parts-listed = refl
 
 -- ---- the policy
 
--- user 1 has the roles 0 and 2, role 1 permission 1, role 2 is over role 0; of the roles 0 and 2 never both in a session's history; role 1 has
--- the limits 5, 3 and 4
+-- user 1 has the roles 0 and 2, role 1 permission 1, role 2 is over role 0; of the roles 0 and 2 never both in a
+-- session's history; role 1 has the limits 5, 3 and 4
 abbrev read-words : List ℕ
 read-words =
     headWord 2 3 2 ∷ assignWord 1 0 ∷ assignWord 1 2 ∷ grantWord 1 1 ∷ seniorWord 2 0 ∷ exclusionWord 2 2 2 ∷ memberWord 0 ∷ memberWord 2
@@ -245,8 +246,8 @@ pub clause-shapes : must 1 ∷ mustNot 2 ∷ gives 3 4 ∷ give 5 6 7 ∷ []
     ≡ (holds 1 ∷ []) ∷ (fails 2 ∷ []) ∷ (fails 3 ∷ holds 4 ∷ []) ∷ (fails 5 ∷ fails 6 ∷ holds 7 ∷ []) ∷ []
 clause-shapes = refl
 
--- role 0 carries permission 0, role 1 the permissions 0 and 1, role 3, which is none of the user's, permission 2; of the roles 0 to 2 not
--- all three in a session, and of the roles 1 and 2 not both in its history
+-- role 0 carries permission 0, role 1 the permissions 0 and 1, role 3, which is none of the user's, permission 2; of
+-- the roles 0 to 2 not all three in a session, and of the roles 1 and 2 not both in its history
 abbrev texting : Meaning
 texting =
     record {
@@ -288,7 +289,8 @@ pub head-told : take 16 (textOf texting past-1 0 1 3 1 2) ≡ ascii "p wcnf 17 3
 unfolding computing
 head-told = refl
 
--- the roles 0 and 1 carry the permissions 0 and 2, and exclude each other in a session's history; session 2 has role 0 in its own
+-- the roles 0 and 1 carry the permissions 0 and 2, and exclude each other in a session's history; session 2 has role 0
+-- in its own
 abbrev brief : Meaning
 brief =
     record {
@@ -341,7 +343,8 @@ holders (s ∷ ss) = writeLine (record { opened = 1; history = s; sessions = rec
 abbrev asks : ℕ → Call
 asks u = askBy u 0 (bytesOf 32 1) (bytesOf 32 1) 1 1 40
 
--- what user 1 is told: who holds role 0, which has a limit, and not who holds role 1; and a line with role 2, which is nobody's
+-- what user 1 is told: who holds role 0, which has a limit, and not who holds role 1; and a line with role 2, which is
+-- nobody's
 pub others-told : map (othersOf 1 threeUsers 1 (holders (3 ∷ 3 ∷ 3 ∷ [])) .held) (0 ∷ 1 ∷ []) ≡ (2 ∷ 0 ∷ [])
 unfolding computing
 others-told = refl
@@ -443,7 +446,8 @@ a-text-among = refl
 
 -- ---- one user's part of a run
 
--- the line goes from call to call, and each is told in its turn: another user holds role 0 at the first ask, and nobody at the second
+-- the line goes from call to call, and each is told in its turn: another user holds role 0 at the first ask, and nobody
+-- at the second
 pub rules-in-turn : map (λ (r : Result). r .reply) (rules 1 (two 3) (writeLine busy) (record { held = λ r. 1; unsound = none } ∷ [])
     (open-session ∷ ask 0 (query 1 1 40) ∷ close-session 0 ∷ open-session ∷ []))
     ≡ refuse 14 0 ∷ given 1 1 ∷ done 0 ∷ done 0 ∷ []

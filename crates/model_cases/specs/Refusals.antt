@@ -1,6 +1,6 @@
--- Images and how they are judged: image A with words replaced, put in or left out, each with its refusal's number and place
--- (0, 0: accepted). The words are written as in specs/Words.antt of model. Each clause of the register's lines 1 to 8 has a
--- case, and so has each tie; 22 comes after them with a role, 23 with a user.
+-- Images and how they are judged: image A with words replaced, put in or left out, each with its refusal's number and
+-- place (0, 0: accepted). The words are written as in specs/Words.antt of model. Each clause of the register's lines 1
+-- to 8 has a case, and so has each tie; 22 comes after them with a role, 23 with a user.
 -- Assumes nothing.
 use mathlib.Core.Bool.{Bool}
 use mathlib.Core.List.{List, [], _∷_, _++_}
@@ -324,7 +324,8 @@ loopedImages =
     chained (imageBytes loop) 3 (1 ∷ 2 ∷ 0 ∷ [])
     -- a role above a loop is not on it
     ∷ chained (hierarchyOf (seniorWord 0 1 ∷ seniorWord 1 2 ∷ seniorWord 2 3 ∷ seniorWord 3 1 ∷ [])) 3 (2 ∷ 3 ∷ 1 ∷ [])
-    -- of two loops of one role the shorter, though its first role is higher; of two as short the one with the lower role
+    -- of two loops of one role the shorter, though its first role is higher; of two as short the one with the lower
+    -- role
     ∷ chained (hierarchyOf (seniorWord 0 1 ∷ seniorWord 1 2 ∷ seniorWord 2 0 ∷ seniorWord 0 3 ∷ seniorWord 3 0 ∷ [])) 2 (3 ∷ 0 ∷ [])
     ∷ chained (hierarchyOf (seniorWord 0 2 ∷ seniorWord 2 3 ∷ seniorWord 2 1 ∷ seniorWord 3 0 ∷ seniorWord 1 0 ∷ [])) 3 (2 ∷ 1 ∷ 0 ∷ [])
     -- the lowest role on a loop, though a higher one is on a shorter

@@ -5,8 +5,8 @@ ghost use Rattle.model.specs.Line.{SESSIONS};
 ghost use Rattle.model.specs.Run.{step, clausesBy, returned, written};
 use calls::given::Window;
 
-// Writes an ask as weighted clauses (docs/CLAUSES.md) to the front of the buffer, and returns the text's length as the extra. No session
-// changes; 19 where the text is longer than the buffer, 20 never.
+// Writes an ask as weighted clauses (docs/CLAUSES.md) to the front of the buffer, and returns the text's length as the
+// extra. No session changes; 19 where the text is longer than the buffer, 20 never.
 #[no_mangle]
 pub extern "C" fn nutrameza_clauses(
     image: &[u8],

@@ -1,4 +1,5 @@
-// A search that ends with the first set. Where an obstacle is looked for, only whether some set is admissible is asked, and none is ranked.
+// A search that ends with the first set. Where an obstacle is looked for, only whether some set is admissible is asked,
+// and none is ranked.
 ghost use mathlib.Core.Path.{_≡_};
 ghost use Prim.Native.Nat.{_≤_};
 ghost use Rattle.sets.specs.Words.{value};
@@ -9,8 +10,9 @@ use query::carry::missing;
 use query_rank::Job;
 use query_rooms::rooms::room_for;
 
-// Some set of the chosen roles and some of the free ones carries the lower bound, and the exclusions have room for it. A permission that is
-// asked for and not carried is taken up, and the roles that carry it are tried; one that was tried is barred from what is tried after it.
+// Some set of the chosen roles and some of the free ones carries the lower bound, and the exclusions have room for it.
+// A permission that is asked for and not carried is taken up, and the roles that carry it are tried; one that was tried
+// is barred from what is tried after it.
 pub fn some_step(
     rows: &[[u64; 4]; 64],
     masks: &[u64; 32],

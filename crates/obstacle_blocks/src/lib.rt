@@ -1,5 +1,5 @@
-// An exclusion that stands in the way of an ask: of the exclusions in their order the first with which no role set is left. It is found by
-// halving: with fewer exclusions no fewer sets are left.
+// An exclusion that stands in the way of an ask: of the exclusions in their order the first with which no role set is
+// left. It is found by halving: with fewer exclusions no fewer sets are left.
 ghost use mathlib.Core.Path.{_≡_};
 ghost use mathlib.Core.Bool.{true, false};
 ghost use mathlib.Core.List.{[]};
@@ -59,7 +59,8 @@ fn left_with(
     some_step(rows, masks, rooms, job, free, 0, [0u64; 4], turned)
 }
 
-// How many exclusions come before the first with which no set is left, where the first `low` leave one and the first `high` leave none.
+// How many exclusions come before the first with which no set is left, where the first `low` leave one and the first
+// `high` leave none.
 fn before_blocking(
     rows: &[[u64; 4]; 64],
     masks: &[u64; 32],
@@ -85,7 +86,8 @@ fn before_blocking(
     before_blocking(rows, masks, rooms, lower, free, turned, low, middle)
 }
 
-// What is told of the exclusion of row j: its kind and n, the members that stay counted whatever is put in for session k, all members.
+// What is told of the exclusion of row j: its kind and n, the members that stay counted whatever is put in for session
+// k, all members.
 fn told_at(xs: &[[u64; 2]; 32], masks: &[u64; 32], j: usize) -> Told
     requires { ⌜ (j < 32) × (length (now xs) ≡ 32) ⌝ }
     ensures { λ t. ⌜ ((l : Line) (k : ℕ) → ReducedAt (now (xs .entry)) (now (masks .entry)) l k j
@@ -102,8 +104,9 @@ fn told_at(xs: &[[u64; 2]; 32], masks: &[u64; 32], j: usize) -> Told
     }
 }
 
-// The first exclusion with which no set is left, where one is left without exclusions; nothing where one is left with them all. What the
-// searches share is made once: the exclusions reduced, the roles that fit the upper bound, and those that carry each permission.
+// The first exclusion with which no set is left, where one is left without exclusions; nothing where one is left with
+// them all. What the searches share is made once: the exclusions reduced, the roles that fit the upper bound, and those
+// that carry each permission.
 pub fn blocked(
     rows: &[[u64; 4]; 64],
     authorized: u64,
