@@ -1,7 +1,7 @@
-//! The kit beside the same jobs in plain Rust, and some in plain C, in one process: times as medians, ratios as medians of rounds. Before
-//! a job is timed, both are held to the same answers, ledgers and answer bytes. Arguments name rows, by a part of the
-//! name; without any, all are timed. The last line is the worst ratio, and the exit status is 1 where it is over the
-//! bar or where an obstacle takes too long beside a short ask.
+//! The kit beside the same jobs in plain Rust, and some in plain C, in one process: times as medians, ratios as medians
+//! of rounds. Before a job is timed, both are held to the same answers, ledgers and answer bytes. Arguments name rows,
+//! by a part of the name; without any, all are timed. The last line is the worst ratio, and the exit status is 1 where
+//! it is over the bar or where an obstacle takes too long beside a short ask.
 
 mod families;
 mod images;

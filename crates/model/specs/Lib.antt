@@ -19,7 +19,6 @@ pub mod Dimacs
 pub mod Session
 pub mod Loop
 pub mod Run
-
 -- Believed: what the theorems claim of it.
 pub mod OwnWords
 pub mod Independence
@@ -34,10 +33,8 @@ pub mod Kept
 pub mod Explained
 pub mod Obstacles
 pub mod Moves
-
 -- Helpers of code and proofs: no theorem and no exported contract is stated in these.
 pub mod Computing
-
 -- Computed: facts at small values; a definition that is changed shows here.
 pub mod Facts
 pub mod Pinned

@@ -2,6 +2,5 @@
 
 -- Believed: theorems or the contracts of exported functions are stated in these.
 pub mod Words
-
 -- Helpers of code and proofs: no theorem and no exported contract is stated in these.
 pub mod Members

@@ -3,6 +3,5 @@
 -- Believed: theorems or the contracts of exported functions are stated in these.
 pub mod Stopped
 pub mod StoppedCases
-
 -- Computed: facts at small values; a definition that is changed shows here.
 pub mod Facts

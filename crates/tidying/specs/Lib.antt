@@ -8,6 +8,5 @@ pub mod TidyCases
 pub mod Arranged
 pub mod Order
 pub mod OrderCases
-
 -- Computed: facts at small values; a definition that is changed shows here.
 pub mod Unmoved
