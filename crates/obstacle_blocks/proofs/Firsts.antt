@@ -29,8 +29,8 @@ found-one t chosen free s b v = record { is = λ _. (s, b, v); none = λ e. not-
 pub found-none : (t : Task) (chosen free : ℕ) → ((s : ℕ) → Between chosen free s → serves t s ≡ true → ⊥) → Finds t chosen free false
 found-none t chosen free h = record { is = λ e. not-both false e refl; none = λ _. h }
 
--- ---- the roles of a loop: every set that serves is one of the chosen roles and of those still free, and has a role that
--- is left to try
+-- ---- the roles of a loop: every set that serves is one of the chosen roles and of those still free, and has a role
+-- that is left to try
 pub record Passing (t : Task) (chosen free left still : ℕ) : Type 0 where
   pub inside : Sub left still
   pub fewer : Sub still free
