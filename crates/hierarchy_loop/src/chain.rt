@@ -99,7 +99,7 @@ fn put_chain(juniors: &[u64; 64], levels: &[u64; 64], r: Role, n: usize, chain: 
 // ---- the whole
 
 // The shortest loop of the lowest role on one fills the buffer, and its length is the extra; 19 for a buffer of another
-// length than 64, 20 where no role is on a loop.
+// length than 64, 20 where no role is on a loop. Once the role is known, its levels take the place of the closed table.
 pub fn show_loop(juniors: &[u64; 64], roles: u8, chain: &mut [u8]) -> u64
     requires { ⌜ (roles ≤ 64) × (length (now juniors) ≡ 64) × Ranged (now juniors) roles ⌝ }
     ensures { λ x. ⌜ ((p : Policy) → InRange p → now (juniors .entry) ≡ p .juniors → p .head .roles ≡ roles
@@ -115,9 +115,8 @@ pub fn show_loop(juniors: &[u64; 64], roles: u8, chain: &mut [u8]) -> u64
         return 20;
     }
     let who = Role(r as u8);
-    let mut levels = [0u64; 64];
-    let n = fill_levels_among(juniors, roles as usize, who, &mut levels);
+    let n = fill_levels_among(juniors, roles as usize, who, &mut below);
     clear(chain);
-    put_chain(juniors, &levels, who, n, chain);
+    put_chain(juniors, &below, who, n, chain);
     256 * (n as u64)
 }
