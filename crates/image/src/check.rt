@@ -133,6 +133,7 @@ pub fn next(t: Scan, e: Entry) -> Scan
 
 // ---- the words behind the head, and the whole
 
+// Members that are due and usual words in runs, and between them the other words one by one.
 fn check_words(
     image: &[u8],
     words: usize,
@@ -153,25 +154,29 @@ fn check_words(
         sum: first,
     };
     while at.place < words {
-        let w = octets::word_at(image, at.place);
-        let word = decode(w);
-        let number = taken(h, assigned, juniors, t, at.place + 1 == words, word);
-        if number != 0 {
-            return Checked::Refused(number, at.place as u16);
-        }
-        let e = word.entry;
-        let after = next(t, e);
-        let behind = Run {
-            place: at.place + 1,
-            sum: std::num::wrapping_add_u32(at.sum, w),
-        };
-        let joined = members(image, words, behind, h.roles, after);
+        let joined = members(image, words, at, h.roles, t);
         t = joined.scan;
         let from = Run {
             place: joined.place,
             sum: joined.sum,
         };
-        at = pass(image, words, from, h, t.due, assigned, juniors);
+        let here = pass(image, words, from, h, t.due, assigned, juniors);
+        if words <= here.place {
+            at = here;
+            continue;
+        }
+        let w = octets::word_at(image, here.place);
+        let word = decode(w);
+        let number = taken(h, assigned, juniors, t, here.place + 1 == words, word);
+        if number != 0 {
+            return Checked::Refused(number, here.place as u16);
+        }
+        let e = word.entry;
+        t = next(t, e);
+        at = Run {
+            place: here.place + 1,
+            sum: std::num::wrapping_add_u32(here.sum, w),
+        };
     }
     if at.sum % 268435456 == 0 {
         Checked::Accepted(h)

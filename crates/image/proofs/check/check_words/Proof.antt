@@ -27,68 +27,121 @@ abbrev μ-loop : tie.MeasureT-loop
 loop-holds : tie.Need-loop-holds Inv-loop μ-loop
 loop-holds c = (omega arith, omega arith, rw (c .fresh .ensures), refl, refl)
 
+pass-requires : tie.Need-pass-requires Inv-loop μ-loop
+pass-requires c κs =
+    let m = c .before .before .before in
+    let l = m .before .before .before in
+    let a = l .before .before .before in
+    (a .pre .0, a .pre .1, a .pre .2, m .members .ensures .inside _ (omega arith) (omega arith))
+
+loop-less : tie.Need-loop-less Inv-loop μ-loop
+loop-less c =
+    let p = c .before .before in
+    omega (arith, p .pass .ensures .inside, c .if2 .taken)
+
+loop-again : tie.Need-loop-again Inv-loop μ-loop
+unfolding assigning ordering
+loop-again c =
+    let p = c .before .before in
+    let r = p .pass .ensures in
+    let m = p .before .before .before .before in
+    let j = m .members .ensures in
+    let inv = m .before .before .before .loop .inv in (
+      omega (arith, r .onward, j .onward),
+      r .inside,
+      r .scanned (m .members .result .scan) refl ∙ j .scanned _ _ refl ∙ inv .2,
+      r .assigned-is ∙ j .folded assigning (λ x y. refl) _ ∙ inv .3,
+      r .juniors-is ∙ j .folded ordering (λ x y. refl) _ ∙ inv .4,
+    )
+
+word-at-requires : tie.Need-word-at-requires Inv-loop μ-loop
+word-at-requires c κs =
+    let p = c .before .before in
+    let m = p .before .before .before .before in
+    let l = m .before .before .before in
+    let a = l .before .before .before in
+    omega (arith, c .if2 .left, a .pre .0)
+
+cast-place : tie.Need-cast-t22 Inv-loop μ-loop
+cast-place c =
+    let t = c .before .before in
+    let w = t .before .before .before .before .before in
+    let p = w .before .before .before in
+    let m = p .before .before .before .before in
+    let l = m .before .before .before in
+    let a = l .before .before .before in
+    omega (arith, w .before .if2 .left, a .pre .2)
+
 returns : tie.Need-returns Inv-loop μ-loop
 returns c =
     let t = c .before .before in
     let d = t .before .before .before .before in
     let w = d .before in
-    let l = w .before .before .before in (
-      stops _ _ _ _ _ _ _ _ _ _ (w .before .if1 .taken) (w .word-at .ensures) (d .decode .ensures .0) (t .taken .ensures .faulty) _
-          (c .before .if2 .taken) (l .loop .inv .2),
+    let p = w .before .before .before in
+    let m = p .before .before .before .before in
+    let inv = m .before .before .before .loop .inv in (
+      stops _ _ _ _ _ _ _ _ _ _ (w .before .if2 .left) (w .word-at .ensures) (d .decode .ensures .0) (t .taken .ensures .faulty) _
+          (c .before .if3 .taken) (p .pass .ensures .scanned (m .members .result .scan) refl ∙ m .members .ensures .scanned _ _ refl ∙ inv .2),
       λ g e. not-accepted _ _ g e,
     )
 
 next-requires : tie.Need-next-requires Inv-loop μ-loop
-next-requires c κs = search (needs, due-of)
+next-requires c κs =
+    let t = c .before in
+    (t .before .before .before .before .decode .ensures .1, due-of _ _ _ _ _ _ (t .taken .ensures .faulty) (c .if3 .left))
 
-pass-requires : tie.Need-pass-requires Inv-loop μ-loop
-pass-requires c κs =
-    let m = c .before .before .before in
-    let t = m .before .before .before .before .before in
+add-place : tie.Need-add-t21 Inv-loop μ-loop
+add-place c =
+    let t = c .before .before .before in
     let w = t .before .before .before .before .before in
-    let a = w .before .before .before .before .before .before in
-    (a .pre .0, a .pre .1, a .pre .2, m .members .ensures .inside _ (omega arith) (omega arith))
+    let p = w .before .before .before in
+    let m = p .before .before .before .before in
+    let l = m .before .before .before in
+    let a = l .before .before .before in
+    search (needs, w .before .if2 .left, a .pre .2)
 
-loop-less : tie.Need-loop-less Inv-loop μ-loop
-loop-less c =
-    let j = c .before .before .before .before .members .ensures in
-    omega (arith, c .pass .ensures .onward, c .pass .ensures .inside, j .onward)
+loop-less-2 : tie.Need-loop-less-2 Inv-loop μ-loop
+loop-less-2 c =
+    let t = c .before .before .before .before in
+    let w = t .before .before .before .before .before in
+    let p = w .before .before .before in
+    let m = p .before .before .before .before in
+    omega (arith, p .pass .ensures .onward, w .before .if2 .left, m .members .ensures .onward)
 
-loop-again : tie.Need-loop-again Inv-loop μ-loop
+loop-again-2 : tie.Need-loop-again-2 Inv-loop μ-loop
 unfolding assigning ordering
-loop-again c =
-    let r = c .pass .ensures in
-    let m = c .before .before .before .before in
-    let j = m .members .ensures in
-    let s = m .before in
-    let n = s .before .before in
+loop-again-2 c =
+    let n = c .before .before in
     let t = n .before .before in
     let d = t .before .before .before .before in
     let w = d .before in
-    let l = w .before .before .before in
-    let in-loop = w .before .if1 .taken in
+    let p = w .before .before .before in
+    let r = p .pass .ensures in
+    let m = p .before .before .before .before in
+    let j = m .members .ensures in
+    let inv = m .before .before .before .loop .inv in
+    let in-loop = w .before .if2 .left in
     let e = t .taken .ensures in
-    let z = n .before .if2 .left in (
+    let z = n .before .if3 .left in (
       omega (arith, r .onward, j .onward),
-      r .inside,
-      r .scanned (m .members .result .scan) refl ∙ j .scanned _ _ refl
-          ∙ goes _ _ _ _ _ _ _ _ _ _ in-loop (w .word-at .ensures) (d .decode .ensures .0) (e .faulty) _ z _ _ _ (e .assigned-is z)
-          (n .next .ensures) (s .wrapping-add-u32 .ensures) (l .loop .inv .2),
-      r .assigned-is ∙ j .folded assigning (λ x y. refl) _
-          ∙ fold-next _ _ _ _ _ _ _ _ _ in-loop (w .word-at .ensures) (d .decode .ensures .0) (e .assigned-is z) (l .loop .inv .3),
-      r .juniors-is ∙ j .folded ordering (λ x y. refl) _
-          ∙ fold-next _ _ _ _ _ _ _ _ _ in-loop (w .word-at .ensures) (d .decode .ensures .0) (e .juniors-is z) (l .loop .inv .4),
+      omega (arith, in-loop),
+      goes _ _ _ _ _ _ _ _ _ _ in-loop (w .word-at .ensures) (d .decode .ensures .0) (e .faulty) _ z _ _ _ (e .assigned-is z)
+          (n .next .ensures) (c .wrapping-add-u32 .ensures) (r .scanned (m .members .result .scan) refl ∙ j .scanned _ _ refl ∙ inv .2),
+      fold-next _ _ _ _ _ _ _ _ _ in-loop (w .word-at .ensures) (d .decode .ensures .0) (e .assigned-is z)
+          (r .assigned-is ∙ j .folded assigning (λ x y. refl) _ ∙ inv .3),
+      fold-next _ _ _ _ _ _ _ _ _ in-loop (w .word-at .ensures) (d .decode .ensures .0) (e .juniors-is z)
+          (r .juniors-is ∙ j .folded ordering (λ x y. refl) _ ∙ inv .4),
     )
 
 returns-2 : tie.Need-returns-2 Inv-loop μ-loop
 returns-2 c = (search (needs, ends-right), λ g e. (search (needs, fold-end), search (needs, fold-end)))
 
 returns-3 : tie.Need-returns-3 Inv-loop μ-loop
-returns-3 c = (search (needs, ends-wrong, c .if3 .left), λ g e. not-accepted _ _ g e)
+returns-3 c = (search (needs, ends-wrong, c .if4 .left), λ g e. not-accepted _ _ g e)
 
 pub check-words-spec : {M : Type 1} → statement M
 check-words-spec =
     tie.close
-    (tie.spec Inv-loop μ-loop (λ c κs. search needs) loop-holds (λ c κs. search needs) (λ c κs. search needs) (λ c. search needs) (λ c κs. search needs)
-    (λ c. search needs) returns next-requires (λ c. search needs) (λ c κs. search needs) (λ c κs. search needs) pass-requires loop-less loop-again
-    (λ c. search needs) (λ c. search needs) returns-2 returns-3)
+    (tie.spec Inv-loop μ-loop (λ c κs. search needs) loop-holds (λ c κs. search needs) pass-requires loop-less loop-again word-at-requires
+    (λ c κs. search needs) (λ c. search needs) (λ c κs. search needs) cast-place returns next-requires add-place
+    (λ c κs. search needs) loop-less-2 loop-again-2 (λ c. search needs) (λ c. search needs) returns-2 returns-3)
