@@ -2,6 +2,7 @@
 -- Assumes nothing.
 use mathlib.Core.Path.{_≡_, refl, sym, ap, _∙_, subst}
 use mathlib.Core.Bool.{Bool, true, false, _&&_, _||_, not}
+use mathlib.Core.Logic.{_⊎_, inl, inr}
 use mathlib.Core.List.{List}
 use Prim.Native.Nat.{ℕ, suc, _+_, _-_, _/_, _%_, _^_, _≤_, _<_}
 use native.Mathlib.Numerals.{add-one}
@@ -16,18 +17,23 @@ use lib.Seq.{drop-cons}
 use borrow.Author.Tests.{eqb-true, eqb-false, eq-eqb, ne-eqb, lt-ltb, le-ltb, lt-leb, le-leb}
 use borrow.Table.Steps.{cases}
 use Rattle.model.specs.Tests.{pick, any}
-use Rattle.model.specs.Sets.{has, within, setOf, sumTo}
-use Rattle.model.specs.Policy.{Policy, Meaning, limited, hasLimits, authorized, meaning}
+use Rattle.model.specs.Sets.{has, within, setOf, sumTo, count}
+use Rattle.model.specs.Policy.{Policy, limited, hasLimits, authorized, meaning}
 use Rattle.model.specs.Line.{SESSIONS, holding, others}
 use Rattle.model.specs.Limits.{elsewhere, barred, unbarred}
 use Rattle.model.specs.Session.{isAsk}
 use Rattle.model.specs.Run.{Call, lineOf, holdingOf, heldByOthers, othersOf, told}
-use Rattle.model_laws.proofs.Bools.{or-r}
+use Rattle.model_laws.proofs.Bools.{or-r, and-l, bool-ext, not-both}
+use Rattle.model_laws.proofs.AnyWidth.{same-sets}
+use Rattle.model_laws.proofs.UnionLaws.{has-none, has-below}
+use Rattle.model_laws.proofs.LowestLaws.{setOf-has, has-setOf}
 use Rattle.model_laws.proofs.Inclusion.{within-union-r}
-use Rattle.model_laws.proofs.Barred.{unlimited-choice, none-limited}
+use Rattle.model_laws.proofs.Barred.{some-limited}
 use Rattle.limits.proofs.CardProof.{sum-same, sum-split}
 use Rattle.limits_held.specs.Held.{heldBut, heldByAll}
-use Rattle.limits_left.specs.Left.{stays, Left}
+use Rattle.sets.specs.Members.{without, Lowest}
+use Rattle.sets.proofs.Taken.{without-lt, without-other, count-without}
+use Rattle.limits_left.specs.Left.{stays, Unlimited, Left}
 
 -- ---- some role has a limit, from role i on
 abbrev pub given : ℕ → Bool
@@ -134,12 +140,48 @@ left-counted p ledger u k own limits count s below eo el some e es c same a =
     (λ i. setOf (λ r. stays-same p ledger u k below c same a (ap (any given) el ∙ some) count e r i) 64)
     ∙ (λ i. setOf (λ r. stays (eo i) (getD (el i) r 0) (count r) r) 64) ∙ sym es
 
--- without a limit
+-- where none of the user's own roles has a limit
 pub left-all : (p : Policy) (ledger : List ℕ) (u k own : ℕ) (limits : List ℕ) → authorized p u ≡ own → own < 2 ^ 64 → p .limits ≡ limits
-    → any given limits ≡ false → Left p ledger u k own
-unfolding meaning
-left-all p ledger u k own limits eo small el none c same a =
-    ap (λ (m : Meaning). m .authorized)
-    (unlimited-choice (meaning p u) (told SESSIONS p ledger c) (lineOf SESSIONS ledger u) k (subst (λ (n : ℕ). n < 2 ^ 64) (sym eo) small)
-    (none-limited (p .limits) (ap (any given) el ∙ none)))
-    ∙ eo
+    → Unlimited limits own → Left p ledger u k own
+unfolding unbarred barred meaning
+left-all p ledger u k own limits eo small el free c same a =
+    same-sets _ own (λ r. bool-ext _ (has own r)
+    (λ h. subst (λ (s : ℕ). has s r ≡ true) eo (and-l (has (authorized p u) r) _ (setOf-has _ 64 r h .0)))
+    (λ h. has-setOf _ 64 r (has-below 64 own r small h)
+    (rw (eo, el, h, free r h))))
+
+-- ---- a walk through the roles of a set: those that are passed have no limit
+pub record Walked (limits : List ℕ) (set left : ℕ) : Type 0 where
+  pub small : left < 2 ^ 64
+  pub rest : (r : ℕ) → has set r ≡ true → (has left r ≡ true) ⊎ (limited limits r ≡ false)
+
+pub walked-none : (limits : List ℕ) (set : ℕ) → set < 2 ^ 64 → Walked limits set set
+walked-none limits set h = record { small = h; rest = λ r m. inl m }
+
+pub walked-end : (limits : List ℕ) (set left : ℕ) → Walked limits set left → left ≡ 0 → Unlimited limits set
+walked-end limits set left w e r h = go (w .rest r h)
+  where
+    go : (has left r ≡ true) ⊎ (limited limits r ≡ false) → limited limits r ≡ false
+    go (inl m) = not-both (has 0 r) (ap (λ (s : ℕ). has s r) (sym e) ∙ m) (has-none r)
+    go (inr f) = f
+
+module _ (limits : List ℕ) (set left i less : ℕ) (w : Walked limits set left) (low : Lowest left i) (e : less ≡ without left i) where
+  -- one role more is passed
+  pub walked-next : getD limits i 0 ≡ 0 → Walked limits set less
+  unfolding limited
+  walked-next z =
+      record {
+        small = rw e (without-lt 64 left i (w .small) (low .small));
+        rest = λ r h. cases (eqb r i) (λ x. inr (rw (eqb-true r i x) (ap not (eq-eqb (getD limits i 0) 0 z)))) (λ x. go r x (w .rest r h));
+      }
+    where
+      go : (r : ℕ) → eqb r i ≡ false → (has left r ≡ true) ⊎ (limited limits r ≡ false) → (has less r ≡ true) ⊎ (limited limits r ≡ false)
+      go r x (inr f) = inr f
+      go r x (inl h) = inl (ap (λ (s : ℕ). has s r) e ∙ without-other left i r (low .member) (eqb-false r i x) ∙ h)
+
+  pub walked-less : count 64 less < count 64 left
+  walked-less = omega (arith, ap (count 64) e, count-without 64 left i (w .small) (low .small) (low .member))
+
+pub one-limited : (limits : List ℕ) (i : ℕ) → (getD limits i 0 ≡ 0 → ⊥) → any given limits ≡ true
+unfolding limited
+one-limited limits i z = some-limited limits i (ap not (ne-eqb (getD limits i 0) 0 z))

@@ -1,6 +1,6 @@
 // The roles that no limit bars.
 ghost use mathlib.Core.Path.{_≡_};
-ghost use mathlib.Core.Bool.{not};
+ghost use mathlib.Core.Bool.{true, false, not};
 ghost use Prim.Native.Nat.{_*_, _≤_, _<_};
 ghost use lib.Dec.{eqb};
 ghost use lib.ListN.{getD, length};
@@ -11,7 +11,7 @@ ghost use Rattle.model.specs.Policy.{Policy, authorized};
 ghost use Rattle.model.specs.Line.{SESSIONS, lineSize};
 ghost use Rattle.calls.specs.Calls.{Known};
 ghost use Rattle.limits_counts.specs.Counted.{countAt};
-ghost use Rattle.limits_left.specs.Left.{stays as staysOf, Left};
+ghost use Rattle.limits_left.specs.Left.{stays as staysOf, Unlimited, Left};
 use calls::first::roles_of;
 use calls::given::Rules;
 use calls::given::Window;
@@ -30,6 +30,22 @@ pub fn has_limits(limits: &[u64; 64]) -> bool
         found = found | limits[r];
     }
     found != 0
+}
+
+// Some role of the set has a limit.
+fn some_limited(limits: &[u64; 64], set: u64) -> bool
+    ensures { λ b. ⌜ (b ≡ true → any (λ t. not (eqb t 0)) (now (limits .entry)) ≡ true) × (b ≡ false → Unlimited (now (limits .entry)) set) ⌝ }
+{
+    let mut left = set;
+    while left != 0 {
+        let r = sets::lowest(left);
+        let i = r.0 as usize;
+        if limits[i] != 0 {
+            return true;
+        }
+        left = sets::without(left, r);
+    }
+    false
 }
 
 // Role r is one of the user's own, and no limit t bars it.
@@ -57,14 +73,14 @@ fn left_by(own: u64, limits: &[u64; 64], counts: Counts) -> u64
     found
 }
 
-// Those of the user's own roles that no limit bars for session k. Without a limit no other line is looked at.
+// Those of the user's own roles that no limit bars for session k. Where none of them has a limit, no other line is looked at.
 pub fn left(ledger: &[u8], users: usize, user: usize, k: usize, own: u64, limits: &[u64; 64]) -> u64
     requires { ⌜ (users ≤ 64) × (user < users) × (length (now ledger) ≡ lineSize SESSIONS * users)
         × (k < SESSIONS) × (length (now limits) ≡ 64) ⌝ }
     ensures { λ s. ⌜ ((p : Policy) → p .head .users ≡ users → authorized p user ≡ own → p .limits ≡ now (limits .entry)
         → Left p (now (ledger .entry)) user k s) ⌝ }
 {
-    if has_limits(limits) {
+    if some_limited(limits, own) {
         return left_by(own, limits, held(ledger, users, user, k));
     }
     own

@@ -14,7 +14,7 @@ returns c p eu eo el =
     let s = c .before .before .before .before in
     let a = s .before .args in
     left-counted p (a .ledger .now) (a .user) (a .k) (a .own) (a .limits .now) (countAt (c .before .held .result)) _
-    (subst (λ (n : ℕ). a .user < n) (sym eu) (s .before .pre .1)) eo el (sym (c .before .before .before .has-limits .ensures) ∙ c .before .before .if1 .taken)
+    (subst (λ (n : ℕ). a .user < n) (sym eu) (s .before .pre .1)) eo el (c .before .before .before .some-limited .ensures .0 (c .before .before .if1 .taken))
     (λ r. c .before .held .ensures r ∙ ap (λ (n : ℕ). heldByAll (a .ledger .now) (a .user) (a .k) n r) (sym eu)) (c .left-by .ensures)
 
 returns-2 : tie.Need-returns-2
@@ -22,7 +22,7 @@ returns-2 c p eu eo el =
     let s = c .before .before in
     let a = s .before .args in
     left-all p (a .ledger .now) (a .user) (a .k) (a .own) (a .limits .now) eo (s .before .fits .own .fits) el
-    (sym (c .before .has-limits .ensures) ∙ c .if1 .left)
+    (c .before .some-limited .ensures .1 (c .if1 .left))
 
 pub left-spec : {M : Type 1} → statement M
 left-spec = tie.close (tie.spec (λ c κs. search needs) (λ c κs. search needs) (λ c κs. search needs) returns returns-2)
