@@ -1,10 +1,11 @@
 -- A walk from place 0 by the first exclusion behind each place reads the exclusions of the image, in image order.
 -- Assumes nothing.
-use mathlib.Core.Path.{_≡_, refl, sym, ap, _∙_}
+use mathlib.Core.Path.{_≡_, refl, sym, ap, subst, _∙_}
 use mathlib.Core.Bool.{Bool, true, false, true≢false}
-use mathlib.Core.List.{List, _∷_, _++_}
+use mathlib.Core.List.{List, [], _∷_, _++_}
 use Prim.Native.Nat.{ℕ, zero, suc, _+_, _-_, _<_, _≤_}
 use native.Mathlib.Omega.{arith}
+use lib.ListN.{length, getD, drop}
 use Rattle.model.specs.declared.Exclusion.{Exclusion}
 use Rattle.model.specs.declared.Entry.{Entry}
 use Rattle.model.specs.declared.Entry.the-variants.{Assignment, Grant, Senior, Exclude, Member, Limit, End, Unknown}
@@ -36,6 +37,25 @@ of-other (Member r) es h = refl
 of-other (Limit r n) es h = refl
 of-other End es h = refl
 of-other Unknown es h = refl
+
+-- an exclusion's own entry gives it, and the rest gives the others
+own-first : (e : Entry) (es : List Entry) (rest : List Exclusion) (x : Exclusion) (xs : List Exclusion) → excludes e ≡ true
+    → exclusionBy e es ++ rest ≡ x ∷ xs → (exclusionBy e es ≡ x ∷ []) × (rest ≡ xs)
+unfolding excludes exclusionBy
+own-first (Assignment u r) es rest x xs h q = absurd (true≢false (sym h))
+own-first (Grant r p) es rest x xs h q = absurd (true≢false (sym h))
+own-first (Senior a b) es rest x xs h q = absurd (true≢false (sym h))
+own-first (Exclude y m) es rest x xs h q = (ap (λ (l : List Exclusion). getD l 0 y ∷ []) q, ap (λ (l : List Exclusion). drop 1 l) q)
+own-first (Member r) es rest x xs h q = absurd (true≢false (sym h))
+own-first (Limit r n) es rest x xs h q = absurd (true≢false (sym h))
+own-first End es rest x xs h q = absurd (true≢false (sym h))
+own-first Unknown es rest x xs h q = absurd (true≢false (sym h))
+
+-- nothing is read from place 0
+visited : (f : ℕ → List Exclusion) (q : ℕ) (x : Exclusion) (xs : List Exclusion) → visiting f q ≡ x ∷ xs → (0 < q) × (f q ≡ x ∷ xs)
+unfolding visiting
+visited f zero x xs e = let k : 0 ≡ suc (length xs) = ap length e in absurd (omega arith)
+visited f (suc q) x xs e = (omega arith, e)
 
 visiting-one : (f : ℕ → List Exclusion) (q : ℕ) → 0 < q → f q ≡ visiting f q
 unfolding visiting
@@ -90,6 +110,45 @@ module _ (s : List ℕ) where
       go : (0 < exclusionAmong s n (p + 1) → p + 1 < exclusionAmong s n (p + 1)) → (t : Bool) → 0 < turn n p t → p < turn n p t
       go rest true l = omega arith
       go rest false l = omega (arith, rest l)
+
+  -- and is one, at a place of the image
+  found-excludes : (n p : ℕ) → n ≡ behindHead s - p → 0 < exclusionAmong s n p
+      → (excludes (entryAt s (exclusionAmong s n p)) ≡ true) × (exclusionAmong s n p ≤ behindHead s)
+  unfolding exclusionAmong
+  found-excludes zero p e h = absurd (omega (arith, h))
+  found-excludes (suc n) p e h = go (found-excludes n (p + 1) (omega (arith, e))) (excludes (entryAt s (p + 1))) refl
+    where
+      One : ℕ → Type 0
+      One q = (excludes (entryAt s q) ≡ true) × (q ≤ behindHead s)
+
+      go : (0 < exclusionAmong s n (p + 1) → One (exclusionAmong s n (p + 1))) → (t : Bool) → excludes (entryAt s (p + 1)) ≡ t
+          → One (exclusionAmong s (suc n) p)
+      go rest true k = subst One (turned n p true (omega (arith, e)) k) (k, omega (arith, e))
+      go rest false k =
+          let t = turned n p false (omega (arith, e)) k in
+          subst One t (rest (omega (arith, t, h)))
+
+  -- where exclusions stand behind a place, the walk goes on to the place of the first of them
+  pub record Visits (place : ℕ) (x : Exclusion) (xs : List Exclusion) : Type 0 where
+    pub before : 0 < exclusionAfter s place
+    pub inside : exclusionAfter s place ≤ behindHead s
+    pub first : exclusionBy (entryAt s (exclusionAfter s place)) (entriesBehind s (exclusionAfter s place)) ≡ x ∷ []
+    pub rest : exclusionsOf (entriesBehind s (exclusionAfter s place)) ≡ xs
+
+  pub visits-next : (place : ℕ) (x : Exclusion) (xs : List Exclusion) → exclusionsOf (entriesBehind s place) ≡ x ∷ xs → Visits place x xs
+  unfolding entriesBehind exclusionAfter
+  visits-next place x xs e =
+      let n = behindHead s - place in
+      let q = exclusionAmong s n place in
+      let v = visited onward q x xs (sym (first-behind n place refl) ∙ e) in
+      let f = found-excludes n place refl (v .0) in
+      let o = own-first (entryAt s q) (entriesBehind s q) (exclusionsOf (entriesBehind s q)) x xs (f .0) (v .1) in
+      record { before = v .0; inside = f .1; first = o .0; rest = o .1 }
+
+  -- the walk starts before all of them
+  pub visits-start : exclusionsOf (entriesBehind s 0) ≡ exclusionsOf (entriesOf s)
+  unfolding entriesOf entriesBehind
+  visits-start = let k : behindHead s - 0 ≡ behindHead s = omega arith in ap (λ (m : ℕ). exclusionsOf (entriesFrom s m 1)) k
 
   walked-is : (n place : ℕ) → behindHead s ≤ place + n → walked s n place ≡ exclusionsOf (entriesBehind s place)
   unfolding walked entriesBehind entriesFrom exclusionsOf exclusionAfter

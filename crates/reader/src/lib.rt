@@ -5,7 +5,7 @@ ghost use mathlib.Core.Path.{_≡_};
 ghost use Prim.Native.Nat.{_+_};
 ghost use Rattle.model.specs.Image.{behindHead};
 ghost use Rattle.reader.specs.Places.{foundAt, placeAfter, excludes as excludesOf, isExclusion, exclusionAfter};
-ghost use Rattle.reader.specs.Readers.{atFirst, movedOn};
+ghost use Rattle.reader.specs.Readers.{movedOn};
 use model::Entry;
 use model::Word;
 
@@ -61,13 +61,6 @@ pub struct Reader<'a> {
     pub at: usize,
 }
 
-// A reader at the first word behind the head.
-pub fn new<'a>(image: &'a [u8]) -> Reader<'a>
-    ensures { λ r. ⌜ r ≡ atFirst (image .entry) ⌝ }
-{
-    Reader { image, at: 1 }
-}
-
 // What stands at the reader's place.
 pub fn next<'a>(r: Reader<'a>) -> Found
     ensures { λ f. ⌜ f ≡ foundAt (now (r .entry .image)) (r .entry .at) ⌝ }
@@ -90,13 +83,6 @@ pub fn entry_after(image: &[u8], place: usize) -> Found
     ensures { λ f. ⌜ f ≡ foundAt (now (image .entry)) (place + 1) ⌝ }
 {
     next(moved(Reader { image, at: place }))
-}
-
-// The first entry of the image: the one behind its head.
-pub fn first_entry(image: &[u8]) -> Found
-    ensures { λ f. ⌜ f ≡ foundAt (now (image .entry)) 1 ⌝ }
-{
-    entry_after(image, 0)
 }
 
 // The entry is an exclusion.

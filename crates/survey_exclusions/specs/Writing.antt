@@ -1,13 +1,12 @@
 -- What the functions that write an image's exclusions need and do.
 -- Assumes nothing.
 use mathlib.Core.Path.{_≡_}
-use mathlib.Core.List.{List, []}
+use mathlib.Core.List.{List}
 use Prim.Native.Nat.{ℕ, _^_, _≤_, _<_}
-use lib.ListN.{getD, take}
+use lib.ListN.{take}
 use Rattle.model.specs.declared.Exclusion.{Exclusion}
 use Rattle.model.specs.Sets.{count}
 use Rattle.model.specs.Judgement.{judge}
-use Rattle.rows.specs.Rows.{exclusionOf}
 use Rattle.survey.specs.Survey.{allowed}
 use Rattle.survey.specs.Parts.{openingOf, isAccepted}
 use Rattle.survey_exclusions.specs.declared.exclusions.Opening.{Opening}
@@ -17,10 +16,6 @@ pub record Fitting (x : Exclusion) : Type 0 where
   pub n : x .n ≤ count 64 (x .members)
   pub size : count 64 (x .members) ≤ 64
   pub sets : allowed x < 2 ^ 64
-
--- the same of the exclusions of the first n rows
-abbrev pub RowsFit : List (List ℕ) → ℕ → Type 0
-RowsFit rows n = (i : ℕ) → i < n → Fitting (exclusionOf (getD rows i []))
 
 -- the first bytes of a buffer are what is printed before the script is read
 pub record Opens (image out : List ℕ) (r : Opening) : Type 0 where

@@ -1,16 +1,18 @@
 // The lines of an image's exclusions, or that of its refusal.
 ghost use mathlib.Core.Path.{_≡_};
-ghost use mathlib.Core.List.{map};
 ghost use Prim.Native.Nat.{_+_, _≤_};
-ghost use lib.ListN.{length, take};
-ghost use Rattle.rows.specs.Rows.{exclusionOf};
+ghost use lib.ListN.{length};
+ghost use Rattle.model.specs.Policy.{policyOf};
+ghost use Rattle.model.specs.Ranges.{Each};
 ghost use Rattle.text.specs.Writing.{Puts};
 ghost use Rattle.survey.specs.Survey.{exclusionLine, exclusionLines};
-ghost use Rattle.survey_exclusions.specs.Writing.{Fitting, RowsFit, Opens};
+ghost use Rattle.survey_exclusions.specs.Writing.{Fitting, Opens};
 use model::Checked;
 use model::Exclusion;
+use reader::exclusion_after;
 use survey_figures::figures::put_four;
 use survey_figures::figures::put_two;
+use tables_exclusions::exclusions::exclusion_at;
 
 // What is printed before the script is read: how much of the buffer it fills, and whether the image is accepted.
 pub struct Opening {
@@ -30,14 +32,19 @@ fn put_exclusion(out: &mut [u8], at: usize, x: Exclusion) -> usize
     put_four(out, at, which as u64, x.n as u64, size as u64, sets)
 }
 
-// Writes the lines of the exclusions in the first rows.
-fn put_rows(out: &mut [u8], at: usize, rows: &[[u64; 2]; 32], count: usize) -> usize
-    requires { ⌜ (at + 2688 ≤ length (now out)) × (count ≤ 32) × (length (now rows) ≡ 32) × (RowsFit (now rows) count) ⌝ }
-    ensures { λ r. ⌜ (Puts (now (out .entry)) at (exclusionLines (take count (map exclusionOf (now (rows .entry))))) (now (out .exit)) r) × (r ≤ at + 2688) ⌝ }
+// Writes the lines of an image's exclusions, so many, from the start of the buffer on. The reader goes from one to the next, in image order,
+// and a repeated one comes again.
+fn put_exclusions(out: &mut [u8], image: &[u8], count: usize) -> usize
+    requires { ⌜ (2688 ≤ length (now out)) × (count ≤ 32) × (count ≡ length (policyOf (now image) .exclusions))
+        × (Each Fitting (policyOf (now image) .exclusions)) ⌝ }
+    ensures { λ r. ⌜ (Puts (now (out .entry)) 0 (exclusionLines (policyOf (now (image .entry)) .exclusions)) (now (out .exit)) r) × (r ≤ 2688) ⌝ }
 {
-    let mut next = at;
+    let words = image.len() / 4;
+    let mut next: usize = 0;
+    let mut place: usize = 0;
     for i in 0..count {
-        let x = rows::exclusion_of(rows[i]);
+        place = exclusion_after(image, place);
+        let x = exclusion_at(image, words, place);
         next = put_exclusion(out, next, x);
     }
     next
@@ -65,7 +72,7 @@ pub fn put_opening(image: &[u8], out: &mut [u8]) -> Opening
     let checked = all.checked;
     match checked {
         Checked::Accepted(_) => {
-            let filled = put_rows(out, 0, &rows, all.count);
+            let filled = put_exclusions(out, image, all.count);
             Opening {
                 filled,
                 accepted: true,

@@ -1,7 +1,7 @@
 // The exclusions of an image, read at the places of their words.
 ghost use mathlib.Core.Path.{_≡_};
 ghost use mathlib.Core.List.{map};
-ghost use Prim.Native.Nat.{ℕ, _+_, _-_, _*_, _≤_, _<_};
+ghost use Prim.Native.Nat.{ℕ, _+_, _-_, _*_, _^_, _≤_, _<_};
 ghost use lib.ListN.{length, getD, take};
 ghost use Rattle.model.specs.Policy.{fold, joining, entriesFrom};
 ghost use Rattle.image_words.specs.Bounds.{Small};
@@ -57,7 +57,7 @@ fn members_in(image: &[u8], from: usize, to: usize, members: u64) -> u64
 
 // The place behind m words from a place on, or behind the last word.
 fn place_behind(from: usize, m: u8, words: usize) -> usize
-    requires { ⌜ (from ≤ words) × (words ≤ 4096) ⌝ }
+    requires { ⌜ (from ≤ words) × (words ≤ 2 ^ 62) ⌝ }
     ensures { λ r. ⌜ (r ≤ words) × (from ≤ r) × (r ≤ from + m) × (r < from + m → r ≡ words) ⌝ }
 {
     let to = from + (m as usize);
@@ -68,8 +68,8 @@ fn place_behind(from: usize, m: u8, words: usize) -> usize
 }
 
 // The exclusion at a place, of an image of so many words.
-fn exclusion_at(image: &[u8], words: usize, place: usize) -> Exclusion
-    requires { ⌜ (4 * words ≤ length (now image)) × (place < words) × (words ≤ 4096) ⌝ }
+pub fn exclusion_at(image: &[u8], words: usize, place: usize) -> Exclusion
+    requires { ⌜ (4 * words ≤ length (now image)) × (place < words) × (words ≤ 2 ^ 62) ⌝ }
     ensures { λ x. ⌜ x ≡ exclusionAt (now (image .entry)) words place ⌝ }
 {
     let word = decode(octets::word_at(image, place));

@@ -5,7 +5,7 @@ use Prim.Native.Nat.{ℕ, _≤_}
 use native.Mathlib.Omega.{arith}
 use lib.ListN.{length}
 use borrow.Author.Needs.{needs}
-use Rattle.hierarchy.proofs.Closing.{length-closed}
+use Rattle.hierarchy.proofs.Closing.{length-closure}
 use Rattle.hierarchy_loop.proofs.Showing.{empty-above, shows-19, shows-20, chain-fits, shows-chain}
 use Rattle.hierarchy_loop.proofs.chain.show_loop.Statement.{statement}
 use Rattle.hierarchy_loop.proofs.chain.show_loop.Tie as tie
@@ -30,7 +30,7 @@ fill-levels-among-requires c κs =
     let l = c .before .before in
     let k = l .before .before in
     let a = k .before .before .before .before .before in
-    (omega (arith, c .before .if2 .left, a .pre .0), ap length (k .close-first .ensures) ∙ length-closed _ _ ∙ a .pre .1, a .pre .0, empty-above (a .pre .2))
+    (omega (arith, c .before .if2 .left, a .pre .0), ap length (k .close-first .ensures) ∙ length-closure _ _ ∙ a .pre .1, a .pre .0, empty-above (a .pre .2))
 
 put-chain-requires : tie.Need-put-chain-requires
 put-chain-requires c κs =
