@@ -32,8 +32,8 @@ fn put_exclusion(out: &mut [u8], at: usize, x: Exclusion) -> usize
     put_four(out, at, which as u64, x.n as u64, size as u64, sets)
 }
 
-// Writes the lines of an image's exclusions, so many, from the start of the buffer on. The reader goes from one to the next, in image order,
-// and a repeated one comes again.
+// Writes the lines of an image's exclusions, so many, from the start of the buffer on. The reader goes from one to the
+// next, in image order, and a repeated one comes again.
 fn put_exclusions(out: &mut [u8], image: &[u8], count: usize) -> usize
     requires { ⌜ (2688 ≤ length (now out)) × (count ≤ 32) × (count ≡ length (policyOf (now image) .exclusions))
         × (Each Fitting (policyOf (now image) .exclusions)) ⌝ }
