@@ -73,7 +73,8 @@ fn left_by(own: u64, limits: &[u64; 64], counts: Counts) -> u64
     found
 }
 
-// Those of the user's own roles that no limit bars for session k. Where none of them has a limit, no other line is looked at.
+// Those of the user's own roles that no limit bars for session k. Where none of them has a limit, no other line is
+// looked at.
 pub fn left(ledger: &[u8], users: usize, user: usize, k: usize, own: u64, limits: &[u64; 64]) -> u64
     requires { ⌜ (users ≤ 64) × (user < users) × (length (now ledger) ≡ lineSize SESSIONS * users)
         × (k < SESSIONS) × (length (now limits) ≡ 64) ⌝ }
