@@ -22,7 +22,7 @@ const KINDS: [(u32, &str); 5] =
 /// What the calls answer beyond an accepted image.
 const NUMBERS: [&str; 13] = ["0", "9", "10", "11", "12", "13", "14", "15", "16", "17", "18", "19", "20"];
 
-/// The image `plain` of crates/tidying/specs/OrderCases.antt: a user with four roles, two exclusions, two limits.
+/// The image `plain` of crates/model_tidy/specs/OrderCases.antt: a user with four roles, two exclusions, two limits.
 const PLAIN: [u32; 16] = [
     0x10210040, 0x20000000, 0x20010000, 0x20020000, 0x20030000, 0x30000000, 0x30804000, 0x54102000, 0x60000000, 0x60400000,
     0x50102000, 0x60800000, 0x60C00000, 0x70004000, 0x70006000, 0xF9B7DFC0,

@@ -19,7 +19,7 @@ use Rattle.model.specs.Run.{Call, Event, lineAt, withLine, stepOn, askBy, retur
 use Rattle.model_laws.proofs.LedgerLaws.{own-line}
 use Rattle.asks_request.specs.Refusals.{sizes, queryRefusal, boundsRefusal, limitedRefusal}
 use Rattle.asks.specs.Asks.{leftTo, askedOn, Answers}
-use Rattle.calls.proofs.FirstSteps.{refuses, performs, holds, fails, ends}
+use Rattle.sessions.proofs.FirstSteps.{refuses, performs, holds, fails, ends}
 use Rattle.asks_request.proofs.Requests.{AskReady}
 use Rattle.asks_request.proofs.Refused.{numberOf, extras, or-session, test, own-tests, refused}
 

@@ -36,10 +36,10 @@ use Rattle.query_rooms.specs.Reduction.{Reduces}
 use Rattle.search.specs.Answer.{answered, Given}
 use Rattle.search.specs.declared.Choice.{Choice}
 use Rattle.search.specs.declared.Choice.the-variants.{Nothing, Roles}
-use Rattle.calls.specs.Calls.{Known}
+use Rattle.sessions.specs.Calls.{Known}
 use Rattle.limits_left.specs.Left.{Left}
 use Rattle.asks.specs.Asks.{leftTo, Asked, Searched}
-use Rattle.calls.proofs.FirstSteps.{Ready}
+use Rattle.sessions.proofs.FirstSteps.{Ready}
 
 getD-mapped : (f : ℕ → ℕ) (l : List ℕ) (i : ℕ) → i < length l → getD (map f l) i 0 ≡ f (getD l i 0)
 getD-mapped f [] i h = absurd (omega arith)

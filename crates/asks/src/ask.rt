@@ -11,13 +11,12 @@ ghost use Rattle.model.specs.Run.{stepOn, askBy, lineOf};
 ghost use Rattle.sets.specs.Words.{value, values};
 ghost use Rattle.query.specs.Carry.{rowsOf};
 ghost use Rattle.search.specs.Answer.{answered};
-ghost use Rattle.calls.specs.Calls.{Known};
-ghost use Rattle.rows.specs.Rows.{exclusionsIn};
+ghost use Rattle.sessions.specs.Calls.{Known};
+ghost use Rattle.exclusions.specs.Rows.{exclusionsIn};
 ghost use Rattle.asks_request.specs.Refusals.{Bounded};
 ghost use Rattle.asks.specs.Asks.{leftTo, Asked, Searched, askedOn, Answers};
 use asks_request::request::Request;
 use asks_request::request::limited_refusal;
-use calls::answer::fill;
 use ledger::bytes::line_of;
 use ledger::bytes::put_line;
 use ledger_change::put_in;
@@ -25,6 +24,7 @@ use limits_left::roles_left;
 use model::Line;
 use query_rank::Job;
 use search::Choice;
+use sessions::answer::fill;
 
 // What is asked for: the bounds as sets, and the objectives (01: aims) on permissions and on roles.
 pub struct Wanted {

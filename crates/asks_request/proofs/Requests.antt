@@ -22,11 +22,11 @@ use Rattle.model.specs.Session.{isAsk}
 use Rattle.model.specs.Run.{Call, lineOf, told}
 use Rattle.model_laws.proofs.Reaches.{authorized-alone}
 use Rattle.model_laws.proofs.Bools.{and-l, and-r, or-l, or-r, not-both}
-use Rattle.calls.specs.Calls.{Known, firstRefusal}
-use Rattle.others.specs.Lines.{othersRefusal}
+use Rattle.sessions.specs.Calls.{Known, firstRefusal}
+use Rattle.limits_lines.specs.Lines.{othersRefusal}
 use Rattle.asks_request.specs.Refusals.{orElse, sessionRefusal, boundsRefusal, sizes, Bounded, queryRefusal, askRefusal, limitedRefusal}
-use Rattle.calls.proofs.FirstSteps.{pick-none, Ready, ready, room as first-room}
-use Rattle.others.proofs.Blaming.{others-quiet}
+use Rattle.sessions.proofs.FirstSteps.{pick-none, Ready, ready, room as first-room}
+use Rattle.limits_lines.proofs.Blaming.{others-quiet}
 
 -- ---- one refusal before others
 pub or-first : (n a b : ℕ) → n ≡ a → (n ≡ 0 → ⊥) → n ≡ orElse a b

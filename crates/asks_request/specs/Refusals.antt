@@ -13,8 +13,8 @@ use Rattle.model.specs.Bytes.{number}
 use Rattle.model.specs.Policy.{Policy}
 use Rattle.model.specs.Line.{isOpen}
 use Rattle.model.specs.Run.{lineOf}
-use Rattle.calls.specs.Calls.{firstRefusal}
-use Rattle.others.specs.Lines.{othersRefusal}
+use Rattle.sessions.specs.Calls.{firstRefusal}
+use Rattle.limits_lines.specs.Lines.{othersRefusal}
 
 -- the first number, where it is a refusal's, else the second
 unfoldable pub orElse : ℕ → ℕ → ℕ

@@ -4,19 +4,19 @@ ghost use Prim.Native.Nat.{_≤_};
 ghost use lib.ListN.{length};
 ghost use Rattle.model.specs.Line.{SESSIONS};
 ghost use Rattle.model.specs.Policy.{Policy};
-ghost use Rattle.calls.specs.Calls.{Known};
+ghost use Rattle.sessions.specs.Calls.{Known};
 ghost use Rattle.sets.specs.Words.{value};
-ghost use Rattle.rows.specs.Rows.{exclusionsIn};
+ghost use Rattle.exclusions.specs.Rows.{exclusionsIn};
 ghost use Rattle.asks_request.specs.Refusals.{sessionRefusal, boundsRefusal, queryRefusal, askRefusal, limitedRefusal};
 use crate::bounds::Bounds;
 use crate::bounds::below;
-use calls::first::first_refusal;
-use calls::given::Rules;
-use calls::given::Window;
 use ledger::bytes::line_of;
 use ledger_change::is_open;
 use model::Line;
 use model::SESSIONS;
+use sessions::first::first_refusal;
+use sessions::given::Rules;
+use sessions::given::Window;
 
 // What is asked under a policy: its sizes, the session of a user, the bounds, and the objectives (01: aims) on
 // permissions and on roles.
@@ -139,7 +139,7 @@ pub fn limited_refusal(
 {
     let rules = request.rules;
     let window = request.window;
-    let n = others::lines::refusal(ledger, rules, authorized, limits, xs, window.user);
+    let n = limits_lines::lines::refusal(ledger, rules, authorized, limits, xs, window.user);
     if n != 0 {
         return n;
     }

@@ -13,7 +13,7 @@ use Rattle.model.specs.Policy.{Meaning}
 use Rattle.model.specs.Reduced.{stays}
 use Rattle.model.specs.Clauses.{Literal, listTo, when, gives, holds, fails, barring, carries, carrying, carriers, carried, bounding, uncounted, room as roomIn, counter, excluding, helpers, excludingAll, hard, soft, variablesIn}
 use Rattle.model.specs.Dimacs.{helpersOf, variablesOf, clausesOf, textOf}
-use Rattle.encoding.proofs.ClauseLaws.{listTo-same}
+use Rattle.model_clauses.proofs.ClauseLaws.{listTo-same}
 use Rattle.clauses_hard.specs.Parts.{barred, barringTo, carriedAs, carryingRow, carryingTo, carrier, carriersTo, carriedOne, carriedTo, lower as lowerOf, lowerBoundTo, upper as upperOf, upperBoundTo, hardBy}
 use Rattle.clauses_counter.specs.Counters.{counters}
 use Rattle.clauses_soft.specs.Soft.{wantingPermissions, wantingRoles, softBy}

@@ -8,7 +8,7 @@ use native.Mathlib.Numerals.{add-one}
 use native.Mathlib.Omega.{arith}
 use lib.ListN.{length, set, take, drop}
 use lib.Seq.{sets, sets-eq}
-use Rattle.encoding.specs.Texts.{TEXT_ROOM}
+use Rattle.model_clauses.specs.Texts.{TEXT_ROOM}
 use Rattle.clauses_bytes.specs.Putting.{behind, stored, Puts}
 use Rattle.clauses.specs.Writing.{Needs, Written}
 

@@ -1,7 +1,7 @@
 // The text of an ask, written if it fits.
 ghost use Prim.Native.Nat.{_≤_};
 ghost use lib.ListN.{length};
-ghost use Rattle.encoding.specs.Texts.{TEXT_ROOM};
+ghost use Rattle.model_clauses.specs.Texts.{TEXT_ROOM};
 ghost use Rattle.clauses.specs.Writing.{Needs, Written};
 ghost use Rattle.clauses_text.specs.Whole.{textFor};
 use clauses_hard::question::Question;

@@ -25,7 +25,7 @@ use Rattle.clauses_hard.specs.Parts.{rolesIn, Columns, carrier, carriers
 use Rattle.clauses_bytes.proofs.WritingLaws.{puts-as, Along, along-starts, along-goes}
 use Rattle.clauses_lines.proofs.LineLaws.{lines-one}
 use Rattle.clauses_counter.proofs.CounterLaws.{listed-none, listed-first, none-below}
-use Rattle.encoding.proofs.ClauseLaws.{listTo-same}
+use Rattle.model_clauses.proofs.ClauseLaws.{listTo-same}
 
 -- ---- the roles of a set, lowest first
 

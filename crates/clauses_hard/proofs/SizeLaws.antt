@@ -12,7 +12,7 @@ use mir.Syntax.{w64}
 use lib.ListN.{length, getD, length-append}
 use Rattle.model.specs.Sets.{has, one, countTo, count}
 use Rattle.model.specs.Clauses.{listTo, when, must, mustNot, gives, give, roleVariable, keeping, adding, row, rows, counter, variablesIn}
-use Rattle.encoding.proofs.ClauseLaws.{length-singles}
+use Rattle.model_clauses.proofs.ClauseLaws.{length-singles}
 use Rattle.clauses_hard.specs.Parts.{barred, barringTo, carriedAs, carryingRow, carryingTo, carriedOne, carriedTo, lower as lowerOf, lowerBoundTo, upper as upperOf, upperBoundTo, hardBy}
 use Rattle.clauses_counter.specs.Counters.{counters}
 use Rattle.clauses_hard.specs.Sizes.{sumTo, rowSize, tallied, counterSize, countersSize, carryingSize, hardSize}

@@ -7,8 +7,8 @@ use native.Mathlib.Nat.{suc-mul, zero-mul, mul-one, mul-le-mul}
 use native.Mathlib.Omega.{arith}
 use lib.ListN.{length, length-append}
 use Rattle.model.specs.Clauses.{Clause, listTo, must, mustNot, wanting, weightOf, top}
-use Rattle.encoding.proofs.ClauseLaws.{length-singles}
-use Rattle.encoding.proofs.DimacsSizes.{weight-append}
+use Rattle.model_clauses.proofs.ClauseLaws.{length-singles}
+use Rattle.model_clauses.proofs.DimacsSizes.{weight-append}
 use Rattle.clauses_soft.specs.Soft.{wantingPermissions, wantingRoles, whereAimed, softBy}
 
 pub where-aimed-none : (a n : ℕ) → a < 1 → 0 ≡ whereAimed a n

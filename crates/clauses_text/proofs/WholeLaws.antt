@@ -15,7 +15,7 @@ use Rattle.clauses_soft.specs.Soft.{wantingPermissions, wantingRoles, softBy}
 use Rattle.clauses_hard.specs.Sizes.{helpersTo, hardSize}
 use Rattle.clauses_text.specs.Whole.{clausesBy, textBy}
 use Rattle.clauses_lines.proofs.LineLaws.{lines-joined, softs-joined}
-use Rattle.encoding.proofs.DimacsProof.{length-weighing}
+use Rattle.model_clauses.proofs.DimacsProof.{length-weighing}
 use Rattle.clauses_hard.proofs.SizeLaws.{hard-length}
 
 pub clauses-length :

@@ -5,14 +5,14 @@ ghost use lib.Dec.{ltb};
 ghost use lib.ListN.{length};
 ghost use Rattle.model.specs.Policy.{Meaning, met};
 ghost use Rattle.model.specs.Line.{SESSIONS, activeIn, counted as countedBy, exclusionsMet, sessionSound, sessionsSound, sound as soundBy};
-ghost use Rattle.rows.specs.Rows.{exclusionsIn};
+ghost use Rattle.exclusions.specs.Rows.{exclusionsIn};
 ghost use Rattle.ledger.specs.Held.{metAt, namedIn, namedBy, Listed, Held};
+use exclusions::exclusion_of;
 use model::Exclusion;
 use model::Kind;
 use model::Line;
 use model::SESSIONS;
 use model::Session;
-use rows::exclusion_of;
 
 // ---- exclusions
 

@@ -29,7 +29,7 @@ use Rattle.model_laws.proofs.UnionLaws.{has-none, has-below}
 use Rattle.model_laws.proofs.LowestLaws.{setOf-has, has-setOf}
 use Rattle.model_laws.proofs.Inclusion.{within-union-r}
 use Rattle.model_laws.proofs.Barred.{some-limited}
-use Rattle.limits.proofs.CardProof.{sum-same, sum-split}
+use Rattle.model_limits.proofs.CardProof.{sum-same, sum-split}
 use Rattle.limits_held.specs.Held.{heldBut, heldByAll}
 use Rattle.sets.specs.Members.{without, Lowest}
 use Rattle.sets.proofs.Taken.{without-lt, without-other, count-without}

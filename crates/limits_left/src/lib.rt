@@ -9,16 +9,16 @@ ghost use Rattle.model.specs.Tests.{any};
 ghost use Rattle.model.specs.Sets.{setOf};
 ghost use Rattle.model.specs.Policy.{Policy, authorized};
 ghost use Rattle.model.specs.Line.{SESSIONS, lineSize};
-ghost use Rattle.calls.specs.Calls.{Known};
+ghost use Rattle.sessions.specs.Calls.{Known};
 ghost use Rattle.limits_counts.specs.Counted.{countAt};
 ghost use Rattle.limits_left.specs.Left.{stays as staysOf, Unlimited, Left};
-use calls::first::roles_of;
-use calls::given::Rules;
-use calls::given::Window;
 use hierarchy::member::joined;
 use limits_counts::Counts;
 use limits_counts::count_at;
 use limits_held::held;
+use sessions::first::roles_of;
+use sessions::given::Rules;
+use sessions::given::Window;
 
 // Some role has a limit: all are joined, and none is tested by itself.
 pub fn has_limits(limits: &[u64; 64]) -> bool

@@ -21,8 +21,8 @@ use Rattle.model_laws.proofs.Resizing.{length-resized}
 use Rattle.model_laws.proofs.MoveLines.{length-lines, answer-done, done-answer}
 use Rattle.octets.specs.Splice.{splice}
 use Rattle.octets.proofs.Splices.{splice-splice}
-use Rattle.calls.specs.Calls.{Gives}
-use Rattle.calls.proofs.FirstSteps.{gives-refusal}
+use Rattle.sessions.specs.Calls.{Gives}
+use Rattle.sessions.proofs.FirstSteps.{gives-refusal}
 
 -- ---- a line among those of n users, of z bytes each
 module _ (z size u n : ℕ) (l : List ℕ) (e : size ≡ z) (fits : length l ≡ z * n) (h : u < n) where

@@ -6,14 +6,14 @@ ghost use Rattle.model.specs.Policy.{Policy};
 ghost use Rattle.model.specs.Line.{SESSIONS, lineSize};
 ghost use Rattle.model.specs.Run.{returned};
 ghost use Rattle.model.specs.Moves.{moveAnswer, resizedLines, moveOn};
-ghost use Rattle.rows.specs.Rows.{exclusionsIn};
-ghost use Rattle.calls.specs.Calls.{Known, Gives};
-use calls::first::roles_of;
-use calls::given::Rules;
+ghost use Rattle.exclusions.specs.Rows.{exclusionsIn};
+ghost use Rattle.sessions.specs.Calls.{Known, Gives};
 use moves_line::line_bytes;
 use moves_line::line_fault;
 use moves_line::line_size;
 use moves_line::put_resized;
+use sessions::first::roles_of;
+use sessions::given::Rules;
 
 // The first fault of a line, from user 0 up, with 256 times its user; 0 where none has one.
 fn first_fault(

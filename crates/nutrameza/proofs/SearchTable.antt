@@ -12,9 +12,9 @@ use Rattle.model.specs.Judgement.{judge}
 use Rattle.model.specs.Policy.{policyOf}
 use Rattle.model_laws.proofs.UnionLaws.{has-below}
 use Rattle.query.specs.Carry.{Named}
-use Rattle.turned.specs.Turned.{rowAt, turned}
-use Rattle.turned_table.specs.Table.{grantTable}
-use Rattle.turned_table.proofs.Theorems.{table-is}
+use Rattle.grant_table_turned.specs.Turned.{rowAt, turned}
+use Rattle.grant_table.specs.Table.{grantTable}
+use Rattle.grant_table.proofs.Theorems.{table-is}
 
 -- of a table that `query::carriers::carriers` makes for roles of an accepted policy: the word of a wanted permission
 -- has, of these roles, those that the permission's row of the turned grant table has

@@ -11,8 +11,8 @@ use Rattle.model.specs.Sets.{has}
 use Rattle.model.specs.Judgement.{judge}
 use Rattle.model.specs.Policy.{policyOf}
 use Rattle.query.specs.Carry.{Named}
-use Rattle.turned.specs.Turned.{rowAt, turned}
-use Rattle.turned_table.specs.Table.{grantTable}
+use Rattle.grant_table_turned.specs.Turned.{rowAt, turned}
+use Rattle.grant_table.specs.Table.{grantTable}
 use Rattle.nutrameza.proofs.SearchTable
 
 -- the words that the search reads are bits of the turned grant table

@@ -9,11 +9,11 @@ ghost use Rattle.model.specs.Judgement.{judge};
 ghost use Rattle.model.specs.Loop.{loopCall};
 ghost use Rattle.model.specs.Moves.{widened, narrowed};
 ghost use Rattle.model.specs.Run.{step, openBy, closeBy, showBy, askBy, shortAskBy, explainBy, returned, answered};
-ghost use Rattle.stopped.specs.Stopped.{stoppedCall};
-ghost use Rattle.tidying.specs.Tidy.{tidyCall};
-ghost use Rattle.turned_table.specs.TableCalls.{tableCall};
-ghost use Rattle.turned.specs.Calls.{turnCall, unturnCall};
-use calls::given::Window;
+ghost use Rattle.model_stopped.specs.Stopped.{stoppedCall};
+ghost use Rattle.model_tidy.specs.Tidy.{tidyCall};
+ghost use Rattle.grant_table.specs.TableCalls.{tableCall};
+ghost use Rattle.grant_table_turned.specs.Calls.{turnCall, unturnCall};
+use sessions::given::Window;
 
 pub mod clauses; // clauses.rt: the clause text of an ask
 pub mod obstacle; // obstacle.rt: what stands in the way of an ask
@@ -24,7 +24,7 @@ pub mod obstacle; // obstacle.rt: what stands in the way of an ask
 pub extern "C" fn nutrameza_check(image: &[u8]) -> u64
     ensures { λ r. ⌜ r ≡ checkNumber (judge (now (image .entry))) ⌝ }
 {
-    image_calls::check_image(image)
+    calls_image::check_image(image)
 }
 
 // Shows the shortest loop of the lowest role on one: its roles from that role down and back to it, a byte each, and
@@ -34,7 +34,7 @@ pub extern "C" fn nutrameza_loop(image: &[u8], chain: &mut [u8]) -> u64
     ensures { λ r. ⌜ (r ≡ returned (loopCall (now (image .entry)) (length (now (chain .entry)))))
         × (now (chain .exit) ≡ answered (now (chain .entry)) (loopCall (now (image .entry)) (length (now (chain .entry))))) ⌝ }
 {
-    image_calls::show_loop(image, chain)
+    calls_image::show_loop(image, chain)
 }
 
 // Writes the tidy image of the image's policy at the front of the buffer: head, assignments, grants, seniors,
@@ -45,7 +45,7 @@ pub extern "C" fn nutrameza_tidy(image: &[u8], out: &mut [u8]) -> u64
     ensures { λ r. ⌜ (r ≡ tidyCall (now (image .entry)) (now (out .entry)) .number + 256 * tidyCall (now (image .entry)) (now (out .entry)) .extra)
         × (now (out .exit) ≡ tidyCall (now (image .entry)) (now (out .entry)) .out) ⌝ }
 {
-    image_calls::write_tidy(image, out)
+    calls_image::write_tidy(image, out)
 }
 
 // Tells whom the image stops: the users whose line of the ledger is not sound under it, user u as bit u of 8 bytes. The
@@ -56,7 +56,7 @@ pub extern "C" fn nutrameza_stopped(image: &[u8], ledger: &[u8], users: &mut [u8
         × (now (users .exit) ≡ answered (now (users .entry))
         (stoppedCall SESSIONS (now (image .entry)) (now (ledger .entry)) (length (now (users .entry))))) ⌝ }
 {
-    stopped_calls::tell_stopped(image, ledger, users)
+    calls_stopped::tell_stopped(image, ledger, users)
 }
 
 // Opens the user's lowest closed session, and returns it as the extra.
@@ -65,7 +65,7 @@ pub extern "C" fn nutrameza_open(image: &[u8], ledger: &mut [u8], user: u64) -> 
     ensures { λ r. ⌜ (r ≡ returned (step SESSIONS (now (image .entry)) (now (ledger .entry)) (openBy user) .reply))
         × (now (ledger .exit) ≡ step SESSIONS (now (image .entry)) (now (ledger .entry)) (openBy user) .ledger) ⌝ }
 {
-    session_calls::open_session(image, ledger, user)
+    calls_session::open_session(image, ledger, user)
 }
 
 // Closes the user's session.
@@ -74,7 +74,7 @@ pub extern "C" fn nutrameza_close(image: &[u8], ledger: &mut [u8], user: u64, se
     ensures { λ r. ⌜ (r ≡ returned (step SESSIONS (now (image .entry)) (now (ledger .entry)) (closeBy user session) .reply))
         × (now (ledger .exit) ≡ step SESSIONS (now (image .entry)) (now (ledger .entry)) (closeBy user session) .ledger) ⌝ }
 {
-    session_calls::close_session(image, ledger, user, session)
+    calls_session::close_session(image, ledger, user, session)
 }
 
 // Shows the active roles of the user's session and the permissions that they carry.
@@ -90,7 +90,7 @@ pub extern "C" fn nutrameza_show(
         × (now (answer .exit) ≡ answered (now (answer .entry))
         (step SESSIONS (now (image .entry)) (now (ledger .entry)) (showBy user session (length (now (answer .entry)))) .reply)) ⌝ }
 {
-    session_calls::show_session(image, ledger, user, session, answer)
+    calls_session::show_session(image, ledger, user, session, answer)
 }
 
 // Explains through which roles the active ones of the user's session carry the permission: the extra is 64 times the
@@ -105,7 +105,7 @@ pub extern "C" fn nutrameza_explain(
 ) -> u64
     ensures { λ r. ⌜ r ≡ returned (step SESSIONS (now (image .entry)) (now (ledger .entry)) (explainBy user session permission) .reply) ⌝ }
 {
-    session_calls::explain_session(image, ledger, user, session, permission)
+    calls_session::explain_session(image, ledger, user, session, permission)
 }
 
 // Asks for roles in the user's session: at least the lower permissions, none outside the upper, the best by both
@@ -131,7 +131,7 @@ pub extern "C" fn nutrameza_ask(
         (askBy user session (now (lower .entry)) (now (upper .entry)) «permission_aim» «role_aim» (length (now (answer .entry)))) .reply)) ⌝ }
 {
     let window = Window { user, session };
-    session_calls::ask_roles(
+    calls_session::ask_roles(
         image,
         ledger,
         window,
@@ -162,7 +162,7 @@ pub extern "C" fn nutrameza_short_ask(
         (step SESSIONS (now (image .entry)) (now (ledger .entry))
         (shortAskBy user session (now (lower .entry)) (now (upper .entry)) (length (now (answer .entry)))) .reply)) ⌝ }
 {
-    short_asks::short_ask(image, ledger, user, session, lower, upper, answer)
+    calls_short::short_ask(image, ledger, user, session, lower, upper, answer)
 }
 
 // Carries a ledger of four sessions a user over to one of eight: open bits, histories and each session's bytes stand as
@@ -172,7 +172,7 @@ pub extern "C" fn nutrameza_widen(image: &[u8], old: &[u8], new: &mut [u8]) -> u
     ensures { λ r. ⌜ (r ≡ returned (widened (now (image .entry)) (now (old .entry)) (now (new .entry)) .reply))
         × (now (new .exit) ≡ widened (now (image .entry)) (now (old .entry)) (now (new .entry)) .ledger) ⌝ }
 {
-    move_calls::widen(image, old, new)
+    calls_moves::widen(image, old, new)
 }
 
 // Carries a ledger of eight sessions a user back to one of four. 9 is by 144 bytes a user, 19 by 80; 24 where any of
@@ -182,7 +182,7 @@ pub extern "C" fn nutrameza_narrow(image: &[u8], old: &[u8], new: &mut [u8]) -> 
     ensures { λ r. ⌜ (r ≡ returned (narrowed (now (image .entry)) (now (old .entry)) (now (new .entry)) .reply))
         × (now (new .exit) ≡ narrowed (now (image .entry)) (now (old .entry)) (now (new .entry)) .ledger) ⌝ }
 {
-    move_calls::narrow(image, old, new)
+    calls_moves::narrow(image, old, new)
 }
 
 // Fills the buffer with the closed grant table: 32 bytes for each of 64 roles, the permissions that the role carries.
@@ -191,7 +191,7 @@ pub extern "C" fn nutrameza_table(image: &[u8], table: &mut [u8]) -> u64
     ensures { λ r. ⌜ (r ≡ returned (tableCall (now (image .entry)) (length (now (table .entry)))))
         × (now (table .exit) ≡ answered (now (table .entry)) (tableCall (now (image .entry)) (length (now (table .entry))))) ⌝ }
 {
-    image_calls::fill_table(image, table)
+    calls_image::fill_table(image, table)
 }
 
 // Turns a table of 64 rows of 32 bytes into one of 256 rows of 8: bit p of row r goes to bit r of row p.
@@ -200,7 +200,7 @@ pub extern "C" fn nutrameza_turn(source: &[u8], target: &mut [u8]) -> u64
     ensures { λ r. ⌜ (r ≡ returned (turnCall (now (source .entry)) (length (now (target .entry)))))
         × (now (target .exit) ≡ answered (now (target .entry)) (turnCall (now (source .entry)) (length (now (target .entry))))) ⌝ }
 {
-    turned::bytes::turn_bytes(source, target)
+    grant_table_turned::bytes::turn_bytes(source, target)
 }
 
 // Turns a table of 256 rows of 8 bytes back into one of 64 rows of 32: bit r of row p goes to bit p of row r.
@@ -209,5 +209,5 @@ pub extern "C" fn nutrameza_unturn(source: &[u8], target: &mut [u8]) -> u64
     ensures { λ r. ⌜ (r ≡ returned (unturnCall (now (source .entry)) (length (now (target .entry)))))
         × (now (target .exit) ≡ answered (now (target .entry)) (unturnCall (now (source .entry)) (length (now (target .entry))))) ⌝ }
 {
-    turned::bytes::unturn_bytes(source, target)
+    grant_table_turned::bytes::unturn_bytes(source, target)
 }

@@ -23,5 +23,5 @@ pub extern "C" fn nutrameza_obstacle(
         (step SESSIONS (now (image .entry)) (now (ledger .entry))
         (obstacleBy user session (now (lower .entry)) (now (upper .entry)) (length (now (roles .entry)))) .reply)) ⌝ }
 {
-    obstacle_calls::tell_obstacle(image, ledger, user, session, lower, upper, roles)
+    calls_obstacle::tell_obstacle(image, ledger, user, session, lower, upper, roles)
 }

@@ -3,7 +3,7 @@ ghost use mathlib.Core.Path.{_≡_};
 ghost use Prim.Native.Nat.{_+_, _≤_, _<_};
 ghost use lib.ListN.{length};
 ghost use Rattle.model.specs.Judgement.{judge};
-ghost use Rattle.script.specs.Script.{firstLedger};
+ghost use Rattle.model_script.specs.Script.{firstLedger};
 use libc::STDIN_FILENO;
 use libc::STDOUT_FILENO;
 use script_answers::lines::Place;

@@ -4,9 +4,9 @@ mod input;
 
 fn main() {
     let mut file = [0u8; 16385];
-    let size = chunks::file::read_image(&mut file);
+    let size = script_input::file::read_image(&mut file);
     let image = &file[..size];
-    let mut ledger = [0u8; chunks::lines::LEDGER];
-    let used = chunks::lines::ledger_length(image);
+    let mut ledger = [0u8; script_input::lines::LEDGER];
+    let used = script_input::lines::ledger_length(image);
     input::answer_all(image, &mut ledger[0..used]);
 }

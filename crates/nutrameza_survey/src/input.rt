@@ -3,7 +3,7 @@ ghost use mathlib.Core.Path.{_≡_};
 ghost use Prim.Native.Nat.{_+_, _≤_, _<_};
 ghost use lib.ListN.{length, replicate};
 ghost use Rattle.model.specs.Judgement.{judge};
-ghost use Rattle.script.specs.Script.{firstLedger};
+ghost use Rattle.model_script.specs.Script.{firstLedger};
 ghost use Rattle.survey_counts.specs.Counting.{Most};
 use libc::STDIN_FILENO;
 use survey_counts::counts::count_chunk;

@@ -15,7 +15,7 @@ fn write_survey(text: &[u8]) {
 
 fn main() {
     let mut file = [0u8; 16385];
-    let size = chunks::file::read_image(&mut file);
+    let size = script_input::file::read_image(&mut file);
     let image = &file[..size];
     let mut out = [0u8; 16384];
     let opening = survey_exclusions::exclusions::put_opening(image, &mut out);
@@ -24,8 +24,8 @@ fn main() {
         write_survey(&out[0..filled]);
         return;
     }
-    let mut ledger = [0u8; chunks::lines::LEDGER];
-    let used = chunks::lines::ledger_length(image);
+    let mut ledger = [0u8; script_input::lines::LEDGER];
+    let used = script_input::lines::ledger_length(image);
     let mut counts = [0u64; 256];
     let is_read = input::count_all(image, &mut ledger[0..used], &mut counts);
     if is_read {

@@ -24,13 +24,13 @@ use Rattle.tables_rows.specs.Carried.{carriedRows}
 use Rattle.query.specs.Carry.{rowsOf, Carry}
 use Rattle.asks.specs.Asks.{leftTo, Asked}
 use Rattle.asks.proofs.Rows.{carry-rows}
-use Rattle.obstacle_lacks.specs.declared.found.Found.{Found}
-use Rattle.obstacle_lacks.specs.declared.found.Told.{Told}
-use Rattle.obstacle_lacks.specs.declared.found.Found.the-variants.{Nothing, One}
-use Rattle.obstacle_lacks.specs.Founds.{foundOf, ownLacks, upperLacks, limitLacks}
-use Rattle.obstacle_lacks.proofs.Carriers.{carry-less}
-use Rattle.obstacle_lacks.proofs.Within.{or-told, or-clear}
-use Rattle.obstacle_blocks.proofs.Lefts.{met-among}
+use Rattle.obstacles_lacks.specs.declared.found.Found.{Found}
+use Rattle.obstacles_lacks.specs.declared.found.Told.{Told}
+use Rattle.obstacles_lacks.specs.declared.found.Found.the-variants.{Nothing, One}
+use Rattle.obstacles_lacks.specs.Founds.{foundOf, ownLacks, upperLacks, limitLacks}
+use Rattle.obstacles_lacks.proofs.Carriers.{carry-less}
+use Rattle.obstacles_lacks.proofs.Within.{or-told, or-clear}
+use Rattle.obstacles_blocks.proofs.Lefts.{met-among}
 use Rattle.obstacles.specs.Asking.{Asking}
 
 -- the first of three or else a fourth is the first of four

@@ -7,14 +7,14 @@ ghost use Rattle.model.specs.Policy.{Policy, meaning};
 ghost use Rattle.model.specs.Limits.{Others};
 ghost use Rattle.model.specs.Obstacle.{obstacleOf};
 ghost use Rattle.sets.specs.Words.{value, values};
-ghost use Rattle.rows.specs.Rows.{exclusionsIn};
-ghost use Rattle.obstacle_lacks.specs.Founds.{foundOf};
+ghost use Rattle.exclusions.specs.Rows.{exclusionsIn};
+ghost use Rattle.obstacles_lacks.specs.Founds.{foundOf};
 ghost use Rattle.obstacles.specs.Asking.{Asking};
 use asks::ask::Wanted;
 use model::Line;
-use obstacle_blocks::blocked;
-use obstacle_lacks::found::Found;
-use obstacle_lacks::roles::lacked_by_any;
+use obstacles_blocks::blocked;
+use obstacles_lacks::found::Found;
+use obstacles_lacks::roles::lacked_by_any;
 use tables_rows::carried::carried;
 
 // The roles that the user may activate, and those of them that no limit bars.

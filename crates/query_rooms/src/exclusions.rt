@@ -4,14 +4,14 @@ ghost use Prim.Native.Nat.{_≤_, _<_};
 ghost use lib.ListN.{length};
 ghost use Rattle.model.specs.Line.{SESSIONS, activeIn, others};
 ghost use Rattle.model.specs.Reduced.{stay, maskOf, roomOf};
-ghost use Rattle.rows.specs.Rows.{exclusionsIn};
+ghost use Rattle.exclusions.specs.Rows.{exclusionsIn};
 ghost use Rattle.query_rooms.specs.Reduction.{Reduces};
+use exclusions::exclusion_of;
 use ledger::sound::active_in;
 use model::Kind;
 use model::Line;
 use model::SESSIONS;
 use model::Session;
-use rows::exclusion_of;
 
 // Each exclusion by the members that are not counted yet and by its room, one more than the number of them that may
 // still join: the first `count` of both lists.

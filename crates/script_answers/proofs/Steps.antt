@@ -5,11 +5,11 @@ use mathlib.Core.List.{List, [], _++_, append-nil, append-assoc}
 use Prim.Native.Nat.{ℕ, _+_, _≤_, _<_}
 use native.Mathlib.Omega.{arith}
 use lib.ListN.{length, getD, take, drop}
-use Rattle.script.specs.Script.{answerTo, printed, printedFor}
-use Rattle.text.specs.Writing.{Puts}
-use Rattle.text.proofs.TextLaws.{text-put}
-use Rattle.chunks.specs.Kept.{linesFrom}
-use Rattle.chunks.proofs.Steps.{ends, last-none, last-some}
+use Rattle.model_script.specs.Script.{answerTo, printed, printedFor}
+use Rattle.script_text.specs.Writing.{Puts}
+use Rattle.script_text.proofs.TextLaws.{text-put}
+use Rattle.script_input.specs.Kept.{linesFrom}
+use Rattle.script_input.proofs.Steps.{ends, last-none, last-some}
 use Rattle.script_answers.specs.Buffers.{outcome}
 
 -- a newline has the line answered

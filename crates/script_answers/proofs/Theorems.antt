@@ -5,9 +5,9 @@ use mathlib.Core.Path.{_≡_}
 use mathlib.Core.List.{List, [], _++_}
 use Prim.Native.Nat.{ℕ}
 use lib.ListN.{take, drop}
-use Rattle.script.specs.Script.{transcript}
-use Rattle.chunks.specs.Kept.{linesFrom}
-use Rattle.chunks.specs.Joined.{joined, TakesAll}
+use Rattle.model_script.specs.Script.{transcript}
+use Rattle.script_input.specs.Kept.{linesFrom}
+use Rattle.script_input.specs.Joined.{joined, TakesAll}
 use Rattle.script_answers.specs.declared.lines.Place.{Place}
 use Rattle.script_answers.specs.Buffers.{outcome, AnswersLines, Standing, Begins, printsFrom}
 use Rattle.script_answers.proofs.Transcript

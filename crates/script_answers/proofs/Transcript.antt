@@ -7,11 +7,11 @@ use Prim.Native.Nat.{ℕ, _+_}
 use lib.ListN.{take, drop}
 use Rattle.model.specs.Judgement.{judge}
 use Rattle.model.specs.Run.{Event}
-use Rattle.script.specs.Script.{linesOf, answerTo, printed, printedFor, firstLedger, transcript}
-use Rattle.chunks.specs.Kept.{linesFrom}
-use Rattle.chunks.specs.Joined.{joined, TakesAll}
-use Rattle.chunks.proofs.ChunksJoined.{all-taken}
-use Rattle.chunks.proofs.KeptLines.{cut, kept-answer, kept-lines}
+use Rattle.model_script.specs.Script.{linesOf, answerTo, printed, printedFor, firstLedger, transcript}
+use Rattle.script_input.specs.Kept.{linesFrom}
+use Rattle.script_input.specs.Joined.{joined, TakesAll}
+use Rattle.script_input.proofs.ChunksJoined.{all-taken}
+use Rattle.script_input.proofs.KeptLines.{cut, kept-answer, kept-lines}
 use Rattle.script_answers.specs.declared.lines.Place.{Place}
 use Rattle.script_answers.specs.Buffers.{outcome, AnswersLines, Standing, Begins, printsFrom}
 

@@ -5,8 +5,8 @@ use mathlib.Core.List.{List, [], _++_}
 use Prim.Native.Nat.{ℕ, _+_, _≤_, _<_}
 use lib.ListN.{length, take, drop}
 use Rattle.model.specs.Judgement.{judge}
-use Rattle.script.specs.Script.{printedFor, firstLedger}
-use Rattle.chunks.specs.Kept.{linesFrom}
+use Rattle.model_script.specs.Script.{printedFor, firstLedger}
+use Rattle.script_input.specs.Kept.{linesFrom}
 use Rattle.script_answers.specs.declared.lines.Place.{Place}
 
 -- all that is printed in the end: the text so far, and that for the lines that are left, where so many calls are

@@ -3,9 +3,9 @@ ghost use mathlib.Core.Path.{_≡_};
 ghost use mathlib.Core.List.{[]};
 ghost use Prim.Native.Nat.{_+_, _≤_, _<_};
 ghost use lib.ListN.{length, take};
-ghost use Rattle.chunks.specs.Kept.{linesFrom};
+ghost use Rattle.script_input.specs.Kept.{linesFrom};
 ghost use Rattle.script_answers.specs.Buffers.{outcome, Ready, AnswersLines};
-use chunks::lines::gather;
+use script_input::lines::gather;
 
 // Where the run stands in a chunk: the place of the next byte, how many bytes of the line are kept, how many calls are
 // answered, and how much of the output buffer is filled.
@@ -45,7 +45,7 @@ pub fn answer_lines(
             };
         }
         calls += 1;
-        filled = replies::respond(image, ledger, &line[..kept], calls, out, filled);
+        filled = script_replies::respond(image, ledger, &line[..kept], calls, out, filled);
         kept = 0;
         next = begun.next + 1;
     }
@@ -74,5 +74,5 @@ pub fn answer_last(
     if kept < 1 {
         return 0;
     }
-    replies::respond(image, ledger, &line[..kept], calls + 1, out, 0)
+    script_replies::respond(image, ledger, &line[..kept], calls + 1, out, 0)
 }

@@ -18,7 +18,7 @@ use Rattle.model_laws.proofs.FramesProof.{show-keeps}
 use Rattle.script_parse.specs.declared.Form.{Form}
 use Rattle.script_parse.specs.declared.Form.the-variants.{Open, Close, Show, ShortAsk, Ask, Unreadable}
 use Rattle.script_parse.specs.declared.Parsed.{Parsed}
-use Rattle.script.specs.Script.{room, answerBy}
+use Rattle.model_script.specs.Script.{room, answerBy}
 use Rattle.script_parse.specs.Reading.{formed, callIn}
 use Rattle.asks.specs.Asks.{Answers}
 

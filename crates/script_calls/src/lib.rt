@@ -2,7 +2,7 @@
 ghost use mathlib.Core.Path.{_≡_};
 ghost use lib.ListN.{length};
 ghost use Rattle.asks.specs.Asks.{Answers};
-ghost use Rattle.script.specs.Script.{answerBy};
+ghost use Rattle.model_script.specs.Script.{answerBy};
 ghost use Rattle.script_parse.specs.Reading.{callIn};
 use nutrameza::nutrameza_ask;
 use nutrameza::nutrameza_close;

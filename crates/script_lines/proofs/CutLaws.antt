@@ -13,7 +13,7 @@ use borrow.Author.Count.{below-more}
 use borrow.Author.Tests.{lt-ltb, le-ltb, ltb-true, ltb-false}
 use Rattle.model.specs.Tests.{pick}
 use Rattle.script_lines.specs.declared.Words.{Words}
-use Rattle.script.specs.Script.{begun, words}
+use Rattle.model_script.specs.Script.{begun, words}
 use Rattle.script_lines.specs.Cutting.{wordsBehind, EndsWord, WordAt, CutInto}
 
 -- ---- lists of words by what is left of them

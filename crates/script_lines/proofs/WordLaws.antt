@@ -12,7 +12,7 @@ use lib.ListN.{length, getD, drop, drop-of-length-le, length-drop}
 use lib.Seq.{drop-cons, take-suc, getD-drop}
 use borrow.Author.Tests.{eq-eqb, ne-eqb, lt-ltb, le-ltb}
 use Rattle.model.specs.Tests.{pick}
-use Rattle.script.specs.Script.{begun, words}
+use Rattle.model_script.specs.Script.{begun, words}
 use Rattle.script_lines.specs.Cutting.{part, wordsBehind}
 
 -- the words with p in front of the first

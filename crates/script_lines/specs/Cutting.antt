@@ -6,7 +6,7 @@ use Prim.Native.Nat.{ℕ, _+_, _-_, _≤_, _<_}
 use lib.Dec.{ltb}
 use lib.ListN.{length, getD, take, drop}
 use Rattle.model.specs.Tests.{pick}
-use Rattle.script.specs.Script.{words}
+use Rattle.model_script.specs.Script.{words}
 use Rattle.script_lines.specs.declared.Words.{Words}
 
 -- the part of a line from one place up to another

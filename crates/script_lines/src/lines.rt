@@ -4,7 +4,7 @@ ghost use mathlib.Core.List.{[]};
 ghost use Prim.Native.Nat.{_+_, _-_, _≤_, _<_};
 ghost use lib.ListN.{length, getD};
 ghost use Rattle.model.specs.Tests.{sameList};
-ghost use Rattle.script.specs.Script.{words};
+ghost use Rattle.model_script.specs.Script.{words};
 ghost use Rattle.script_lines.specs.Cutting.{part, EndsWord, CutInto};
 use crate::Words;
 

@@ -16,7 +16,7 @@ use Rattle.model.specs.Tests.{pick, between, all}
 use Rattle.model_laws.proofs.Bools.{and-l, and-r, pick-case}
 use Rattle.model.specs.Bytes.{bytesOf}
 use Rattle.script_numerals.specs.Numbers.{numberOf, boundOf}
-use Rattle.script.specs.Script.{digit, isDigit, isNumeral, valueFrom, value}
+use Rattle.model_script.specs.Script.{digit, isDigit, isNumeral, valueFrom, value}
 
 -- ---- the value of a digit, by the ranges of bytes
 

@@ -5,7 +5,7 @@ use Prim.Native.Nat.{ℕ}
 use lib.ListN.{replicate}
 use Rattle.model.specs.Tests.{pick}
 use Rattle.model.specs.Bytes.{bytesOf}
-use Rattle.script.specs.Script.{isNumeral, value}
+use Rattle.model_script.specs.Script.{isNumeral, value}
 use Rattle.script_numerals.specs.declared.Number.{Number}
 use Rattle.script_numerals.specs.declared.Bound.{Bound}
 

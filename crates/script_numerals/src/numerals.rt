@@ -5,7 +5,7 @@ ghost use Prim.Native.Nat.{_+_, _-_, _*_, _%_, _≤_, _<_};
 ghost use lib.ListN.{length, take};
 ghost use Rattle.model.specs.Tests.{all};
 ghost use Rattle.model.specs.Bytes.{bytesOf};
-ghost use Rattle.script.specs.Script.{digit as digitOf, isDigit, isNumeral, value};
+ghost use Rattle.model_script.specs.Script.{digit as digitOf, isDigit, isNumeral, value};
 ghost use Rattle.script_numerals.specs.Numbers.{numberOf, boundOf};
 use crate::Bound;
 use crate::Number;

@@ -3,8 +3,8 @@ ghost use mathlib.Core.Path.{_≡_};
 ghost use Prim.Native.Nat.{_+_, _/_, _%_, _≤_};
 ghost use lib.ListN.{length, take, drop};
 ghost use Rattle.model.specs.Bytes.{number as numberOf};
-ghost use Rattle.script.specs.Script.{lineOf};
-ghost use Rattle.text.specs.Writing.{Puts};
+ghost use Rattle.model_script.specs.Script.{lineOf};
+ghost use Rattle.script_text.specs.Writing.{Puts};
 
 // Writes the line of call n from `at` on: the number and the extra that the call returned in one, and the 40 bytes that
 // it left in the answer buffer. Returns the place behind it.
@@ -14,5 +14,5 @@ pub fn put_returned(out: &mut [u8], at: usize, n: u64, code: u64, answer: &[u8])
         (lineOf n (code % 256) (code / 256) (numberOf (take 8 (now (answer .entry)))) (numberOf (drop 8 (now (answer .entry))))) (now (out .exit)) r)
         × (r ≤ at + 160) ⌝ }
 {
-    text_lines::put_line(out, at, n, code % 256, code / 256, answer)
+    script_text_lines::put_line(out, at, n, code % 256, code / 256, answer)
 }

@@ -10,7 +10,7 @@ use lib.ListN.{length, getD}
 use Rattle.model.specs.Tests.{pick}
 use Rattle.model.specs.Tests.{sameList}
 use Rattle.model.specs.Run.{openBy, closeBy, askBy, shortAskBy, showBy}
-use Rattle.script.specs.Script.{ascii, isNumeral, numberAt, boundAt, suits, matches, openForm, closeForm, showForm, shortAskForm, askForm, room, callOf}
+use Rattle.model_script.specs.Script.{ascii, isNumeral, numberAt, boundAt, suits, matches, openForm, closeForm, showForm, shortAskForm, askForm, room, callOf}
 
 and-true : (b : Bool) → (b && true) ≡ b
 and-true true = refl

@@ -19,7 +19,7 @@ use Rattle.script_lines.specs.Cutting.{CutInto}
 use Rattle.script_lines.proofs.CutLaws.{not-counted}
 use Rattle.script_parse.specs.declared.Form.the-variants.{Open, Close, Show, ShortAsk, Ask, Unreadable}
 use Rattle.script_parse.specs.declared.Parsed.{Parsed}
-use Rattle.script.specs.Script.{ascii, words, isNumeral, value, room, callOf, parse}
+use Rattle.model_script.specs.Script.{ascii, words, isNumeral, value, room, callOf, parse}
 use Rattle.script_numerals.specs.Numbers.{numberOf, boundOf}
 use Rattle.script_parse.specs.Reading.{formed, callIn}
 use Rattle.script_parse.proofs.FormLaws.{call-of-two, call-of-three, call-of-five, call-of-seven, call-of-other}

@@ -4,7 +4,7 @@ use mathlib.Core.Option.{Option, none, some}
 use mathlib.Core.List.{List}
 use Prim.Native.Nat.{ℕ}
 use Rattle.model.specs.Run.{Call, openBy, closeBy, askBy, shortAskBy, showBy}
-use Rattle.script.specs.Script.{room}
+use Rattle.model_script.specs.Script.{room}
 use Rattle.script_parse.specs.declared.Form.{Form}
 use Rattle.script_parse.specs.declared.Form.the-variants.{Open, Close, Show, ShortAsk, Ask, Unreadable}
 use Rattle.script_parse.specs.declared.Parsed.{Parsed}

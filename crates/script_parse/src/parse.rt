@@ -4,7 +4,7 @@ ghost use mathlib.Core.List.{[]};
 ghost use Prim.Native.Nat.{_<_};
 ghost use lib.ListN.{getD};
 ghost use Rattle.model.specs.Tests.{sameList};
-ghost use Rattle.script.specs.Script.{words, callOf, parse as parseOf};
+ghost use Rattle.model_script.specs.Script.{words, callOf, parse as parseOf};
 ghost use Rattle.script_lines.specs.Cutting.{CutInto};
 ghost use Rattle.script_numerals.specs.Numbers.{numberOf, boundOf};
 ghost use Rattle.script_parse.specs.Reading.{callIn};

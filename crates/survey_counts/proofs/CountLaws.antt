@@ -11,9 +11,9 @@ use borrow.Table.Steps.{cases}
 use borrow.Author.Tests.{eqb-true, eqb-false}
 use Rattle.model.specs.Session.{Reply}
 use Rattle.model_laws.proofs.TableLaws.{getD-filled}
-use Rattle.script.specs.Script.{answerTo}
-use Rattle.chunks.specs.Kept.{linesFrom}
-use Rattle.chunks.proofs.Steps.{ends, last-none, last-some}
+use Rattle.model_script.specs.Script.{answerTo}
+use Rattle.script_input.specs.Kept.{linesFrom}
+use Rattle.script_input.proofs.Steps.{ends, last-none, last-some}
 use Rattle.survey_counts.specs.Counting.{noted, tally, Most}
 
 -- ---- one answer

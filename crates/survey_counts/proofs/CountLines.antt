@@ -5,9 +5,9 @@ use mathlib.Core.List.{List, _++_}
 use Prim.Native.Nat.{ℕ, zero, suc, _+_, _≤_, _<_}
 use native.Mathlib.Numerals.{add-one}
 use native.Mathlib.Omega.{arith}
-use Rattle.text.specs.Writing.{Puts}
-use Rattle.text.proofs.TextLaws.{put-nothing}
-use Rattle.survey.specs.Survey.{twoFigures, countLine, countLines}
+use Rattle.script_text.specs.Writing.{Puts}
+use Rattle.script_text.proofs.TextLaws.{put-nothing}
+use Rattle.model_survey.specs.Survey.{twoFigures, countLine, countLines}
 
 pub count-none : (l : List ℕ) (at n c : ℕ) → c < 1 → Puts l at (countLine n c) l at
 unfolding countLine

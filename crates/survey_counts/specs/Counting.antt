@@ -6,8 +6,8 @@ use Prim.Native.Nat.{ℕ, _+_, _≤_}
 use lib.ListN.{length, getD, set, take, replicate}
 use Rattle.model.specs.Judgement.{judge}
 use Rattle.model.specs.Session.{Reply}
-use Rattle.script.specs.Script.{answerTo, firstLedger}
-use Rattle.chunks.specs.Kept.{linesFrom}
+use Rattle.model_script.specs.Script.{answerTo, firstLedger}
+use Rattle.script_input.specs.Kept.{linesFrom}
 use Rattle.survey_counts.specs.declared.counts.Counted.{Counted}
 
 -- the table with an answer counted

@@ -3,12 +3,12 @@ ghost use mathlib.Core.Path.{_≡_};
 ghost use mathlib.Core.List.{[]};
 ghost use Prim.Native.Nat.{_+_, _≤_, _<_};
 ghost use lib.ListN.{length, getD, take};
-ghost use Rattle.script.specs.Script.{answerTo};
-ghost use Rattle.chunks.specs.Kept.{linesFrom};
-ghost use Rattle.text.specs.Writing.{Puts};
-ghost use Rattle.survey.specs.Survey.{countLine, countLines};
+ghost use Rattle.model_script.specs.Script.{answerTo};
+ghost use Rattle.script_input.specs.Kept.{linesFrom};
+ghost use Rattle.script_text.specs.Writing.{Puts};
+ghost use Rattle.model_survey.specs.Survey.{countLine, countLines};
 ghost use Rattle.survey_counts.specs.Counting.{noted, tally, Most, CountsChunk};
-use chunks::lines::gather;
+use script_input::lines::gather;
 use survey_figures::figures::put_two;
 
 // A run between two chunks: how many bytes of the line are kept, and how many calls are answered.
@@ -32,7 +32,7 @@ fn count_line(
         × (Most (now (counts .exit)) r)
         × (length (now (counts .exit)) ≡ 256) ⌝ }
 {
-    let n = replies::answer(image, ledger, line) as usize;
+    let n = script_replies::answer(image, ledger, line) as usize;
     let had = counts[n];
     counts[n] = had + 1;
     calls + 1

@@ -19,16 +19,16 @@ use Rattle.model.specs.Judgement.{judge}
 use Rattle.model.specs.Image.{behindHead}
 use Rattle.model.specs.Policy.{entryAt, entriesFrom, exclusionsOf, policyOf, kindNumber}
 use Rattle.model.specs.Ranges.{Each}
-use Rattle.rows.specs.Rows.{exclusionOf}
-use Rattle.reader.specs.Places.{exclusionAfter, entriesBehind, exclusionBy as walkedBy}
-use Rattle.reader.proofs.Walk.{Visits, visits-next, visits-start}
+use Rattle.exclusions.specs.Rows.{exclusionOf}
+use Rattle.image_reader.specs.Places.{exclusionAfter, entriesBehind, exclusionBy as walkedBy}
+use Rattle.image_reader.proofs.Walk.{Visits, visits-next, visits-start}
 use Rattle.tables.specs.Tables.{Tables}
 use Rattle.tables_exclusions.specs.Exclusions.{exclusionBy as readBy, exclusionAt}
-use Rattle.text.specs.Writing.{Puts}
-use Rattle.text.proofs.TextLaws.{put-nothing, puts-joined, puts-as, text-put}
-use Rattle.choose.specs.Binomial.{binomial, sumBelow}
-use Rattle.survey.specs.Survey.{twoFigures, fourFigures, allowed, exclusionLine, exclusionLines}
-use Rattle.survey.specs.Parts.{openingOf, isAccepted}
+use Rattle.script_text.specs.Writing.{Puts}
+use Rattle.script_text.proofs.TextLaws.{put-nothing, puts-joined, puts-as, text-put}
+use Rattle.model_binomials.specs.Binomial.{binomial, sumBelow}
+use Rattle.model_survey.specs.Survey.{twoFigures, fourFigures, allowed, exclusionLine, exclusionLines}
+use Rattle.model_survey.specs.Parts.{openingOf, isAccepted}
 use Rattle.survey_exclusions.specs.Writing.{Fitting, Opens}
 
 -- the line of an exclusion by its figures

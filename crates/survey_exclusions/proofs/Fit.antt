@@ -13,10 +13,10 @@ use Rattle.model.specs.Judgement.{judge}
 use Rattle.model.specs.Policy.{policyOf}
 use Rattle.model.specs.Ranges.{Each, ExclusionInRange}
 use Rattle.model_laws.proofs.Judgements.{accepted-in-range}
-use Rattle.choose.specs.Allowed.{allowsAlone}
-use Rattle.choose.proofs.Sums.{sum-fits}
-use Rattle.choose.proofs.SubsetCount.{allowed-alone}
-use Rattle.survey.specs.Survey.{allowed}
+use Rattle.model_binomials.specs.Allowed.{allowsAlone}
+use Rattle.model_binomials.proofs.Sums.{sum-fits}
+use Rattle.model_binomials.proofs.SubsetCount.{allowed-alone}
+use Rattle.model_survey.specs.Survey.{allowed}
 use Rattle.survey_exclusions.specs.Writing.{Fitting}
 
 fitting : (roles : ℕ) → roles ≤ 64 → (x : Exclusion) → ExclusionInRange roles x → Fitting x

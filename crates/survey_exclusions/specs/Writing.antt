@@ -7,8 +7,8 @@ use lib.ListN.{take}
 use Rattle.model.specs.declared.Exclusion.{Exclusion}
 use Rattle.model.specs.Sets.{count}
 use Rattle.model.specs.Judgement.{judge}
-use Rattle.survey.specs.Survey.{allowed}
-use Rattle.survey.specs.Parts.{openingOf, isAccepted}
+use Rattle.model_survey.specs.Survey.{allowed}
+use Rattle.model_survey.specs.Parts.{openingOf, isAccepted}
 use Rattle.survey_exclusions.specs.declared.exclusions.Opening.{Opening}
 
 -- n is at most the number of members, of which there are at most 64, and the number of allowed sets fits 64 bits

@@ -4,12 +4,12 @@ ghost use Prim.Native.Nat.{_+_, _≤_};
 ghost use lib.ListN.{length};
 ghost use Rattle.model.specs.Policy.{policyOf};
 ghost use Rattle.model.specs.Ranges.{Each};
-ghost use Rattle.text.specs.Writing.{Puts};
-ghost use Rattle.survey.specs.Survey.{exclusionLine, exclusionLines};
+ghost use Rattle.script_text.specs.Writing.{Puts};
+ghost use Rattle.model_survey.specs.Survey.{exclusionLine, exclusionLines};
 ghost use Rattle.survey_exclusions.specs.Writing.{Fitting, Opens};
+use image_reader::exclusion_after;
 use model::Checked;
 use model::Exclusion;
-use reader::exclusion_after;
 use survey_figures::figures::put_four;
 use survey_figures::figures::put_two;
 use tables_exclusions::exclusions::exclusion_at;
@@ -26,9 +26,9 @@ fn put_exclusion(out: &mut [u8], at: usize, x: Exclusion) -> usize
     ensures { λ r. ⌜ (Puts (now (out .entry)) at (exclusionLine x) (now (out .exit)) r) × (r ≤ at + 84) ⌝ }
 {
     let kind = x.kind;
-    let which = rows::number_of(kind);
+    let which = exclusions::number_of(kind);
     let size = sets::size(x.members);
-    let sets = choose::allowed(size as usize, x.n as usize);
+    let sets = model_binomials::allowed(size as usize, x.n as usize);
     put_four(out, at, which as u64, x.n as u64, size as u64, sets)
 }
 

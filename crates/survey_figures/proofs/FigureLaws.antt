@@ -2,10 +2,10 @@
 -- Assumes nothing.
 use mathlib.Core.List.{List, [], _∷_}
 use Prim.Native.Nat.{ℕ}
-use Rattle.script.specs.Script.{numeral}
-use Rattle.text.specs.Writing.{Puts}
-use Rattle.text.proofs.TextLaws.{puts-joined}
-use Rattle.survey.specs.Survey.{twoFigures, fourFigures}
+use Rattle.model_script.specs.Script.{numeral}
+use Rattle.script_text.specs.Writing.{Puts}
+use Rattle.script_text.proofs.TextLaws.{puts-joined}
+use Rattle.model_survey.specs.Survey.{twoFigures, fourFigures}
 
 pub two-put :
     (a b : ℕ) {l₀ l₁ l₂ l₃ : List ℕ} {at r₁ r₂ r₃ : ℕ} → Puts l₀ at (numeral 10 a) l₁ r₁ → Puts l₁ r₁ (32 ∷ numeral 10 b) l₂ r₂

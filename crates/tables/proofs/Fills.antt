@@ -15,7 +15,7 @@ use Rattle.model.specs.Judgement.{judgeMeaning, judge}
 use Rattle.model_laws.proofs.Accepted.{words-head, words-in-range}
 use Rattle.model_laws.proofs.Judgements.{words-pass}
 use Rattle.model_laws.proofs.Tables.{granting-length}
-use Rattle.limits.proofs.LimitTable.{fold-length}
+use Rattle.model_limits.proofs.LimitTable.{fold-length}
 use Rattle.image.proofs.Turns.{length-assigned, length-juniors}
 use Rattle.hierarchy_judged.specs.Loops.{Fit, Passed, Judged}
 use Rattle.tables.specs.Tables.{Fresh, Gathered, Read, Tables}

@@ -5,13 +5,13 @@ ghost use Prim.Native.Nat.{ℕ, _+_, _-_, _*_, _^_, _≤_, _<_};
 ghost use lib.ListN.{length, getD, take};
 ghost use Rattle.model.specs.Policy.{fold, joining, entriesFrom};
 ghost use Rattle.image_words.specs.Bounds.{Small};
-ghost use Rattle.rows.specs.Rows.{exclusionOf};
+ghost use Rattle.exclusions.specs.Rows.{exclusionOf};
 ghost use Rattle.tables_exclusions.specs.Exclusions.{nothing as nothingOf, exclusionAt};
+use exclusions::row_of;
 use image_words::word::decode;
 use model::Entry;
 use model::Exclusion;
 use model::Kind;
-use rows::row_of;
 
 // No exclusion.
 pub fn nothing() -> Exclusion

@@ -13,12 +13,12 @@ use Rattle.model.specs.declared.Checked.the-variants.{Accepted}
 use Rattle.model.specs.Tests.{pick}
 use Rattle.model.specs.Words.{headWord, assignWord, grantWord, seniorWord, ended, imageBytes}
 use Rattle.model.specs.Policy.{Policy, sorted}
-use Rattle.rows.specs.Rows.{exclusionOf}
+use Rattle.exclusions.specs.Rows.{exclusionOf}
 use Rattle.octets.specs.Splice.{splice}
-use Rattle.tidying.specs.Groups.{spread}
-use Rattle.tidying.specs.Tidy.{tableGroups, exclusionGroup, limitGroups, tidyGroups, tidyWords, tidy, tidyBy}
-use Rattle.tidy_laws.proofs.TidyLists.{spread-append}
-use Rattle.tidy_laws.proofs.WordLaws.{bytes-length}
+use Rattle.model_tidy.specs.Groups.{spread}
+use Rattle.model_tidy.specs.Tidy.{tableGroups, exclusionGroup, limitGroups, tidyGroups, tidyWords, tidy, tidyBy}
+use Rattle.model_tidy_laws.proofs.TidyLists.{spread-append}
+use Rattle.model_tidy_laws.proofs.WordLaws.{bytes-length}
 use Rattle.tidy_words.specs.Tables.{tableWords, limitWords}
 use Rattle.tidy_words.specs.Whole.{restWords, groupWords, wordsBy}
 use Rattle.tidy.specs.Whole.{policyBy, Writes}

@@ -6,8 +6,8 @@ use Prim.Native.Nat.{ℕ, _+_, _*_}
 use lib.ListN.{take}
 use Rattle.model.specs.declared.Head.{Head}
 use Rattle.model.specs.Policy.{Policy}
-use Rattle.rows.specs.Rows.{exclusionOf}
-use Rattle.tidying.specs.Tidy.{Written}
+use Rattle.exclusions.specs.Rows.{exclusionOf}
+use Rattle.model_tidy.specs.Tidy.{Written}
 
 -- the policy of a head, three tables, the first n of the exclusions' rows and the limits
 unfoldable pub policyBy : Head → List ℕ → List ℕ → List ℕ → List (List ℕ) → ℕ → List ℕ → Policy

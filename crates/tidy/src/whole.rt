@@ -3,7 +3,7 @@ ghost use mathlib.Core.Path.{_≡_};
 ghost use Prim.Native.Nat.{_≤_};
 ghost use lib.ListN.{length};
 ghost use Rattle.sets.specs.Words.{values};
-ghost use Rattle.tidying.specs.Tidy.{tidyBy};
+ghost use Rattle.model_tidy.specs.Tidy.{tidyBy};
 ghost use Rattle.tidy_words.specs.Whole.{Fitted};
 ghost use Rattle.tidy.specs.Whole.{policyBy, Writes};
 use model::Checked;

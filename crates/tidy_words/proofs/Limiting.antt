@@ -12,8 +12,8 @@ use Rattle.model.specs.Tests.{pick}
 use Rattle.model.specs.Sets.{has, one}
 use Rattle.model.specs.Words.{limitWord}
 use Rattle.model.specs.Policy.{limited}
-use Rattle.tidying.specs.Tidy.{membersTo, limitedRows}
-use Rattle.tidy_laws.proofs.TidyLimits.{row-is, row-limited}
+use Rattle.model_tidy.specs.Tidy.{membersTo, limitedRows}
+use Rattle.model_tidy_laws.proofs.TidyLimits.{row-is, row-limited}
 use Rattle.tidy_words.specs.Buffers.{Buffer, putWord, puts}
 use Rattle.tidy_words.specs.Tables.{rowWords, tableWords, Table, limitRow, limitWords, Limited}
 use Rattle.tidy_words.proofs.Writing.{Begins}

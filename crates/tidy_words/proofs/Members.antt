@@ -19,7 +19,7 @@ use Rattle.sets.specs.Members.{without, Lowest}
 use Rattle.sets.specs.Words.{value}
 use Rattle.sets.proofs.Taken.{without-gone, without-other, without-lt, count-without, lowest-least}
 use Rattle.sets.proofs.Machine.{value-has}
-use Rattle.tidying.specs.Tidy.{membersTo}
+use Rattle.model_tidy.specs.Tidy.{membersTo}
 use Rattle.tidy_words.specs.Buffers.{setWords}
 use Rattle.tidy_words.specs.Tables.{rowWords}
 use Rattle.tidy_words.proofs.Writing.{Begins, Fours}

@@ -18,11 +18,11 @@ use Rattle.model.specs.Policy.{kindNumber}
 use Rattle.model_laws.proofs.Ranks.{count-most}
 use Rattle.sets.specs.Words.{value, values}
 use Rattle.sets.proofs.Unions.{values-at}
-use Rattle.rows.specs.Rows.{exclusionOf}
-use Rattle.rows.proofs.Packing.{row-at}
-use Rattle.tidying.specs.Groups.{spread}
-use Rattle.tidying.specs.Tidy.{membersTo, tableGroups, exclusionGroup}
-use Rattle.tidy_laws.proofs.TidyLists.{members-length, row-words}
+use Rattle.exclusions.specs.Rows.{exclusionOf}
+use Rattle.exclusions.proofs.Packing.{row-at}
+use Rattle.model_tidy.specs.Groups.{spread}
+use Rattle.model_tidy.specs.Tidy.{membersTo, tableGroups, exclusionGroup}
+use Rattle.model_tidy_laws.proofs.TidyLists.{members-length, row-words}
 use Rattle.tidy_words.specs.Buffers.{setWords}
 use Rattle.tidy_words.specs.Tables.{pairWord, rowWords, tableWords, Table, exclusionWords}
 use Rattle.tidy_words.proofs.Writing.{Begins}

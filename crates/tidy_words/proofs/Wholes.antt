@@ -10,8 +10,8 @@ use Rattle.model.specs.declared.Head.{Head}
 use Rattle.model.specs.declared.Exclusion.{Exclusion}
 use Rattle.model.specs.Words.{headWord, assignWord, grantWord, seniorWord, sumOf, endWord, ended, imageBytes}
 use Rattle.octets.specs.Splice.{splice}
-use Rattle.tidying.specs.Groups.{spread}
-use Rattle.tidying.specs.Tidy.{exclusionGroup}
+use Rattle.model_tidy.specs.Groups.{spread}
+use Rattle.model_tidy.specs.Tidy.{exclusionGroup}
 use Rattle.tidy_words.specs.Buffers.{Buffer, unwritten, putWord, puts}
 use Rattle.tidy_words.specs.Tables.{pairWord, tableWords, limitWords}
 use Rattle.tidy_words.specs.Whole.{restWords, groupWords, wordsBy}

@@ -11,7 +11,7 @@ use Rattle.model.specs.Bytes.{bytesOf}
 use Rattle.model.specs.Words.{sumOf, imageBytes}
 use Rattle.octets.specs.Splice.{splice}
 use Rattle.octets.proofs.Splices.{splice-nil, length-splice, splice-splice}
-use Rattle.tidy_laws.proofs.WordLaws.{bytes-length}
+use Rattle.model_tidy_laws.proofs.WordLaws.{bytes-length}
 use Rattle.tidy_words.specs.Buffers.{Buffer, putWord, puts}
 
 -- ---- one word

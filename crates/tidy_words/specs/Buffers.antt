@@ -5,7 +5,7 @@ use Prim.Native.Nat.{ℕ, _+_, _*_, _%_, _^_, _≤_}
 use lib.ListN.{length}
 use Rattle.model.specs.Bytes.{bytesOf}
 use Rattle.octets.specs.Splice.{splice}
-use Rattle.tidying.specs.Tidy.{membersTo}
+use Rattle.model_tidy.specs.Tidy.{membersTo}
 use Rattle.tidy_words.specs.declared.words.Cursor.{Cursor}
 
 -- bytes that words are written into: where the next word goes, and the sum of the words so far, of 32 bits

@@ -11,8 +11,8 @@ use Rattle.model.specs.Tests.{pick}
 use Rattle.model.specs.Sets.{has}
 use Rattle.model.specs.Words.{limitWord}
 use Rattle.model.specs.Policy.{limited}
-use Rattle.tidying.specs.Groups.{spread}
-use Rattle.tidying.specs.Tidy.{membersTo, tableGroups, exclusionGroup, limitedRows}
+use Rattle.model_tidy.specs.Groups.{spread}
+use Rattle.model_tidy.specs.Tidy.{membersTo, tableGroups, exclusionGroup, limitedRows}
 
 -- a word of a kind with two numbers of 6 bits: an assignment or a senior word
 unfoldable pub pairWord : ℕ → ℕ → ℕ → ℕ

@@ -5,8 +5,8 @@ use Prim.Native.Nat.{ℕ, _≤_}
 use Rattle.model.specs.declared.Head.{Head}
 use Rattle.model.specs.declared.Exclusion.{Exclusion}
 use Rattle.model.specs.Words.{headWord, assignWord, grantWord, seniorWord}
-use Rattle.tidying.specs.Groups.{spread}
-use Rattle.tidying.specs.Tidy.{exclusionGroup}
+use Rattle.model_tidy.specs.Groups.{spread}
+use Rattle.model_tidy.specs.Tidy.{exclusionGroup}
 use Rattle.tidy_words.specs.Tables.{tableWords, Table, limitWords, Limited}
 
 -- the words of exclusions in their order, and of limits

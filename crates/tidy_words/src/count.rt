@@ -7,12 +7,12 @@ ghost use Prim.Native.Nat.{ℕ, _^_, _≤_, _<_};
 ghost use lib.Dec.{eqb};
 ghost use lib.ListN.{length, take};
 ghost use Rattle.model.specs.Sets.{one};
-ghost use Rattle.tidying.specs.Groups.{spread};
-ghost use Rattle.tidying.specs.Tidy.{exclusionGroup};
+ghost use Rattle.model_tidy.specs.Groups.{spread};
+ghost use Rattle.model_tidy.specs.Tidy.{exclusionGroup};
 ghost use Rattle.sets.specs.Words.{values};
-ghost use Rattle.rows.specs.Rows.{exclusionOf};
+ghost use Rattle.exclusions.specs.Rows.{exclusionOf};
 ghost use Rattle.tidy_words.specs.Tables.{tableWords, Table, limitWords, Limited};
-use rows::exclusion_of;
+use exclusions::exclusion_of;
 
 // The words of a table of role sets, of which only the first n rows have members.
 pub fn count_table(table: &[u64; 64], n: usize) -> usize

@@ -5,19 +5,19 @@ ghost use mathlib.Core.List.{map};
 ghost use Prim.Native.Nat.{_≤_, _<_};
 ghost use lib.ListN.{length, take};
 ghost use Rattle.model.specs.Words.{grantWord};
-ghost use Rattle.tidying.specs.Groups.{spread};
-ghost use Rattle.tidying.specs.Tidy.{exclusionGroup};
+ghost use Rattle.model_tidy.specs.Groups.{spread};
+ghost use Rattle.model_tidy.specs.Tidy.{exclusionGroup};
 ghost use Rattle.sets.specs.Words.{value, values};
-ghost use Rattle.rows.specs.Rows.{exclusionOf};
+ghost use Rattle.exclusions.specs.Rows.{exclusionOf};
 ghost use Rattle.tidy_words.specs.Buffers.{buffer, puts, Room};
 ghost use Rattle.tidy_words.specs.Tables.{pairWord, rowWords, tableWords, Table, exclusionWords, limitRow, limitWords, Limited};
 use crate::words::Cursor;
 use crate::words::put_set;
 use crate::words::put_word;
+use exclusions::exclusion_of;
+use exclusions::number_of;
 use model::Exclusion;
 use model::Role;
-use rows::exclusion_of;
-use rows::number_of;
 
 // ---- tables of role sets
 

@@ -4,7 +4,7 @@ use mathlib.Core.Path.{_≡_, sym, ap, subst}
 use Prim.Native.Nat.{ℕ, _<_}
 use borrow.Author.Needs.{needs}
 use Rattle.model.specs.declared.Head.{Head}
-use Rattle.calls.proofs.FirstSteps.{own-known}
+use Rattle.sessions.proofs.FirstSteps.{own-known}
 use Rattle.limits_left.proofs.roles_left.Statement.{statement}
 use Rattle.limits_left.proofs.roles_left.Tie as tie
 

@@ -3,7 +3,7 @@
 use Prim.Native.Nat.{_+_, _*_}
 use borrow.Author.Needs.{needs}
 use Rattle.model.specs.Line.{SESSIONS}
-use Rattle.chunks.proofs.Steps.{first-zeros}
+use Rattle.script_input.proofs.Steps.{first-zeros}
 use Rattle.nutrameza_script.proofs.main.Statement.{statement}
 use Rattle.nutrameza_script.proofs.main.Tie as tie
 

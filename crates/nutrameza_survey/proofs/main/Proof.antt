@@ -4,7 +4,7 @@ use borrow.Author.Needs.{needs}
 use mathlib.Core.Path.{refl}
 use Prim.Native.Nat.{_+_, _*_}
 use Rattle.model.specs.Line.{SESSIONS}
-use Rattle.chunks.proofs.Steps.{first-zeros}
+use Rattle.script_input.proofs.Steps.{first-zeros}
 use Rattle.nutrameza_survey.proofs.main.Statement.{statement}
 use Rattle.nutrameza_survey.proofs.main.Tie as tie
 

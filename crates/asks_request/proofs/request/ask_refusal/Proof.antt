@@ -2,7 +2,7 @@
 -- Assumes nothing.
 use borrow.Author.Needs.{needs}
 use Rattle.model.specs.Run.{lineOf}
-use Rattle.calls.proofs.FirstSteps.{passed}
+use Rattle.sessions.proofs.FirstSteps.{passed}
 use Rattle.asks_request.specs.Refusals.{askRefusal}
 use Rattle.asks_request.proofs.Requests.{or-first, or-second}
 use Rattle.asks_request.proofs.request.ask_refusal.Statement.{statement}

@@ -10,9 +10,9 @@ use Rattle.model.specs.Policy.{Policy, meaning}
 use Rattle.model.specs.Run.{returned}
 use Rattle.model.specs.Moves.{moveAnswer}
 use Rattle.model_laws.proofs.MetLaws.{meaning-antitone}
-use Rattle.rows.specs.Rows.{exclusionsIn}
-use Rattle.calls.specs.Calls.{Known}
-use Rattle.calls.proofs.FirstSteps.{held}
+use Rattle.exclusions.specs.Rows.{exclusionsIn}
+use Rattle.sessions.specs.Calls.{Known}
+use Rattle.sessions.proofs.FirstSteps.{held}
 use Rattle.moves.proofs.AllLines.{line-inside, line-whole, fault-at, answer-next, answer-stop, answer-end}
 use Rattle.moves.proofs.lines.first_fault.Statement.{statement}
 use Rattle.moves.proofs.lines.first_fault.Tie as tie

@@ -4,7 +4,7 @@ use borrow.Author.Needs.{needs}
 use Prim.Native.Nat.{_≤_}
 use native.Mathlib.Omega.{arith}
 use lib.ListN.{length}
-use Rattle.chunks.proofs.Steps.{counts}
+use Rattle.script_input.proofs.Steps.{counts}
 use Rattle.script_answers.proofs.Steps.{last-nothing, last-answered}
 use Rattle.script_answers.proofs.lines.answer_last.Statement.{statement}
 use Rattle.script_answers.proofs.lines.answer_last.Tie as tie

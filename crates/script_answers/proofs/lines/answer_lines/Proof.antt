@@ -6,8 +6,8 @@ use mathlib.Core.List.{List, _++_}
 use Prim.Native.Nat.{ℕ, _+_, _-_, _≤_, _<_}
 use native.Mathlib.Omega.{arith}
 use lib.ListN.{length, take, drop}
-use Rattle.chunks.specs.Kept.{linesFrom}
-use Rattle.chunks.proofs.Steps.{counts}
+use Rattle.script_input.specs.Kept.{linesFrom}
+use Rattle.script_input.proofs.Steps.{counts}
 use Rattle.script_answers.specs.Buffers.{outcome}
 use Rattle.script_answers.proofs.Steps.{is-answered}
 use Rattle.script_answers.proofs.lines.answer_lines.Statement.{statement}

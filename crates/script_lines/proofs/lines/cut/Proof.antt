@@ -5,7 +5,7 @@ use mathlib.Core.Path.{_≡_, refl}
 use Prim.Native.Nat.{ℕ, _≤_, _<_, _-_}
 use native.Mathlib.Omega.{arith}
 use lib.ListN.{length, drop}
-use Rattle.script.specs.Script.{words}
+use Rattle.model_script.specs.Script.{words}
 use Rattle.script_lines.specs.Cutting.{WordAt}
 use Rattle.script_lines.proofs.CutLaws.{cut-ends, cut-goes-on, cut-stored, more-words}
 use Rattle.script_lines.proofs.lines.cut.Statement.{statement}

@@ -4,7 +4,7 @@ use borrow.Author.Needs.{needs}
 use mathlib.Core.Path.{_≡_, _∙_}
 use Prim.Native.Nat.{_≤_, _-_}
 use lib.ListN.{length, drop}
-use Rattle.script.specs.Script.{words}
+use Rattle.model_script.specs.Script.{words}
 use Rattle.script_lines.specs.Cutting.{part}
 use Rattle.script_lines.proofs.WordLaws.{joined, search-begins, search-ends, search-goes-on, search-at-end}
 use Rattle.script_lines.proofs.lines.word_end.Statement.{statement}

@@ -5,7 +5,7 @@ use mathlib.Core.Path.{_≡_, _∙_}
 use Prim.Native.Nat.{_≤_, _-_}
 use lib.ListN.{length, drop}
 use Rattle.model.specs.Tests.{all}
-use Rattle.script.specs.Script.{isDigit}
+use Rattle.model_script.specs.Script.{isDigit}
 use Rattle.script_numerals.proofs.NumeralLaws.{digits-stop, digits-go-on, digits-end}
 use Rattle.script_numerals.proofs.numerals.all_digits.Statement.{statement}
 use Rattle.script_numerals.proofs.numerals.all_digits.Tie as tie

@@ -7,7 +7,7 @@ use Prim.Native.Nat.{_+_, _*_, _≤_}
 use lib.ListN.{length, take}
 use lib.Seq.{take-length}
 use Rattle.model.specs.Tests.{all}
-use Rattle.script.specs.Script.{isDigit, value}
+use Rattle.model_script.specs.Script.{isDigit, value}
 use Rattle.script_numerals.proofs.NumeralLaws.{value-none, before-pair}
 use Rattle.script_numerals.proofs.FillLaws.{Filling, fill-begins, fill-goes-on, fill-ends}
 use Rattle.script_numerals.proofs.numerals.bound_bytes.Statement.{statement}

@@ -4,7 +4,7 @@ use borrow.Author.Needs.{needs}
 use mathlib.Core.Path.{_∙_}
 use Prim.Native.Nat.{_-_}
 use native.Mathlib.Omega.{arith}
-use Rattle.script.specs.Script.{digit}
+use Rattle.model_script.specs.Script.{digit}
 use Rattle.script_numerals.proofs.NumeralLaws.{digit-of-all, pair-of-one, pair-of-two}
 use Rattle.script_numerals.proofs.numerals.last_pair.Statement.{statement}
 use Rattle.script_numerals.proofs.numerals.last_pair.Tie as tie

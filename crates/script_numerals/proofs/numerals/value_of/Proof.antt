@@ -5,7 +5,7 @@ use mathlib.Core.Path.{_≡_, _∙_}
 use Prim.Native.Nat.{_+_, _*_, _^_, _≤_, _-_}
 use native.Mathlib.Omega.{arith}
 use lib.ListN.{length, getD, drop}
-use Rattle.script.specs.Script.{digit, valueFrom, value}
+use Rattle.model_script.specs.Script.{digit, valueFrom, value}
 use Rattle.script_numerals.proofs.NumeralLaws.{digit≤16, grows, few, value-goes-on, value-end}
 use Rattle.script_numerals.proofs.numerals.value_of.Statement.{statement}
 use Rattle.script_numerals.proofs.numerals.value_of.Tie as tie

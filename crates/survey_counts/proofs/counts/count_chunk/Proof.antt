@@ -6,8 +6,8 @@ use mathlib.Core.List.{List, _++_}
 use Prim.Native.Nat.{ℕ, _+_, _-_, _≤_, _<_}
 use native.Mathlib.Omega.{arith}
 use lib.ListN.{length, take, drop}
-use Rattle.chunks.specs.Kept.{linesFrom}
-use Rattle.chunks.proofs.Steps.{counts as counts-are}
+use Rattle.script_input.specs.Kept.{linesFrom}
+use Rattle.script_input.proofs.Steps.{counts as counts-are}
 use Rattle.survey_counts.specs.Counting.{tally, Most}
 use Rattle.survey_counts.proofs.CountLaws.{is-counted, behind-chunk}
 use Rattle.survey_counts.proofs.counts.count_chunk.Statement.{statement}

@@ -2,7 +2,7 @@
 -- Assumes nothing.
 use borrow.Author.Needs.{needs}
 use native.Mathlib.Omega.{arith}
-use Rattle.chunks.proofs.Steps.{counts as counts-are}
+use Rattle.script_input.proofs.Steps.{counts as counts-are}
 use Rattle.survey_counts.proofs.CountLaws.{last-nothing, last-counted}
 use Rattle.survey_counts.proofs.counts.count_last.Statement.{statement}
 use Rattle.survey_counts.proofs.counts.count_last.Tie as tie

@@ -2,7 +2,7 @@
 -- Assumes nothing.
 use borrow.Author.Needs.{needs}
 use native.Mathlib.Omega.{arith}
-use Rattle.text.proofs.TextLaws.{puts-as}
+use Rattle.script_text.proofs.TextLaws.{puts-as}
 use Rattle.survey_counts.proofs.CountLines.{count-none, count-some}
 use Rattle.survey_counts.proofs.counts.put_count.Statement.{statement}
 use Rattle.survey_counts.proofs.counts.put_count.Tie as tie

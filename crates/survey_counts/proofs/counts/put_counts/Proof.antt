@@ -5,9 +5,9 @@ use mathlib.Core.Path.{_≡_}
 use Prim.Native.Nat.{_+_, _-_, _*_, _≤_}
 use native.Mathlib.Omega.{arith}
 use lib.ListN.{length, getD}
-use Rattle.text.specs.Writing.{Puts}
-use Rattle.text.proofs.TextLaws.{puts-joined, puts-as}
-use Rattle.survey.specs.Survey.{countLines}
+use Rattle.script_text.specs.Writing.{Puts}
+use Rattle.script_text.proofs.TextLaws.{puts-joined, puts-as}
+use Rattle.model_survey.specs.Survey.{countLines}
 use Rattle.survey_counts.proofs.CountLines.{counts-begin, counts-next, counts-all}
 use Rattle.survey_counts.proofs.counts.put_counts.Statement.{statement}
 use Rattle.survey_counts.proofs.counts.put_counts.Tie as tie

@@ -2,7 +2,7 @@
 -- Assumes nothing.
 use borrow.Author.Needs.{needs}
 use native.Mathlib.Omega.{arith}
-use Rattle.text.proofs.TextLaws.{puts-as}
+use Rattle.script_text.proofs.TextLaws.{puts-as}
 use Rattle.survey_exclusions.proofs.ExclusionLaws.{exclusion-is}
 use Rattle.survey_exclusions.proofs.exclusions.put_exclusion.Statement.{statement}
 use Rattle.survey_exclusions.proofs.exclusions.put_exclusion.Tie as tie

@@ -1,0 +1,13 @@
+-- `exclusions::number_of` meets its contract.
+-- Assumes nothing.
+use borrow.Author.Needs.{needs}
+use Rattle.model.specs.Policy.{kindNumber}
+use Rattle.exclusions.proofs.number_of.Statement.{statement}
+use Rattle.exclusions.proofs.number_of.Tie as tie
+
+pub number-of-spec : {M : Type 1} → statement M
+unfolding kindNumber
+number-of-spec =
+    tie.close
+    (tie.spec (λ c. search needs) (λ c. search needs) (λ c. search needs) (λ c. search needs) (λ c. search needs) (λ c. search needs)
+    (λ c. search needs) (λ c. search needs))

@@ -1,9 +1,0 @@
--- `image_calls::read_image` meets its contract.
--- Assumes nothing.
-use borrow.Author.Needs.{needs}
-use Rattle.image_calls.proofs.Images.{blank-fresh}
-use Rattle.image_calls.proofs.read_image.Statement.{statement}
-use Rattle.image_calls.proofs.read_image.Tie as tie
-
-pub read-image-spec : {M : Type 1} → statement M
-read-image-spec = tie.close (tie.spec (λ c κs. search (needs, blank-fresh)) (λ c. search needs))

@@ -1,0 +1,94 @@
+// Whether every line is sound, as an ask under a policy with limits goes by.
+ghost use mathlib.Core.Path.{_≡_};
+ghost use Prim.Native.Nat.{_*_, _≤_, _<_};
+ghost use lib.ListN.{length};
+ghost use Rattle.model.specs.Policy.{Policy, meaning};
+ghost use Rattle.model.specs.Line.{SESSIONS, lineSize, sound as soundBy};
+ghost use Rattle.model.specs.Run.{lineOf};
+ghost use Rattle.exclusions.specs.Rows.{exclusionsIn};
+ghost use Rattle.sessions.specs.Calls.{Known};
+ghost use Rattle.limits_lines.specs.Lines.{blamed as blamedFor, linesRefusal, othersRefusal};
+use ledger::bytes::LINE;
+use ledger::bytes::line_of;
+use ledger::sound::sound;
+use limits_left::has_limits;
+use sessions::first::roles_of;
+use sessions::given::Rules;
+
+// The line of user v is sound.
+pub fn line_sound(
+    ledger: &[u8],
+    rules: Rules,
+    authorized: &[u64; 64],
+    xs: &[[u64; 2]; 32],
+    v: usize,
+) -> bool
+    requires { ⌜ (rules .head .users ≤ 64) × (rules .count ≤ 32) × (length (now xs) ≡ 32) × (length (now ledger) ≡ lineSize SESSIONS * rules .head .users)
+        × (v < rules .head .users) ⌝ }
+    ensures { λ r. ⌜ ((p : Policy) → Known (rules .head) (now (authorized .entry)) (exclusionsIn (now (xs .entry)) (rules .count)) p
+        → r ≡ soundBy SESSIONS (meaning p v) (lineOf SESSIONS (now (ledger .entry)) v)) ⌝ }
+{
+    let l = line_of(ledger, v);
+    let own = roles_of(authorized, v);
+    sound(l, rules.head.roles, own, xs, rules.count)
+}
+
+// 11 for the line of user v; the extra is that user plus 1, where it is not the asker.
+fn blamed(user: u64, v: usize) -> u64
+    requires { ⌜ v < 64 ⌝ }
+    ensures { λ r. ⌜ r ≡ blamedFor user v ⌝ }
+{
+    if v as u64 == user {
+        return 11;
+    }
+    11 + 256 * (v as u64 + 1)
+}
+
+// The refusal for the lowest line that is not sound, else 0.
+fn lines_refusal(
+    ledger: &[u8],
+    rules: Rules,
+    authorized: &[u64; 64],
+    xs: &[[u64; 2]; 32],
+    user: u64,
+) -> u64
+    requires { ⌜ (rules .head .users ≤ 64) × (rules .count ≤ 32) × (length (now xs) ≡ 32) × (length (now ledger) ≡ lineSize SESSIONS * rules .head .users) ⌝ }
+    ensures { λ r. ⌜ ((p : Policy) → Known (rules .head) (now (authorized .entry)) (exclusionsIn (now (xs .entry)) (rules .count)) p
+        → r ≡ linesRefusal SESSIONS p (now (ledger .entry)) user 0 (rules .head .users)) ⌝ }
+{
+    let users = rules.head.users as usize;
+    for v in 0..users {
+        if !line_sound(ledger, rules, authorized, xs, v) {
+            return blamed(user, v);
+        }
+    }
+    0
+}
+
+// What a line that is not sound refuses an ask with, where some role has a limit; 0 where none has, and where 9 or 10
+// refuses the ask.
+pub fn refusal(
+    ledger: &[u8],
+    rules: Rules,
+    authorized: &[u64; 64],
+    limits: &[u64; 64],
+    xs: &[[u64; 2]; 32],
+    user: u64,
+) -> u64
+    requires { ⌜ (rules .head .users ≤ 64) × (rules .count ≤ 32) × (length (now xs) ≡ 32) × (length (now limits) ≡ 64) ⌝ }
+    ensures { λ r. ⌜ ((p : Policy) → Known (rules .head) (now (authorized .entry)) (exclusionsIn (now (xs .entry)) (rules .count)) p
+        → p .limits ≡ now (limits .entry) → r ≡ othersRefusal SESSIONS p (now (ledger .entry)) user) ⌝ }
+{
+    if !has_limits(limits) {
+        return 0;
+    }
+    let head = rules.head;
+    let users = head.users as usize;
+    if ledger.len() != LINE * users {
+        return 0;
+    }
+    if users as u64 <= user {
+        return 0;
+    }
+    lines_refusal(ledger, rules, authorized, xs, user)
+}

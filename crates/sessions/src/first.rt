@@ -1,0 +1,56 @@
+// The first steps of a call on a line, once its image is accepted: the refusals 9 to 11.
+ghost use mathlib.Core.Path.{_≡_};
+ghost use Prim.Native.Nat.{_^_, _≤_, _<_};
+ghost use lib.ListN.{length, getD};
+ghost use Rattle.model.specs.Line.{SESSIONS};
+ghost use Rattle.model.specs.Policy.{Policy};
+ghost use Rattle.exclusions.specs.Rows.{exclusionsIn};
+ghost use Rattle.sessions.specs.Calls.{Known, firstRefusal};
+use crate::given::Rules;
+use ledger::bytes::LINE;
+use ledger::bytes::line_of;
+use ledger::sound::sound;
+
+// A word, with what its type says of it, which nothing says of a word behind a reference.
+fn word(row: u64) -> u64
+    ensures { λ r. ⌜ (r ≡ row) × (r < 2 ^ 64) ⌝ }
+{
+    row
+}
+
+// The roles that user u may activate, by the table of them.
+pub fn roles_of(authorized: &[u64; 64], u: usize) -> u64
+    requires { ⌜ u < 64 ⌝ }
+    ensures { λ r. ⌜ (r ≡ getD (now (authorized .entry)) u 0) × (r < 2 ^ 64) ⌝ }
+{
+    word(authorized[u])
+}
+
+// 9 for a ledger that does not fit, 10 for a user without a line, 11 for a line that is not sound, else 0.
+pub fn first_refusal(
+    ledger: &[u8],
+    rules: Rules,
+    authorized: &[u64; 64],
+    xs: &[[u64; 2]; 32],
+    user: u64,
+) -> u64
+    requires { ⌜ (rules .head .users ≤ 64) × (rules .count ≤ 32) × (length (now xs) ≡ 32) ⌝ }
+    ensures { λ r. ⌜ ((p : Policy) → Known (rules .head) (now (authorized .entry)) (exclusionsIn (now (xs .entry)) (rules .count)) p
+        → r ≡ firstRefusal SESSIONS p (now (ledger .entry)) user) ⌝ }
+{
+    let head = rules.head;
+    let users = head.users as usize;
+    if ledger.len() != LINE * users {
+        return 9;
+    }
+    if users as u64 <= user {
+        return 10;
+    }
+    let u = user as usize;
+    let l = line_of(ledger, u);
+    let own = roles_of(authorized, u);
+    if !sound(l, head.roles, own, xs, rules.count) {
+        return 11;
+    }
+    0
+}

@@ -1,0 +1,58 @@
+// Explaining a permission of a session under an accepted policy.
+ghost use mathlib.Core.Path.{_≡_};
+ghost use Prim.Native.Nat.{_≤_};
+ghost use lib.ListN.{length};
+ghost use Rattle.model.specs.Line.{SESSIONS};
+ghost use Rattle.model.specs.Policy.{Policy, belowTable};
+ghost use Rattle.model.specs.Run.{stepOn, explainBy, returned};
+ghost use Rattle.sets.specs.Words.{values};
+ghost use Rattle.exclusions.specs.Rows.{exclusionsIn};
+ghost use Rattle.sessions.specs.Calls.{Known};
+use ledger::bytes::line_of;
+use ledger_change::is_open;
+use model::Permission;
+use model::SESSIONS;
+use sessions::first::first_refusal;
+use sessions::given::Rules;
+use sessions::given::Window;
+use tables_rows::explain::explain;
+
+// The lowest active role of the user's session that carries the permission, with its granting role.
+pub fn explain_session(
+    ledger: &[u8],
+    rules: Rules,
+    authorized: &[u64; 64],
+    granted: &[[u64; 4]; 64],
+    below: &[u64; 64],
+    xs: &[[u64; 2]; 32],
+    window: Window,
+    permission: u64,
+) -> u64
+    requires { ⌜ (rules .head .users ≤ 64) × (rules .head .permissions ≤ 256) × (rules .count ≤ 32) × (length (now xs) ≡ 32) ⌝ }
+    ensures { λ r. ⌜ ((p : Policy) → Known (rules .head) (now (authorized .entry)) (exclusionsIn (now (xs .entry)) (rules .count)) p
+        → values (now (granted .entry)) ≡ p .granted
+        → now (below .entry) ≡ belowTable p
+        → r ≡ returned (stepOn SESSIONS p (now (ledger .entry)) (explainBy (window .user) (window .session) permission) .reply)) ⌝ }
+{
+    let user = window.user;
+    let session = window.session;
+    let n = first_refusal(ledger, rules, authorized, xs, user);
+    if n != 0 {
+        return n;
+    }
+    if SESSIONS as u64 <= session {
+        return 12;
+    }
+    let u = user as usize;
+    let k = session as usize;
+    let l = line_of(ledger, u);
+    if !is_open(l, k) {
+        return 13;
+    }
+    if rules.head.permissions as u64 <= permission {
+        return 16;
+    }
+    let shown = l.sessions[k];
+    let active = shown.active;
+    explain(granted, below, active, Permission(permission as u8))
+}

@@ -1,0 +1,61 @@
+// Showing a session under an accepted policy.
+ghost use mathlib.Core.Path.{_≡_};
+ghost use Prim.Native.Nat.{_≤_};
+ghost use lib.ListN.{length};
+ghost use Rattle.model.specs.Line.{SESSIONS};
+ghost use Rattle.model.specs.Policy.{Policy, belowTable};
+ghost use Rattle.model.specs.Run.{stepOn, showBy};
+ghost use Rattle.sets.specs.Words.{values};
+ghost use Rattle.exclusions.specs.Rows.{exclusionsIn};
+ghost use Rattle.sessions.specs.Calls.{Known, Shows};
+use ledger::bytes::line_of;
+use ledger_change::is_open;
+use model::SESSIONS;
+use sessions::answer::fill;
+use sessions::first::first_refusal;
+use sessions::given::Rules;
+use sessions::given::Window;
+use tables_rows::carried::carried_by;
+
+// The active roles of the user's session and the permissions that they carry fill the answer buffer.
+pub fn show_session(
+    ledger: &[u8],
+    rules: Rules,
+    authorized: &[u64; 64],
+    granted: &[[u64; 4]; 64],
+    below: &[u64; 64],
+    xs: &[[u64; 2]; 32],
+    window: Window,
+    answer: &mut [u8],
+) -> u64
+    requires { ⌜ (rules .head .users ≤ 64) × (rules .count ≤ 32) × (length (now xs) ≡ 32) ⌝ }
+    ensures { λ r. ⌜ ((p : Policy) → Known (rules .head) (now (authorized .entry)) (exclusionsIn (now (xs .entry)) (rules .count)) p
+        → values (now (granted .entry)) ≡ p .granted
+        → now (below .entry) ≡ belowTable p
+        → Shows (stepOn SESSIONS p (now (ledger .entry)) (showBy (window .user) (window .session) (length (now (answer .entry))))) r (now (answer .entry))
+        (now (answer .exit))) ⌝ }
+{
+    let user = window.user;
+    let session = window.session;
+    let n = first_refusal(ledger, rules, authorized, xs, user);
+    if n != 0 {
+        return n;
+    }
+    if SESSIONS as u64 <= session {
+        return 12;
+    }
+    let u = user as usize;
+    let k = session as usize;
+    let l = line_of(ledger, u);
+    if !is_open(l, k) {
+        return 13;
+    }
+    if answer.len() != 40 {
+        return 19;
+    }
+    let shown = l.sessions[k];
+    let active = shown.active;
+    let permissions = carried_by(granted, below, active);
+    fill(answer, active, permissions);
+    0
+}
