@@ -32,7 +32,8 @@ prefix := $(abspath $(PREFIX))
 to := $(DESTDIR)$(prefix)
 sources := crates.txt $(shell find crates -name '*.rt' -o -name '*.antt')
 documents := $(wildcard docs/*.md) CHANGELOG.md
-calls := $(shell sed -nE 's/^uint64_t (nutrameza_[a-z_]+)\(.*/\1/p' include/nutrameza.h)
+open := (
+calls := $(shell sed -nE 's/^uint64_t (nutrameza_[a-z_]+)[$(open)].*/\1/p' include/nutrameza.h)
 
 # An archive from elsewhere comes without the means to make programs.
 programs := $(program) $(surveyor)
@@ -64,7 +65,7 @@ $(shared): $(library) include/nutrameza.h shared/version.c VERSION always
 	@mkdir -p $(@D)
 	@{ echo 'NUTRAMEZA_$(MAJOR) {'; echo 'global:'; \
 	  sed -nE 's/^uint(64|32)_t (nutrameza_[a-z_]+)\(.*/  \2;/p' include/nutrameza.h; echo 'local: *;'; echo '};'; } > target/shared/exports
-	@$(CC) -shared -fPIC -O2 -s -Iinclude shared/version.c -Wl,--whole-archive $(library) -Wl,--no-whole-archive \
+	@$(CC) -shared -fPIC -nostartfiles -O2 -s -Iinclude shared/version.c -Wl,--whole-archive $(library) -Wl,--no-whole-archive \
 	  -Wl,-soname,$(soname) -Wl,--version-script=target/shared/exports -Wl,--no-undefined -Wl,-z,relro -Wl,-z,now -o $@.part
 	@cmp -s $@.part $@ && rm $@.part || mv $@.part $@
 

@@ -79,7 +79,7 @@ staged() {
 
 same_flags() {
   [ "$(read_pc nutrameza --cflags --libs)" = "-I$prefix/include -L$prefix/lib -lnutrameza" ] &&
-    [ "$(read_pc nutrameza-static --cflags --libs)" = "-I$prefix/include $prefix/lib/libnutrameza.a" ] &&
+    [ "$(read_pc nutrameza-static --cflags --libs)" = "-I$prefix/include -L$prefix/lib -l:libnutrameza.a" ] &&
     [ "$(flags --cflags --libs | xargs)" = "$(read_pc nutrameza-static --cflags --libs)" ] &&
     [ "$(flags --modversion)" = "$(cat "$root/VERSION")" ] && [ "$(read_pc nutrameza --modversion)" = "$(cat "$root/VERSION")" ]
 }
