@@ -144,7 +144,7 @@ test:
 	bash .ci/run
 
 fuzz: $(library)
-	NUTRAMEZA_LIB='$(abspath $(NUTRAMEZA_LIB))' bash tests/fuzz/run $(FUZZ_SECONDS)
+	NUTRAMEZA_LIB='$(abspath $(NUTRAMEZA_LIB))' bash tests/fuzz/run $(FUZZ_SECONDS) target/fuzz/corpus
 
 bench: $(library) $(program) $(surveyor)
 	NUTRAMEZA_LIB='$(abspath $(NUTRAMEZA_LIB))' NUTRAMEZA_PROGRAM='$(abspath $(program))' NUTRAMEZA_SURVEY='$(abspath $(surveyor))' cargo run --release --offline --manifest-path bench/Cargo.toml --features programs

@@ -149,7 +149,7 @@ under_valgrind() {
 
 # first_under HOW: the first host, sanitized or under valgrind, in a folder of its own
 first_under() {
-  mkdir -p "$work/$1" && "$root/tools/policy" build "$root/examples/ward.policy" -o "$work/$1/policy.img" && "$1" "$root/examples/first.c" "$work/$1"
+  mkdir -p "$work/site_$1" && "$root/tools/policy" build "$root/examples/ward.policy" -o "$work/site_$1/policy.img" && "$1" "$root/examples/first.c" "$work/site_$1"
 }
 
 # A page for each call and the overview, without a word from groff, with the declaration of the header.
