@@ -1,20 +1,20 @@
 # The session kit for those who build and install it.
 #
-#   make lib                  proves the kit and writes target/staticlib/libnutrameza.a
-#   make install PREFIX=DIR   the archive, the shared library, header, pkg-config and CMake files, man pages, programs, nutrameza-policy,
-#                             documents and examples (DESTDIR is put before PREFIX); what is missing or older than its sources is made
-#   make uninstall PREFIX=DIR takes these files away again
-#   make man                  the man pages, of docs/REFERENCE.md, into target/man
-#   make dist                 target/dist: the commit's sources, and what it installs, as tarballs that each build of it gives alike
-#   make ward                 runs the ward example: the script beside what the program answers
-#   make survey               surveys the ward example: what its exclusion allows, and how often each number answers the script
-#   make host                 runs the ward example as a C host of the library
-#   make test                 the gate: every proof and every test
-#   make fuzz                 the fuzzer beside the separate solver, an hour long (FUZZ_SECONDS), findings in target/fuzz
-#   make bench                the kit beside plain Rust, as ratios; it fails where the worst is over 1.25 (NUTRAMEZA_BAR)
+#   make lib                   proves the kit and writes target/staticlib/libnutrameza.a
+#   make install PREFIX=DIR    libraries, header, pkg-config and CMake files, man pages, programs, nutrameza-policy,
+#                              documents, examples (DESTDIR is put before PREFIX); makes what is missing or stale
+#   make uninstall PREFIX=DIR  takes these files away again
+#   make man                   the man pages, of docs/REFERENCE.md, into target/man
+#   make dist                  target/dist: the commit's sources, and what it installs, as tarballs; alike in each build
+#   make ward                  runs the ward example: the script beside what the program answers
+#   make survey                surveys the ward example: what its exclusion allows, and how its script is answered
+#   make host                  runs the ward example as a C host of the library
+#   make test                  the gate: every proof and every test
+#   make fuzz                  the fuzzer beside the separate solver, an hour long (FUZZ_SECONDS)
+#   make bench                 the kit beside plain Rust, as ratios; fails where the worst is over 1.25 (NUTRAMEZA_BAR)
 #
-# NUTRAMEZA_LIB names another folder for the archive: then it is taken as it is there, and so are the programs. Of the prover's output a
-# line for each crate is shown, all of it where something fails; target/make has it.
+# NUTRAMEZA_LIB names another folder for the archive: then it is taken as it is there, and so are the programs. Of the
+# prover's output a line for each crate is shown, all of it where something fails; target/make has it.
 
 VERSION := $(shell cat VERSION)
 MAJOR := $(firstword $(subst ., ,$(VERSION)))
@@ -60,7 +60,8 @@ target/staticlib/libnutrameza.a: $(sources)
 	@tools/quiet target/make/lib $(RT) staticlib nutrameza
 	@touch $@
 
-# The archive's members whole, the calls of the header exported and nothing else; linked anew each time, and kept where it is the same.
+# The archive's members whole, the calls of the header exported and nothing else; linked anew each time, and kept where
+# it is the same.
 $(shared): $(library) include/nutrameza.h shared/version.c VERSION always
 	@mkdir -p $(@D)
 	@{ echo 'NUTRAMEZA_$(MAJOR) {'; echo 'global:'; \

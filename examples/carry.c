@@ -4,9 +4,9 @@
  *     ./carry over FOLDER OLD NEW
  *     ./carry back FOLDER OLD NEW
  *
- * The policy, policy.img, and the ledgers OLD and NEW are files of FOLDER; OLD stays as it is. No window lives while it runs, so it
- * closes those above 3 itself; a host that is up asks its users first. The exit status is 0 if NEW is written, 1 if the move is
- * refused or NEW can't be written, 2 for wrong usage.
+ * The policy, policy.img, and the ledgers OLD and NEW are files of FOLDER; OLD stays as it is. No window lives while it
+ * runs, so it closes those above 3 itself; a host that is up asks its users first. The exit status is 0 if NEW is
+ * written, 1 if the move is refused or NEW can't be written, 2 for wrong usage.
  */
 #define _POSIX_C_SOURCE 200809L
 #include <nutrameza.h>

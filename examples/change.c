@@ -3,9 +3,10 @@
  *     cc -std=c99 -Wall -Wextra -Werror -Iinclude examples/change.c target/staticlib/libnutrameza.a -o change
  *     ./change OLD NEW LEDGER [close]
  *
- * OLD and NEW are images, LEDGER is a ledger under OLD. Where NEW stops nobody, the ledger is grown by a zero line for each user added
- * and written back, and the site puts NEW in place. Else the users whom it stops are named and nothing is changed; with 'close' their
- * windows are closed under OLD first. The exit status is 0 if NEW may be put in place, 1 if it stops somebody, 2 for anything else.
+ * OLD and NEW are images, LEDGER is a ledger under OLD. Where NEW stops nobody, the ledger is grown by a zero line for
+ * each user added and written back, and the site puts NEW in place. Else the users whom it stops are named and nothing
+ * is changed; with 'close' their windows are closed under OLD first. The exit status is 0 if NEW may be put in place, 1
+ * if it stops somebody, 2 for anything else.
  */
 #define _POSIX_C_SOURCE 200809L
 #include "nutrameza.h"

@@ -3,8 +3,8 @@
  *     clauses IMAGE LEDGER USER SESSION LOWER UPPER PERMISSION_AIM ROLE_AIM
  *
  * IMAGE is a file, LEDGER too, or the word 'new' for a ledger of zeros in which the user has just opened session 0. The
- * bounds are hex numbers whose bit p is permission p, the other numbers are decimal. A refusal is told on standard error,
- * and the exit status is then 1.
+ * bounds are hex numbers whose bit p is permission p, the other numbers are decimal. A refusal is told on standard
+ * error, and the exit status is then 1.
  */
 #include <nutrameza.h>
 
@@ -43,7 +43,7 @@ static size_t read_bound(const char *digits, uint8_t *set)
     return NUTRAMEZA_SET_BYTES;
 }
 
-/* The bytes of a ledger of zeros in which a user opens a session. Where the open is refused, so is the clause text, and tells why. */
+/* A ledger of zeros in which a user opens a session: its bytes. Where the open is refused, the clause text is too. */
 static size_t new_ledger(size_t image_len, uint64_t user)
 {
     size_t ledger_len = nutrameza_ledger_bytes(image, image_len);

@@ -3,9 +3,9 @@
 #
 #     examples/clauses.sh [LOWER UPPER PERMISSION_AIM ROLE_AIM]
 #
-# Bounds are hex numbers whose bit p is permission p; without words the ask is that of docs/CLAUSES.md. The text stays in
-# target/ward/ask.wcnf. The program is the one that PMAXSAT names, else the first that is installed of those below; it gets
-# the text's file as its last word. Without one the text is all there is.
+# Bounds are hex numbers whose bit p is permission p; without words the ask is that of docs/CLAUSES.md. The text stays
+# in target/ward/ask.wcnf. The program is the one that PMAXSAT names, else the first that is installed of those below;
+# it gets the text's file as its last word. Without one the text is all there is.
 set -eu
 cd "$(dirname "${BASH_SOURCE[0]}")/.."
 lib=${NUTRAMEZA_LIB:-target/staticlib}
@@ -33,7 +33,8 @@ if grep -q '^s UNSAT' target/ward/solved; then
   exit 0
 fi
 
-# The last line or lines 'v ..': literals, or a row with a digit for each variable. Roles are the first R variables; R is in the head.
+# The last line or lines 'v ..': literals, or a row with a digit for each variable. Roles are the first R variables; R
+# is in the head.
 roles=$(($(od -An -tu4 -N4 target/ward/policy.img) >> 14 & 127))
 awk -v roles="$roles" '
   /^o /  { weight = $2; given = 0 }

@@ -1,10 +1,11 @@
 /* A first host: two windows of one doctor under the ward's policy (docs/START.md).
  *
  *     mkdir site && tools/policy build examples/ward.policy -o site/policy.img
- *     cc $(pkg-config --cflags nutrameza-static) examples/first.c $(pkg-config --libs nutrameza-static) -o first && ./first site
+ *     cc $(pkg-config --cflags nutrameza-static) examples/first.c $(pkg-config --libs nutrameza-static) -o first &&
+ *     ./first site
  *
- * The folder that it is given has the policy, policy.img, and keeps the ledger. The exit status is 1 where the image is missing or
- * refused, or the ledger is not one of it.
+ * The folder that it is given has the policy, policy.img, and keeps the ledger. The exit status is 1 where the image is
+ * missing or refused, or the ledger is not one of it.
  */
 #define _POSIX_C_SOURCE 200809L
 #include <errno.h>

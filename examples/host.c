@@ -1,5 +1,5 @@
-/* A small clinic against include/nutrameza.h: the windows of one doctor under the ward's policy (01, image A), its ledger carried over
- * from four windows and back, its policy compared with another and reviewed.
+/* A small clinic against include/nutrameza.h: the windows of one doctor under the ward's policy (01, image A), its
+ * ledger carried over from four windows and back, its policy compared with another and reviewed.
  *
  *     cc -std=c99 -Wall -Wextra -Werror -Iinclude examples/host.c target/staticlib/libnutrameza.a -o host && ./host
  *
@@ -206,7 +206,8 @@ static void loading(void)
     answered("check no policy at all", nutrameza_check(NULL, 0), NUTRAMEZA_REFUSED_LENGTH, 0);
 }
 
-/* The policy as another editor saved it, entries in the other order and one of them twice: other bytes, and the same tidy image. */
+/* The policy as another editor saved it, entries in the other order and one of them twice: other bytes, and the same
+ * tidy image. */
 static void comparing(void)
 {
     uint8_t saved[sizeof image + 4], tidy[sizeof image], first[sizeof image];

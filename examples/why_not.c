@@ -1,8 +1,9 @@
-/* Why a button does not work, told to whoever pressed it: the obstacle of a refused ask, by each of its kinds, with the window that is
- * in the way where one is. The clinic is that of examples/clinic.policy.
+/* Why a button does not work, told to whoever pressed it: the obstacle of a refused ask, by each of its kinds, with the
+ * window that is in the way where one is. The clinic is that of examples/clinic.policy.
  *
  *     tools/policy build examples/clinic.policy -o policy.img
- *     cc -std=c99 -Wall -Wextra -Werror -Iinclude examples/why_not.c target/staticlib/libnutrameza.a -o why_not && ./why_not policy.img
+ *     cc -std=c99 -Wall -Wextra -Werror -Iinclude examples/why_not.c target/staticlib/libnutrameza.a -o why_not
+ *     ./why_not policy.img
  *
  * Prints each button with what comes of it; the exit status is 1 where the image can't be read or is refused.
  */

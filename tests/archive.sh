@@ -1,12 +1,12 @@
 #!/usr/bin/env bash
-# The archive that a record maker links, as an auditor looks at it: what it needs, what it exports, that it keeps nothing between
-# calls, and that a build in another folder gives the same bytes. It needs target/staticlib/libnutrameza.a as 'rt staticlib nutrameza'
-# left it.
+# The archive that a record maker links, as an auditor looks at it: what it needs, what it exports, that it keeps
+# nothing between calls, and that a build in another folder gives the same bytes. It needs
+# target/staticlib/libnutrameza.a as 'rt staticlib nutrameza' left it.
 #
-# The second folder has a copy of the crates and, not to prove them all again, of the libraries that the first build proved (rt takes
-# one only where it was proved from the same sources). There the top crate is proved anew and the whole archive is compiled anew; and
-# every crate's sources are lowered anew in both folders, and give the same code. What is not made again are the proofs of the lower
-# crates.
+# The second folder has a copy of the crates and, not to prove them all again, of the libraries that the first build
+# proved (rt takes one only where it was proved from the same sources). There the top crate is proved anew and the whole
+# archive is compiled anew; and every crate's sources are lowered anew in both folders, and give the same code. What is
+# not made again are the proofs of the lower crates.
 . "$(dirname "${BASH_SOURCE[0]}")/it.sh"
 export LC_ALL=C
 archive=$root/target/staticlib/libnutrameza.a

@@ -1,13 +1,15 @@
 #!/usr/bin/env bash
-# The kit as a record maker meets it: the header in three languages, an install into a fresh prefix, hosts that are built from
-# pkg-config alone and outside the repository. It needs libnutrameza.a (target/staticlib, or the folder that NUTRAMEZA_LIB names) and
-# target/bin/nutrameza_survey; without them the tests fail. The last line is 'N passed, M failed'.
+# The kit as a record maker meets it: the header in three languages, an install into a fresh prefix, hosts that are
+# built from pkg-config alone and outside the repository. It needs libnutrameza.a (target/staticlib, or the folder that
+# NUTRAMEZA_LIB names) and target/bin/nutrameza_survey; without them the tests fail. The last line is 'N passed, M
+# failed'.
 . "$(dirname "${BASH_SOURCE[0]}")/it.sh"
 lib=$(cd "$root" && realpath -m "${NUTRAMEZA_LIB:-target/staticlib}")
 prefix=$work/prefix
 strict='-O2 -Wall -Wextra -Werror -pedantic'
 
-# flags OPTION..: what pkg-config says of the installed kit, its archive; where the tool is missing, the .pc file is read here
+# flags OPTION..: what pkg-config says of the installed kit, its archive; where the tool is missing, the .pc file is
+# read here
 flags() {
   if command -v pkg-config > /dev/null; then
     PKG_CONFIG_LIBDIR=$prefix/lib/pkgconfig PKG_CONFIG_PATH= pkg-config "$@" nutrameza-static
@@ -103,7 +105,8 @@ shown() {
     python3 -c 'import sys; sys.exit(open(sys.argv[1]).read() not in open(sys.argv[2]).read())' part "$4"
 }
 
-# The commands of the first page, by what pkg-config says; what the page shows of the program and of the policy is theirs.
+# The commands of the first page, by what pkg-config says; what the page shows of the program and of the policy is
+# theirs.
 first_host() {
   local cflags libs
   cflags=$(flags --cflags) && libs=$(flags --libs) && mkdir -p "$work/first" && cd "$work/first" && ln -s "$root/tools" "$root/examples" . &&
@@ -112,6 +115,25 @@ first_host() {
     diff said page &&
     shown START.md 'c first' 1 examples/first.c && shown START.md 'c first' 2 examples/first.c &&
     shown START.md 'text policy' 1 examples/ward.policy
+}
+
+# Every piece of C that a page shows under a name stands in the example of that name, and there are as many as now.
+shown_everywhere() {
+  local page block count=0
+  cd "$root/docs" && for page in *.md; do
+    for block in $(sed -nE 's/^```c ([a-z_]+)$/\1/p' "$page" | sort -u); do
+      for number in $(seq "$(grep -c "^\`\`\`c $block\$" "$page")"); do
+        (cd "$work" && shown "$page" "c $block" "$number" "$root/examples/$block.c") || { echo "$page: $block $number"; return 1; }
+        count=$((count + 1))
+      done
+    done
+  done && [ "$count" -ge 7 ]
+}
+
+# The pieces of the reference, run.
+pieces() {
+  host pieces "$root/examples/pieces.c" && ./host > said && head -3 said | diff - <(printf '%s\n' '32 bytes, tidy 28' \
+    'Head may prescribe: 1; roles that may: 3' 'through Head, granted to Doctor') && sed -n 4p said | grep -q '^p wcnf '
 }
 
 # After it the ledger has the second window open and both roles in the user's history.
@@ -126,7 +148,8 @@ first_strict() {
     diff c.out cxx.out && sed '1,/^\$ .*\/first site$/d' "$work/first/page" | diff - c.out
 }
 
-# Started again it takes up the ledger and closes the window that was left open; with a ledger of another length it says so and leaves it.
+# Started again it takes up the ledger and closes the window that was left open; with a ledger of another length it says
+# so and leaves it.
 first_again() {
   cd "$work/first_c" && ./host > again.out && diff <(echo 'close: window 1' && cat c.out) again.out &&
     head -c 143 ledger > cut && cp cut ledger && ! ./host > cut.out && grep -q '^ledger: ' cut.out && cmp cut ledger
@@ -137,7 +160,8 @@ first_without_image() {
   mkdir -p "$work/bare" && cd "$work/bare" && ! "$work/first/first" > said && grep -qx 'policy: refused, 1 length (0)' said
 }
 
-# The ledger's file and then its folder are on disk before the program says that roles go live, and no name is put in place elsewhere.
+# The ledger's file and then its folder are on disk before the program says that roles go live, and no name is put in
+# place elsewhere.
 first_synced() {
   command -v strace > /dev/null || { echo 'strace is not installed'; return 0; }
   mkdir -p "$work/traced" && cd "$work/traced" && cp "$work/first/site/policy.img" . &&
@@ -199,7 +223,8 @@ carrying() {
     replayed < "$work/carry.out" > said && diff said "$work/carry.out"
 }
 
-# The ledger over and back is the old one byte for byte, and so is the busy one once its window 4 is closed; the files carried stay.
+# The ledger over and back is the old one byte for byte, and so is the busy one once its window 4 is closed; the files
+# carried stay.
 carried() {
   cd "$work/carry/site" && numbers 2 3 0 0 2 2 0 0 0 0 | cmp - ledger.4 && cmp ledger.4 ledger.back && cmp ledger.4 busy.4 &&
     numbers 2 3 0 0 2 2 0 0 0 0 0 0 0 0 0 0 0 0 | cmp - ledger.8 && numbers 18 3 0 0 2 2 0 0 0 0 0 0 0 0 0 0 0 0 | cmp - busy.8
@@ -266,7 +291,8 @@ small_stack() {
   host stack "$root/tests/host/stack.c" -pthread && timeout 300 ./host
 }
 
-# An ask as clauses, solved by a program that tries every assignment: Doctor, with four permissions of weight 3 and itself.
+# An ask as clauses, solved by a program that tries every assignment: Doctor, with four permissions of weight 3 and
+# itself.
 clauses_solved() {
   local form
   for form in '' --row; do
@@ -300,6 +326,8 @@ it 'make install puts each program there exactly if it is built' programs_instal
 it 'make install with DESTDIR keeps the prefix in nutrameza.pc' staged
 it 'pkg-config says where the header and the library are' same_flags
 it 'the commands of docs/START.md build a host from pkg-config alone and print what is written there' first_host
+it 'the C that the pages show is that of the examples' shown_everywhere
+it 'the pieces of docs/REFERENCE.md do what is written there' pieces
 it 'the first host leaves the ledger on disk' first_ledger
 it 'the first host is strict C99 and a C++ program' first_strict
 it 'the first host takes up its ledger, and refuses one that is cut' first_again

@@ -1,12 +1,13 @@
-# What the shell tests share, to be sourced: the repository's root, a folder of their own in $work that goes with the script, named
-# tests with their counts, and the last line 'N passed, M failed'.
+# What the shell tests share, to be sourced: the repository's root, a folder of their own in $work that goes with the
+# script, named tests with their counts, and the last line 'N passed, M failed'.
 set -u
 root=$(cd "$(dirname "${BASH_SOURCE[0]}")/.." && pwd) && work=$(mktemp -d) || { echo '0 passed, 1 failed'; exit 1; }
 trap 'rm -rf "$work"' EXIT
 passed=0
 failed=0
 
-# it NAME COMMAND..: a test, which passes where the command's exit status is 0; it runs by itself, so its 'cd' ends with it
+# it NAME COMMAND..: a test, which passes where the command's exit status is 0; it runs by itself, so its 'cd' ends with
+# it
 it() {
   local name=$1
   shift

@@ -1,7 +1,8 @@
 #!/usr/bin/env bash
-# The kit as a package: what an install has and an uninstall leaves, programs built against it in every way that is offered, the shared
-# library as an auditor looks at it, man pages, tarballs, and every call under sanitizers and valgrind. It needs what tests/host.sh
-# needs. A tool that is missing is named in one line, and what it is for is left out.
+# The kit as a package: what an install has and an uninstall leaves, programs built against it in every way that is
+# offered, the shared library as an auditor looks at it, man pages, tarballs, and every call under sanitizers and
+# valgrind. It needs what tests/host.sh needs. A tool that is missing is named in one line, and what it is for is left
+# out.
 . "$(dirname "${BASH_SOURCE[0]}")/it.sh"
 export LC_ALL=C
 lib=$(cd "$root" && realpath -m "${NUTRAMEZA_LIB:-target/staticlib}")

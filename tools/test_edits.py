@@ -1,5 +1,6 @@
 #!/usr/bin/env python3
-"""tools/edits: which refusals of a wrong version it lets pass, on logs as the prover writes them. The last line is 'N passed, M failed'."""
+"""tools/edits: which refusals of a wrong version it lets pass, on logs as the prover writes them. The last line is 'N
+passed, M failed'."""
 import importlib.machinery
 import importlib.util
 import os
@@ -14,7 +15,8 @@ loader.exec_module(edits)
 EDIT = "# A wrong version.\nexpect: specs/Facts.antt sum-bits\nfile: specs/Image.antt\nold: 28\nnew: 27\n"
 FACT = "specs/Facts.antt:9:18: error: `sum-bits`: expected type `lengthRight 8 ≡ false`, but this has type `..`"
 
-# what a case is called, the edit, the log's lines behind the crate's folder (None: no log), words of the complaint ('': none)
+# what a case is called, the edit, the log's lines behind the crate's folder (None: no log), words of the complaint ('':
+# none)
 CASES = [
     ("the fact that is named", EDIT, [FACT], ""),
     ("notes before the error", EDIT, ["specs/Facts.antt:1:1: note: large solution", FACT], ""),

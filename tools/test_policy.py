@@ -29,8 +29,8 @@ LOADER.exec_module(policy)
 A = [0x102080A0, 0x20000000, 0x20010000, 0x30000000, 0x30004000, 0x30008000, 0x3000C000, 0x30404000, 0x30410000, 0x54102000,
      0x60000000, 0x60400000, 0xFB0B9F60]
 
-# An image with two exclusions and two limits, and the same with its entries moved about, the members of each exclusion too: `plain` and
-# `turned` of crates/tidying/specs/OrderCases.antt.
+# An image with two exclusions and two limits, and the same with its entries moved about, the members of each exclusion
+# too: `plain` and `turned` of crates/tidying/specs/OrderCases.antt.
 PLAIN = [0x10210040, 0x20000000, 0x20010000, 0x20020000, 0x20030000, 0x30000000, 0x30804000, 0x54102000, 0x60000000, 0x60400000,
          0x50102000, 0x60800000, 0x60C00000, 0x70004000, 0x70006000, 0xF9B7DFC0]
 TURNED = [0x10210040, 0x70006000, 0x20000000, 0x20010000, 0x20020000, 0x20030000, 0x30000000, 0x30804000, 0x50102000, 0x60C00000,

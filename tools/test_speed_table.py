@@ -1,5 +1,6 @@
 #!/usr/bin/env python3
-"""tools/speed_table: the lines it makes of an output, and the outputs it refuses. The last line is 'N passed, M failed'."""
+"""tools/speed_table: the lines it makes of an output, and the outputs it refuses. The last line is 'N passed, M
+failed'."""
 import importlib.machinery
 import importlib.util
 import os

@@ -1,5 +1,5 @@
-//! Obstacles: on image A and on 4,096 words, in the families of 003's tables, and of an ask that the last of 32 exclusions
-//! hinders; beside plain Rust, and beside the kit's own short ask with the same bounds.
+//! Obstacles: on image A and on 4,096 words, in the families of 003's tables, and of an ask that the last of 32
+//! exclusions hinders; beside plain Rust, and beside the kit's own short ask with the same bounds.
 
 use crate::families::{self, Asked};
 use crate::images;
@@ -54,7 +54,8 @@ fn short_ask(asked: &Asked, line: &[u8], ledger: &mut [u8], answer: &mut [u8; 40
 }
 
 impl Row {
-    /// Both ways tell the same of each ask, and a short ask is told 20 exactly if something is told: how many are hindered.
+    /// Both ways tell the same of each ask, and a short ask is told 20 exactly if something is told: how many are
+    /// hindered.
     fn agreed(&self) -> usize {
         let hindered = |asked: &Asked| {
             let (mut first, mut second) = ([7; 16], [7; 16]);
@@ -75,8 +76,8 @@ impl Row {
         }
     }
 
-    /// Times and prints the row: how many times as long as a short ask an obstacle takes, the least of some measures where that is
-    /// too long.
+    /// Times and prints the row: how many times as long as a short ask an obstacle takes, the least of some measures
+    /// where that is too long.
     fn time(&self, report: &mut Report) -> f64 {
         let (count, mut ledger, mut answer) = (self.asks.len(), self.ledger.clone(), [0; 40]);
         let name = format!("{}, {} of {count} hindered", self.name, self.agreed());

@@ -11,8 +11,8 @@ pub const FEWEST_ROUNDS: usize = 11;
 const ROUND: f64 = 2e5;
 const ALL_ROUNDS: f64 = 2e8;
 
-/// The places of the stack that rounds are run at in turn, over a page. A job of some tens of nanoseconds is up to a quarter slower where its
-/// tables lie badly in memory, and where a process's stack lies is chance.
+/// The places of the stack that rounds are run at in turn, over a page. A job of some tens of nanoseconds is up to a
+/// quarter slower where its tables lie badly in memory, and where a process's stack lies is chance.
 const PLACES: usize = 16;
 
 #[repr(C)]

@@ -1,6 +1,7 @@
-/* The fuzzer's target: its bytes are an image, a ledger and calls on it one behind the other. Each call is made as a C host makes it, on
-   buffers of exactly their bytes, and what it answers and leaves is put before the separate solver (tests/fuzz/oracle.rs); a difference
-   aborts. Built with NUTRAMEZA_PLANTED one answer of the kit is bent on its way to the solver, and the fuzzer must find it. */
+/* The fuzzer's target: its bytes are an image, a ledger and calls on it one behind the other. Each call is made as a C
+   host makes it, on buffers of exactly their bytes, and what it answers and leaves is put before the separate solver
+   (tests/fuzz/oracle.rs); a difference aborts. Built with NUTRAMEZA_PLANTED one answer of the kit is bent on its way to
+   the solver, and the fuzzer must find it. */
 #include <stdio.h>
 #include <stdlib.h>
 #include <string.h>

@@ -1,4 +1,5 @@
-//! The separate solver of tests/src as the fuzzer's judge: a call's answer, and every byte that it left, beside the solver's.
+//! The separate solver of tests/src as the fuzzer's judge: a call's answer, and every byte that it left, beside the
+//! solver's.
 
 #[path = "../src/solver/mod.rs"]
 #[allow(dead_code)]
@@ -28,7 +29,8 @@ impl Bytes {
     }
 }
 
-/// A call as it was made: `ledger` is the ledger before it, or the source of a turn; `out` what its buffer held before it.
+/// A call as it was made: `ledger` is the ledger before it, or the source of a turn; `out` what its buffer held before
+/// it.
 #[repr(C)]
 pub struct Asked {
     kind: u32,

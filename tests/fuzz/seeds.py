@@ -1,5 +1,6 @@
 #!/usr/bin/env python3
-"""The fuzzer's first inputs, as tests/fuzz/fuzz.c reads them: each policy of examples/ and tests/golden, with calls on an empty ledger.
+"""The fuzzer's first inputs, as tests/fuzz/fuzz.c reads them: each policy of examples/ and tests/golden, with calls on
+an empty ledger.
 
 usage: tests/fuzz/seeds.py FOLDER
 """

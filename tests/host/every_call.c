@@ -1,6 +1,6 @@
-/* Every call of the header from C, done and refused, each buffer an allocation of exactly its bytes, for runs under sanitizers and
-   valgrind: a byte read or written outside a buffer, or used before it is written, is theirs to tell. Prints how many answers were as
-   expected, and each that was not. */
+/* Every call of the header from C, done and refused, each buffer an allocation of exactly its bytes, for runs under
+   sanitizers and valgrind: a byte read or written outside a buffer, or used before it is written, is theirs to tell.
+   Prints how many answers were as expected, and each that was not. */
 #include <stdio.h>
 #include <stdlib.h>
 #include <string.h>
@@ -54,7 +54,8 @@ static size_t write_image(uint8_t **to, uint32_t *words, size_t count) {
     return NUTRAMEZA_WORD_BYTES * (count + 1);
 }
 
-/* User 0 has role 0, over role 1, and role 2; user 1 has role 1. Roles 0 and 2 exclude each other over windows; role 1 has a limit. */
+/* User 0 has role 0, over role 1, and role 2; user 1 has role 1. Roles 0 and 2 exclude each other over windows; role 1
+   has a limit. */
 static void make_images(void) {
     uint32_t words[WORDS], n = 0;
     words[n++] = nutrameza_head_word(USERS, ROLES, PERMISSIONS);

@@ -1,9 +1,9 @@
 #!/usr/bin/env python3
-"""Writes accepted and damaged images into a folder, a file 'expected' with the policy tool's refusal of each, and the tidy images that the
-tool makes of the accepted ones.
+"""Writes accepted and damaged images into a folder, a file 'expected' with the policy tool's refusal of each, and the
+tidy images that the tool makes of the accepted ones.
 
-images.py FOLDER COUNT: the images are FOLDER/00000 and so on; a line of 'expected' is number, word and extra; FOLDER/tidy has the tidy images,
-each under the name of its image.
+images.py FOLDER COUNT: the images are FOLDER/00000 and so on; a line of 'expected' is number, word and extra;
+FOLDER/tidy has the tidy images, each under the name of its image.
 """
 
 import importlib.machinery

@@ -1,4 +1,5 @@
-/* Prints what the check says of each image file that the arguments name: number, the refusal's word and extra, a line each. */
+/* Prints what the check says of each image file that the arguments name: number, the refusal's word and extra, a line
+ * each. */
 #include <stdio.h>
 
 #include "nutrameza.h"

@@ -1,5 +1,6 @@
 #!/usr/bin/env python3
-"""A PMaxSAT program for small texts, which tries every assignment: reads a file in the classic DIMACS form and prints the best one.
+"""A PMaxSAT program for small texts, which tries every assignment: reads a file in the classic DIMACS form and prints
+the best one.
 
     pmaxsat.py [--row] FILE      --row: the values as a row of digits and not as literals
 """

@@ -1,7 +1,7 @@
-/* Long and deep asks, their clause texts, their obstacles, the longest moves and the calls over the image alone, on a thread whose stack is
-   64 KiB: users of 16 roles, 64 roles in 16 chains of seniors, 256 permissions, 32 exclusions, a limit for each role; asks, their texts and
-   obstacles in every window under each pair of aims, and the ledger of all 64 users carried back and over. Prints 'done' if every call is
-   answered as it should be. */
+/* Long and deep asks, their clause texts, their obstacles, the longest moves and the calls over the image alone, on a
+ * thread whose stack is 64 KiB: users of 16 roles, 64 roles in 16 chains of seniors, 256 permissions, 32 exclusions, a
+ * limit for each role; asks, their texts and obstacles in every window under each pair of aims, and the ledger of all
+ * 64 users carried back and over. Prints 'done' if every call is answered as it should be. */
 #define _POSIX_C_SOURCE 200809L
 #include <pthread.h>
 #include <stdio.h>
@@ -19,9 +19,10 @@ static uint8_t old_ledger[USERS * NUTRAMEZA_OLD_LINE_BYTES];
 static uint8_t *text;
 static int answered;
 
-/* The roles from 4k up to 4k + 3 form a chain. A user has the first roles of four chains, and so may activate the roles below
-   16; role k of them is granted the permissions k, k + 16, .., up to 255, the first one twice. No two of the exclusions are the same;
-   the last one of the tidy image has this n, and the others allow all that a user may activate. */
+/* The roles from 4k up to 4k + 3 form a chain. A user has the first roles of four chains, and so may activate the roles
+ * below 16; role k of them is granted the permissions k, k + 16, .., up to 255, the first one twice. No two of the
+ * exclusions are the same; the last one of the tidy image has this n, and the others allow all that a user may
+ * activate. */
 static void make_image(uint32_t last_n) {
     static uint32_t words[NUTRAMEZA_MAX_WORDS];
     size_t n = 0;
@@ -68,7 +69,8 @@ static int obstructed(uint64_t session, const uint8_t *lower, const uint8_t *upp
     return nutrameza_number_of(returned) == (asked == NUTRAMEZA_DONE ? NUTRAMEZA_REFUSED_NONE : NUTRAMEZA_DONE);
 }
 
-/* An ask of the last user for the permissions below `needed` with these aims, and its clause text; 1 if its number is the expected one. */
+/* An ask of the last user for the permissions below `needed` with these aims, and its clause text; 1 if its number is
+ * the expected one. */
 static int ask(uint32_t needed, uint32_t allowed, uint64_t first, uint64_t second, unsigned expected) {
     uint64_t session = (3 * first + second) % NUTRAMEZA_SESSIONS;
     uint8_t lower[NUTRAMEZA_SET_BYTES] = {0}, upper[NUTRAMEZA_SET_BYTES] = {0}, answer[NUTRAMEZA_ANSWER_BYTES];
@@ -96,7 +98,8 @@ static int ask(uint32_t needed, uint32_t allowed, uint64_t first, uint64_t secon
     return nutrameza_number_of(returned) == expected;
 }
 
-/* The ledger carried back, refused by the last user's upper windows until they are closed, and over again; 1 if all is as it should be. */
+/* The ledger carried back, refused by the last user's upper windows until they are closed, and over again; 1 if all is
+ * as it should be. */
 static int moves(void) {
     uint64_t refused = nutrameza_narrow(image, image_len, ledger, sizeof ledger, old_ledger, sizeof old_ledger);
     int good = refused == NUTRAMEZA_REFUSED_UPPER_SESSIONS + 256 * LAST;
@@ -126,8 +129,9 @@ static int turned(void) {
     return done && memcmp(table, back, sizeof table) == 0 && nutrameza_table_has(table, 0, 3) && nutrameza_turned_roles(by_permission, 3) == 15;
 }
 
-/* Under an image whose last exclusion is in the way: every permission, which takes four roles, and four that come in 256 ways by four
-   roles each, so that each search goes through all of them; 1 if that exclusion is named with its members, of which none is counted. */
+/* Under an image whose last exclusion is in the way: every permission, which takes four roles, and four that come in
+ * 256 ways by four roles each, so that each search goes through all of them; 1 if that exclusion is named with its
+ * members, of which none is counted. */
 static int hindered(void) {
     static uint8_t fresh[USERS * NUTRAMEZA_LINE_BYTES];
     uint8_t all[NUTRAMEZA_SET_BYTES], four[NUTRAMEZA_SET_BYTES] = {0}, roles[NUTRAMEZA_OBSTACLE_BYTES];

@@ -1,5 +1,5 @@
-/* Writes the tidy image of each image file that the arguments name into the folder that the first argument names, under the name of the
-   file; nothing for one that is refused. */
+/* Writes the tidy image of each image file that the arguments name into the folder that the first argument names, under
+ * the name of the file; nothing for one that is refused. */
 #include <stdio.h>
 
 #include "nutrameza.h"

@@ -1,5 +1,5 @@
-/* The header's inline functions by themselves, with no library: each wrong value is told, and the image of the ward example is
-   written to the file that the first argument names. Compiles as C99, C11 and C++17. */
+/* The header's inline functions by themselves, with no library: each wrong value is told, and the image of the ward
+ * example is written to the file that the first argument names. Compiles as C99, C11 and C++17. */
 #include <stdio.h>
 #include <string.h>
 

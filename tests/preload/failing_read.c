@@ -1,5 +1,5 @@
-/* Preloaded into the program: a read(2) that fails midway. Of the image, or of standard input where FAILING_INPUT is set, the first read
- * gives ten bytes at most and every later one fails. */
+/* Preloaded into the program: a read(2) that fails midway. Of the image, or of standard input where FAILING_INPUT is
+ * set, the first read gives ten bytes at most and every later one fails. */
 #define _GNU_SOURCE
 #include <errno.h>
 #include <stdlib.h>

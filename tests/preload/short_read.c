@@ -1,4 +1,5 @@
-/* Preloaded into a program: a read(2) that gives of standard input from one byte up to SHORT_READ bytes at a time, by turns. */
+/* Preloaded into a program: a read(2) that gives of standard input from one byte up to SHORT_READ bytes at a time, by
+ * turns. */
 #define _GNU_SOURCE
 #include <stdlib.h>
 #include <sys/syscall.h>

@@ -45,8 +45,8 @@ pub fn seed() -> u64 {
     CURRENT.get().or_else(named).unwrap_or(USUAL)
 }
 
-/// The seeds of so many cases, each with how many it has: the one that is named, else the usual one and, for an eighth more, the day's. A
-/// failure names its seed; NUTRAMEZA_SEED then plays its cases again.
+/// The seeds of so many cases, each with how many it has: the one that is named, else the usual one and, for an eighth
+/// more, the day's. A failure names its seed; NUTRAMEZA_SEED then plays its cases again.
 fn seeds(cases: u64) -> Vec<(u64, u64)> {
     match named() {
         Some(seed) => vec![(seed, cases)],
@@ -230,7 +230,8 @@ pub fn check(image: &[u8], tally: &mut Tally) -> Judged {
     judged
 }
 
-/// A call that reads bytes and may fill the front of a buffer of this length: what differs from the number and the bytes expected.
+/// A call that reads bytes and may fill the front of a buffer of this length: what differs from the number and the
+/// bytes expected.
 fn filled(
     read: &[u8],
     room: usize,
@@ -544,7 +545,8 @@ pub fn leaves(image: &[u8], ledger: &[u8], call: &Call, empty: Empty) -> Left {
     Left { returned, ledger: ledger.inner().to_vec(), answer: answer.inner().to_vec() }
 }
 
-/// The check, the tidy call and a run of calls by the kit alone under two images: what each call leaves, or what differs.
+/// The check, the tidy call and a run of calls by the kit alone under two images: what each call leaves, or what
+/// differs.
 fn left_by(images: &[Vec<u8>; 2], ledger: &[u8], calls: &[Call], empty: Empty) -> Result<Vec<Left>, String> {
     let [one, other] = images;
     let tidy = |image: &Vec<u8>| {
@@ -569,8 +571,8 @@ fn left_by(images: &[Vec<u8>; 2], ledger: &[u8], calls: &[Call], empty: Empty) -
     Ok(left)
 }
 
-/// The check, the tidy call and a run of calls by the kit alone, alike under an image and under the same entries moved about; panics with
-/// shrunk images, calls and ledger if they differ.
+/// The check, the tidy call and a run of calls by the kit alone, alike under an image and under the same entries moved
+/// about; panics with shrunk images, calls and ledger if they differ.
 pub fn alike(moved: &Moved, ledger: &[u8], calls: &[Call], empty: Empty) -> Vec<Left> {
     left_by(&moved.images(), ledger, calls, empty).unwrap_or_else(|_| {
         let (mut small, mut calls, mut ledger) = (moved.clone(), calls.to_vec(), ledger.to_vec());

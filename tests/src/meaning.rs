@@ -17,8 +17,8 @@ fn said(request: &Request, set: &Candidate) -> Vec<bool> {
     [roles, carried].concat()
 }
 
-/// Reads a text back and compares its models with the admissible sets of the ask, the weights that they violate with the ranks, and the
-/// least weight with that of the chosen set: what was seen, or what differs.
+/// Reads a text back and compares its models with the admissible sets of the ask, the weights that they violate with
+/// the ranks, and the least weight with that of the chosen set: what was seen, or what differs.
 pub fn meant(text: &[u8], request: &Request) -> Result<Meant, String> {
     let read = wcnf::read(text)?;
     let mut sets = Vec::new();

@@ -119,7 +119,8 @@ fn printed(child: Child) -> Vec<u8> {
     output.stdout
 }
 
-/// How a run ends, well or not: what is printed, what is said on standard error, the status, and whether the program took the whole script.
+/// How a run ends, well or not: what is printed, what is said on standard error, the status, and whether the program
+/// took the whole script.
 pub struct Ending {
     pub printed: String,
     pub said: String,
@@ -150,7 +151,8 @@ pub fn run_in(folder: &Path, script: &[u8]) -> Vec<u8> {
     })
 }
 
-/// What the program prints in a folder for a script from a file, of which each read takes as much as the program asks for.
+/// What the program prints in a folder for a script from a file, of which each read takes as much as the program asks
+/// for.
 pub fn run_on_file(folder: &Path, script: &Path) -> Vec<u8> {
     run_of_on_file(&path(), folder, script)
 }

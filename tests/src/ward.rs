@@ -1,5 +1,5 @@
-//! The ward examples of 01: image A and its variants, 003's three roles, a few more, image A for two users with limits, what stands in
-//! the way of asks, and bounds as one hex number.
+//! The ward examples of 01: image A and its variants, 003's three roles, a few more, image A for two users with limits,
+//! what stands in the way of asks, and bounds as one hex number.
 
 use crate::solver::calls::{Call, Reply};
 use crate::solver::line::LINE;
@@ -46,7 +46,8 @@ fn roles_carrying(rows: &[&[u32]]) -> Vec<u8> {
     words::bytes(&words::closed(image))
 }
 
-/// Role 0 over 3 over 2 over 1; roles 1 and 2 are granted permission 0, role 0 permission 1; the user has roles 2 and 3.
+/// Role 0 over 3 over 2 over 1; roles 1 and 2 are granted permission 0, role 0 permission 1; the user has roles 2 and
+/// 3.
 fn two_grants() -> Vec<u8> {
     let mut image = vec![words::head(1, 4, 2), words::assignment(0, 2), words::assignment(0, 3)];
     image.extend([words::grant(1, 0), words::grant(2, 0), words::grant(0, 1)]);

@@ -1,5 +1,5 @@
-//! Ask and short ask through the C interface: the paper's examples and rules by name, then asks by the hundred thousand beside
-//! the solver, which tries all subsets.
+//! Ask and short ask through the C interface: the paper's examples and rules by name, then asks by the hundred thousand
+//! beside the solver, which tries all subsets.
 
 use nutrameza_tests::compare::{play, say, spread, Played, Run, Tally};
 use nutrameza_tests::gen::{call, damage, ledger, policy, Rng};
@@ -203,8 +203,8 @@ fn see_why(tally: &mut Tally, call: &Call, played: &Played) {
     }
 }
 
-/// Sees the first call of a run, if it is a short ask, by the kit alone: it has no aim to be refused for. Where the same ask with an aim of
-/// 3 is told 18, it is told what comes behind that; else both are told the same.
+/// Sees the first call of a run, if it is a short ask, by the kit alone: it has no aim to be refused for. Where the
+/// same ask with an aim of 3 is told 18, it is told what comes behind that; else both are told the same.
 fn see_aimless(tally: &mut Tally, run: &Run) {
     let short = &run.calls[0];
     if !matches!(short, Call::ShortAsk { .. }) {

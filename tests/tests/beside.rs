@@ -1,5 +1,5 @@
-//! Calls side by side on one ledger, through the C interface: each call on the ledger with the other lines zeroed, and the calls of
-//! several users in other orders, without limits and with them.
+//! Calls side by side on one ledger, through the C interface: each call on the ledger with the other lines zeroed, and
+//! the calls of several users in other orders, without limits and with them.
 
 use nutrameza_tests::compare::{leaves, spread, Left};
 use nutrameza_tests::gen::policy::Draft;

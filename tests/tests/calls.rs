@@ -1,4 +1,5 @@
-//! Open, close, show and explain through the C interface: each rule by name, then calls by the hundred thousand beside the solver.
+//! Open, close, show and explain through the C interface: each rule by name, then calls by the hundred thousand beside
+//! the solver.
 
 use nutrameza_tests::compare::{play, spread, step, Played, Run};
 use nutrameza_tests::gen::{call, damage, ledger, policy, Rng};

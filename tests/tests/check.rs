@@ -1,4 +1,5 @@
-//! The check through the C interface: each refusal by name, then images by the hundred thousand beside the solver's judge.
+//! The check through the C interface: each refusal by name, then images by the hundred thousand beside the solver's
+//! judge.
 
 use nutrameza_tests::compare::{check, spread, Tally};
 use nutrameza_tests::gen::damage;
@@ -123,8 +124,8 @@ fn refuses_numbers_at_or_above_the_heads() {
     assert_eq!(answer(a_with(&words::exclusion(0, 2, &[2, 0]))), (5, 13));
 }
 
-/// The check's answer where an exclusion of these numbers, with these spare bits, stands behind `before` others in a policy of three
-/// roles; the place is counted from the exclusion's word, which is 0.
+/// The check's answer where an exclusion of these numbers, with these spare bits, stands behind `before` others in a
+/// policy of three roles; the place is counted from the exclusion's word, which is 0.
 fn exclusion_behind(before: usize, spare: u32, limit: u32, size: u32) -> (u64, u64) {
     let mut list = vec![words::head(1, 3, 1)];
     list.extend(words::exclusion(3, 2, &[0, 1]).repeat(before));

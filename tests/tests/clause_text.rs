@@ -1,5 +1,5 @@
-//! The solver's clause text, the reader and the small PMaxSAT program, before the kit is held against them: the examples of
-//! docs/CLAUSES.md byte for byte, texts that are not in order, and what the text of thousands of asks says.
+//! The solver's clause text, the reader and the small PMaxSAT program, before the kit is held against them: the
+//! examples of docs/CLAUSES.md byte for byte, texts that are not in order, and what the text of thousands of asks says.
 
 use nutrameza_tests::compare::spread;
 use nutrameza_tests::gen::{call, ledger, policy, Rng};

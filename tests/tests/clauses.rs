@@ -1,5 +1,5 @@
-//! The clause text through the C interface: the examples of docs/CLAUSES.md, each refusal in its order, buffers of every length, then
-//! texts by the ten thousand beside the solver's, read back and held to the admissible sets.
+//! The clause text through the C interface: the examples of docs/CLAUSES.md, each refusal in its order, buffers of
+//! every length, then texts by the ten thousand beside the solver's, read back and held to the admissible sets.
 
 use nutrameza_tests::compare::{play, say, spread, step, Played, Run};
 use nutrameza_tests::gen::{call, damage, ledger, policy, Rng};
@@ -389,8 +389,8 @@ fn excluding(rng: &mut Rng) -> policy::Draft {
 /// The length of the longest text that these tests know.
 const LONGEST: usize = 6_303_153;
 
-/// The longest texts: every role carries every permission and is barred, 32 exclusions of all roles with n 64, no permission allowed.
-/// The exclusions are of one kind.
+/// The longest texts: every role carries every permission and is barred, 32 exclusions of all roles with n 64, no
+/// permission allowed. The exclusions are of one kind.
 fn longest_image(kind: u32) -> Vec<u8> {
     let mut list = vec![words::head(1, 64, 256)];
     list.extend((0..63).map(|role| words::senior(role, role + 1)));
@@ -433,7 +433,8 @@ fn the_longest_texts_fit_a_stack_of_64_kib() {
     assert_eq!(thread.join().expect("the call returns"), (0, 275_393));
 }
 
-/// The same words in the same order but for what is assigned to others than `user`: such words go, change and come in anywhere.
+/// The same words in the same order but for what is assigned to others than `user`: such words go, change and come in
+/// anywhere.
 fn others_in_place(rng: &mut Rng, draft: &policy::Draft, user: u32) -> policy::Draft {
     let mut other = draft.clone();
     other.entries.retain(|entry| entry[0] >> 28 != 2 || entry[0] >> 22 & 63 == user);

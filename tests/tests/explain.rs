@@ -1,5 +1,5 @@
-//! Explain through the C interface: each refusal in its order, the roles that it names, then explains by the ten thousand beside the
-//! solver and beside show.
+//! Explain through the C interface: each refusal in its order, the roles that it names, then explains by the ten
+//! thousand beside the solver and beside show.
 
 use nutrameza_tests::compare::{play, spread, step, Played, Run};
 use nutrameza_tests::gen::{call, damage, ledger, policy, Rng};
@@ -231,7 +231,8 @@ fn drawn(rng: &mut Rng) -> (Vec<u8>, Policy, Vec<u8>) {
     (image, policy, ledger)
 }
 
-/// What a done explain shows of the rule that chose its roles: several active carriers, several grants, and how they are numbered.
+/// What a done explain shows of the rule that chose its roles: several active carriers, several grants, and how they
+/// are numbered.
 fn kinds(policy: &Policy, line: &Line, session: usize, permission: usize, extra: u64) -> Vec<&'static str> {
     let (role, granting) = (extra as usize / 64, extra as usize % 64);
     let active = (0..policy.roles).filter(|role| line.sessions[session].active[*role]);

@@ -1,5 +1,5 @@
-//! Limits through the C interface (001: CARD): who is barred and from when on, whose line refuses an ask, what a run never does; then
-//! calls by the ten thousand under random limits beside the solver.
+//! Limits through the C interface (001: CARD): who is barred and from when on, whose line refuses an ask, what a run
+//! never does; then calls by the ten thousand under random limits beside the solver.
 
 use nutrameza_tests::compare::{play, spread, Played, Run, Tally};
 use nutrameza_tests::gen::policy::{self, Draft};
@@ -26,7 +26,8 @@ fn seen(image: &[u8], ledger: &[u8], calls: &[Call]) -> Vec<ward::Seen> {
     play(&run).iter().map(|played| ward::seen(&played.reply)).collect()
 }
 
-/// So many users who all have all of these roles, each carrying the permissions listed of eight, and these further entries.
+/// So many users who all have all of these roles, each carrying the permissions listed of eight, and these further
+/// entries.
 fn image(users: u32, rows: &[&[u32]], more: &[u32]) -> Vec<u8> {
     let mut list = vec![words::head(users, rows.len() as u32, 8)];
     for (role, row) in (0..).zip(rows) {
@@ -345,8 +346,9 @@ fn without_limits_an_ask_answers_the_same_whatever_stands_in_other_lines() {
     assert_eq!(tally.count("11"), 0);
 }
 
-/// The lines of all users but one dealt out anew: who holds a limited role, in which session, is drawn again, and so are all other
-/// roles and all histories; in how many sessions a limited role is active stays. All users may activate all roles, nothing is excluded.
+/// The lines of all users but one dealt out anew: who holds a limited role, in which session, is drawn again, and so
+/// are all other roles and all histories; in how many sessions a limited role is active stays. All users may activate
+/// all roles, nothing is excluded.
 fn dealt_anew(rng: &mut Rng, policy: &Policy, ledger: &[u8], user: usize) -> Vec<u8> {
     let others: Vec<usize> = (0..policy.users).filter(|other| *other != user).collect();
     let mut lines: Vec<Line> = ledger.chunks(LINE).map(Line::read).collect();

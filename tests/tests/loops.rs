@@ -1,5 +1,5 @@
-//! Loops of seniority through the C interface: refusal 22 in its place, the loop call's chain byte by byte, then hierarchies by the
-//! ten thousand beside the solver and beside all shortest chains, listed.
+//! Loops of seniority through the C interface: refusal 22 in its place, the loop call's chain byte by byte, then
+//! hierarchies by the ten thousand beside the solver and beside all shortest chains, listed.
 
 use nutrameza_tests::compare::{check, find_loop, play, spread, Run, Tally};
 use nutrameza_tests::gen::{damage, hierarchy, Rng};
@@ -270,7 +270,8 @@ fn see_loops(tally: &mut Tally, policy: &Policy) {
     }
 }
 
-/// The chain of a done loop call is one of senior words, back to the role and not before, and the lowest of all shortest ones.
+/// The chain of a done loop call is one of senior words, back to the role and not before, and the lowest of all
+/// shortest ones.
 fn hold_chain(tally: &mut Tally, policy: &Policy, role: usize, chain: &[u8]) {
     let mut senior = role;
     for (place, junior) in chain.iter().enumerate() {

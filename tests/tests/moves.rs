@@ -1,6 +1,6 @@
-//! Ledgers carried over from four sessions a user to eight, and back, through the C interface: each refusal in its order with every byte
-//! of the target, every kind of damage at every user, round trips, runs that start on a target, then moves by the ten thousand beside
-//! the solver.
+//! Ledgers carried over from four sessions a user to eight, and back, through the C interface: each refusal in its
+//! order with every byte of the target, every kind of damage at every user, round trips, runs that start on a target,
+//! then moves by the ten thousand beside the solver.
 
 use nutrameza_tests::compare::{carry, play, spread, step, Run, Tally};
 use nutrameza_tests::gen::{call, damage, ledger, policy, Rng};
@@ -24,7 +24,8 @@ fn image(users: u32) -> Vec<u8> {
     words::bytes(&words::closed(list))
 }
 
-/// A line of so many sessions: roles of the user's history, then sessions that are open, each with what is active in it and its history.
+/// A line of so many sessions: roles of the user's history, then sessions that are open, each with what is active in it
+/// and its history.
 fn line(sessions: usize, history: u8, open: &[(usize, u8, u8)]) -> Vec<u8> {
     let mut bytes = vec![0u8; 16 + 16 * sessions];
     bytes[8] = history;
@@ -128,7 +129,8 @@ fn refuses_the_image_before_all_else() {
     assert_eq!(seen, [1, 2, 3, 4, 5, 6, 7, 8, 22, 23]);
 }
 
-/// Lengths about a fitting one: off by a byte, by a line of either size and by half, none, the other move's, and all small ones.
+/// Lengths about a fitting one: off by a byte, by a line of either size and by half, none, the other move's, and all
+/// small ones.
 fn other_lengths(fitting: usize, other: usize) -> Vec<usize> {
     let near = [1, 8, 64, OLD_LINE, LINE].into_iter().flat_map(|off| [fitting + off, fitting.saturating_sub(off)]);
     near.chain([0, other, fitting / 2, 2 * fitting]).chain(0..330).filter(|length| *length != fitting).collect()
@@ -208,8 +210,9 @@ fn of_several_users_with_upper_sessions_open_the_lowest_is_told() {
     }
 }
 
-/// Lines that are not sound, of so many sessions, each in one way: bytes 1 to 7, a closed session's bytes, active outside the session's
-/// history, that outside the user's, a role that is not there, one that is not authorized, an exclusion broken over two windows.
+/// Lines that are not sound, of so many sessions, each in one way: bytes 1 to 7, a closed session's bytes, active
+/// outside the session's history, that outside the user's, a role that is not there, one that is not authorized, an
+/// exclusion broken over two windows.
 fn unsound_lines(sessions: usize) -> Vec<Vec<u8>> {
     let last = sessions - 1;
     let mut lines = vec![line(sessions, 0, &[]); 8];
@@ -450,7 +453,8 @@ fn session_of(call: &Call) -> Option<u64> {
     }
 }
 
-/// A call for which a user of four sessions is told what one of eight is: it names none of the sessions 4 to 7 and opens none of them.
+/// A call for which a user of four sessions is told what one of eight is: it names none of the sessions 4 to 7 and
+/// opens none of them.
 fn within_four(call: &Call, old: &[u8]) -> bool {
     let full = old.chunks_exact(OLD_LINE).nth(call.user() as usize).is_some_and(|line| line[0] == 15);
     match session_of(call) {
@@ -483,7 +487,8 @@ fn a_play_within_four_sessions_of_a_widened_ledger_is_that_of_the_old_one_and_is
     tally.expect(100, &["12", "15", "16", "17", "18", "19"]);
 }
 
-/// Shows and explains of each user's sessions below 4 on a ledger of eight by the kit, and on one of four by the solver: the same.
+/// Shows and explains of each user's sessions below 4 on a ledger of eight by the kit, and on one of four by the
+/// solver: the same.
 fn shown_alike(image: &[u8], policy: &Policy, old: &mut [u8], wide: &mut Vec<u8>, tally: &mut Tally) {
     let judged = judge(image);
     for user in 0..policy.users as u64 {
@@ -527,8 +532,8 @@ fn the_old_ledger_may_be_kept_and_moved_again_to_the_same_bytes() {
     }
 }
 
-/// An old ledger for a move under a policy: sound mostly, damaged in some lines, of another length at times; narrowing, with upper
-/// sessions open in none, some or most lines.
+/// An old ledger for a move under a policy: sound mostly, damaged in some lines, of another length at times; narrowing,
+/// with upper sessions open in none, some or most lines.
 fn any_old(rng: &mut Rng, way: Move, policy: &Policy) -> Vec<u8> {
     let damaged = rng.pick(&[0, 0, 0, 3, 24]);
     let mut old = ledger::ledger_of(rng, policy, way.sessions().0, damaged);

@@ -1,6 +1,7 @@
-//! Order of entries through the C interface: whole entries moved about between head and end, an exclusion together with its members, and
-//! the members of an exclusion among themselves, change no answer and no byte. What is left out (the clause text), and moves that are
-//! none of these: a member out of its exclusion or into another, the head, the end word.
+//! Order of entries through the C interface: whole entries moved about between head and end, an exclusion together with
+//! its members, and the members of an exclusion among themselves, change no answer and no byte. What is left out (the
+//! clause text), and moves that are none of these: a member out of its exclusion or into another, the head, the end
+//! word.
 
 use nutrameza_tests::compare::{alike, check, leaves, spread, Tally};
 use nutrameza_tests::gen::order::{moved, Moved, Way, WAYS};

@@ -1,5 +1,5 @@
-//! What users may activate through the C interface: refusal 23 in its place, lines and asks by the roles below the assigned ones, then
-//! random hierarchies beside the solver.
+//! What users may activate through the C interface: refusal 23 in its place, lines and asks by the roles below the
+//! assigned ones, then random hierarchies beside the solver.
 
 use nutrameza_tests::compare::{check, find_loop, play, spread, Run, Tally};
 use nutrameza_tests::gen::{call, hierarchy, ledger, Rng};
@@ -12,7 +12,8 @@ use nutrameza_tests::{ward, words};
 /// The numbers of the session rules and of the judgement that the random calls are to see.
 const NUMBERS: [&str; 11] = ["0", "11", "12", "13", "14", "15", "16", "17", "18", "20", "23"];
 
-/// A policy of 64 users, 64 roles and 64 permissions, role r granted permission r, with these senior pairs and assignments.
+/// A policy of 64 users, 64 roles and 64 permissions, role r granted permission r, with these senior pairs and
+/// assignments.
 fn image(pairs: &[(u32, u32)], assignments: &[(u32, u32)]) -> Vec<u8> {
     let mut list = vec![words::head(64, 64, 64)];
     list.extend((0..64).map(|role| words::grant(role, role)));
@@ -72,7 +73,8 @@ fn a_junior_does_not_reach_upward() {
     assert_eq!(seen(image, vec![0; LINE], calls), [(0, 0, 0, 0), (20, 0, 0, 0), (0, 0, 4, 4)]);
 }
 
-/// The ways to reach so many roles: a chain, one over the others, two chains that meet, a lattice of two ways down, and assigned ones.
+/// The ways to reach so many roles: a chain, one over the others, two chains that meet, a lattice of two ways down, and
+/// assigned ones.
 fn routes(count: u32) -> Vec<(&'static str, Vec<(u32, u32)>, Vec<u32>)> {
     let others = 1..count;
     let some = count.min(16);
@@ -154,7 +156,8 @@ fn a_user_of_one_role_over_fifteen_may_have_all_of_them() {
     assert_eq!(seen(image, vec![0; LINE], calls), [(0, 0, 0, 0), all, (0, 0, 0x8000, 0x8000), (20, 0, 0, 0)]);
 }
 
-/// A ledger in which some lines have a role active that is authorized and not assigned, and some one that is not authorized.
+/// A ledger in which some lines have a role active that is authorized and not assigned, and some one that is not
+/// authorized.
 fn told_apart(rng: &mut Rng, image: &[u8], ledger: &mut [u8], tally: &mut Tally) {
     let Ok(policy) = judge(image) else {
         return;

@@ -1,5 +1,5 @@
-//! The program nutrameza_script: 01's script, every kind of unreadable line, images that cannot be read, lines across the chunks in
-//! which it reads, input and output that fail, golden files, and generated scripts beside the solver.
+//! The program nutrameza_script: 01's script, every kind of unreadable line, images that cannot be read, lines across
+//! the chunks in which it reads, input and output that fail, golden files, and generated scripts beside the solver.
 
 use nutrameza_tests::compare::spread;
 use nutrameza_tests::gen::{damage, policy, script, Rng};

@@ -1,5 +1,5 @@
-//! The separate solver by itself: the ward examples of 01, loops, moves and limits worked out by hand, so that what the kit is held
-//! against is held against the papers.
+//! The separate solver by itself: the ward examples of 01, loops, moves and limits worked out by hand, so that what the
+//! kit is held against is held against the papers.
 
 use nutrameza_tests::solver::calls::{play, Call, Reply};
 use nutrameza_tests::solver::image::{judge, Refused};
@@ -129,7 +129,8 @@ fn the_loop_call_refuses_another_buffer_before_a_hierarchy_without_a_loop() {
     assert_eq!(find(&looped[..7], 3).number, 1);
 }
 
-/// Image A's user in a line of so many bytes: Data_Manager active in session 1, Doctor remembered; another session may be open.
+/// Image A's user in a line of so many bytes: Data_Manager active in session 1, Doctor remembered; another session may
+/// be open.
 fn managers_line(bytes: usize, also_open: u8) -> Vec<u8> {
     let mut line = vec![0u8; bytes];
     (line[0], line[8], line[32], line[40]) = (2 | also_open, 3, 2, 2);

@@ -1,5 +1,5 @@
-//! Whom an image stops, through the C interface: each refusal in its order with every byte of the buffer, every kind of damage at every
-//! user, then policies that change while people work, beside the solver.
+//! Whom an image stops, through the C interface: each refusal in its order with every byte of the buffer, every kind of
+//! damage at every user, then policies that change while people work, beside the solver.
 
 use nutrameza_tests::compare::{play, spread, step, stopped, Played, Run, Tally};
 use nutrameza_tests::gen::change::{self, Change};

@@ -1,6 +1,6 @@
-//! The program nutrameza_survey: the ward's figures, 64 members with every limit, repeated exclusions, empty and unreadable scripts, images
-//! that are refused or can't be read, input that fails or comes in chunks of any size, millions of lines, golden files, and generated
-//! policies and scripts beside the solver.
+//! The program nutrameza_survey: the ward's figures, 64 members with every limit, repeated exclusions, empty and
+//! unreadable scripts, images that are refused or can't be read, input that fails or comes in chunks of any size,
+//! millions of lines, golden files, and generated policies and scripts beside the solver.
 
 use nutrameza_tests::compare::{seed, spread};
 use nutrameza_tests::gen::{damage, policy, script, Rng};

@@ -1,5 +1,5 @@
-//! The tidy call through the C interface: one image for all that mean the same, byte by byte beside the solver's; policies shuffled,
-//! repeated and changed in one entry; then every call on an image and on its tidy one.
+//! The tidy call through the C interface: one image for all that mean the same, byte by byte beside the solver's;
+//! policies shuffled, repeated and changed in one entry; then every call on an image and on its tidy one.
 
 use nutrameza_tests::compare::{check, play, spread, tidy, Played, Run, Tally};
 use nutrameza_tests::gen::policy::{self, Draft};
@@ -68,8 +68,8 @@ fn jumbled(rng: &mut Rng, draft: &Draft) -> Draft {
     other
 }
 
-/// The exclusions of a test, in the order of a tidy image: by kind, limit and set number. Set 7 stands before set 10, though it has more
-/// members.
+/// The exclusions of a test, in the order of a tidy image: by kind, limit and set number. Set 7 stands before set 10,
+/// though it has more members.
 fn exclusions() -> Vec<Vec<u32>> {
     vec![
         words::exclusion(0, 2, &[0, 1, 2]),
@@ -306,7 +306,8 @@ fn shuffled_repeated_and_doubled_entries_give_one_tidy_image_and_tidying_it_chan
     tally.expect(100, &["without repeats"]);
 }
 
-/// Two policies say the same: head, sets of assignments, grants, senior pairs and exclusions, and each role's smallest limit.
+/// Two policies say the same: head, sets of assignments, grants, senior pairs and exclusions, and each role's smallest
+/// limit.
 fn same(one: &Policy, other: &Policy) -> bool {
     let head = |policy: &Policy| (policy.users, policy.roles, policy.permissions);
     let exclusions = |policy: &Policy| policy.exclusions.iter().cloned().collect::<BTreeSet<Exclusion>>();

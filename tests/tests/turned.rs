@@ -1,5 +1,5 @@
-//! The closed grant table and tables turned, through the C interface: each of the 16,384 bits by itself, both orders of doing and
-//! undoing, every length; tables of policies beside the solver, beside explain and beside show.
+//! The closed grant table and tables turned, through the C interface: each of the 16,384 bits by itself, both orders of
+//! doing and undoing, every length; tables of policies beside the solver, beside explain and beside show.
 
 use nutrameza_tests::compare::{check, play, spread, table, turn, Run, Tally};
 use nutrameza_tests::gen::policy::{self, Draft};

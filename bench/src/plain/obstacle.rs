@@ -1,5 +1,5 @@
-//! What stands in the way of an ask: three tests of masks, then the exclusions in the order of the tidy image by halving, each step a search
-//! that ends with the first set.
+//! What stands in the way of an ask: three tests of masks, then the exclusions in the order of the tidy image by
+//! halving, each step a search that ends with the first set.
 
 use super::{asked, barred, entered, limit, named, union, within, Entered, Judge, Permissions, Search, Tables, Wish, TABLES};
 

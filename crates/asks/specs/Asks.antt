@@ -15,19 +15,21 @@ use Rattle.model.specs.Session.{asked}
 use Rattle.model.specs.Run.{Event, lineAt, withLine, returned, answered, lineOf}
 use Rattle.query.specs.Carry.{Carry}
 
--- what the policy means to user u for a choice for session k, given what is told of the other users: barred roles are not u's
+-- what the policy means to user u for a choice for session k, given what is told of the other users: barred roles are
+-- not u's
 abbrev pub leftTo : Policy → ℕ → Others → Line → ℕ → Meaning
 leftTo p u x l k = unbarred (meaning p u) x l k
 
--- the roles that user u may choose from, the exclusions, which the line meets, and what each of the roles carries are those of the policy
+-- the roles that user u may choose from, the exclusions, which the line meets, and what each of the roles carries are
+-- those of the policy
 pub record Asked (p : Policy) (u : ℕ) (x : Others) (l : Line) (k own : ℕ) (xs : Exclusions) (row : ℕ → ℕ) : Type 0 where
   pub own-is : leftTo p u x l k .authorized ≡ own
   pub exclusions-are : p .exclusions ≡ take (xs .count) (xs .list)
   pub met : exclusionsMet (meaning p u) l ≡ true
   pub carry : Carry (meaning p u) own row
 
--- what the search is given is the policy's: what is granted, who is below whom, what the user may choose from and the exclusions, which
--- the line meets
+-- what the search is given is the policy's: what is granted, who is below whom, what the user may choose from and the
+-- exclusions, which the line meets
 pub record Searched (p : Policy) (u : ℕ) (x : Others) (ledger : List ℕ) (k : ℕ) (granted below : List ℕ) (own : ℕ) (xs : Exclusions) : Type 0 where
   pub granted-is : granted ≡ p .granted
   pub below-is : below ≡ belowTable p

@@ -34,7 +34,8 @@ pub struct Wanted {
     pub second: u8,
 }
 
-// The best admissible role set for session k of a line that meets every exclusion, by the rows of the roles that the user may activate.
+// The best admissible role set for session k of a line that meets every exclusion, by the rows of the roles that the
+// user may activate.
 pub fn best(
     rows: &[[u64; 4]; 64],
     authorized: u64,
@@ -62,8 +63,8 @@ pub fn best(
     search::solve(rows, upper, authorized, &masks, &rooms, job)
 }
 
-// The best admissible role set takes the place of the active roles of the session, on a line that meets every exclusion, and fills the
-// answer; 20 where no set is admissible.
+// The best admissible role set takes the place of the active roles of the session, on a line that meets every
+// exclusion, and fills the answer; 20 where no set is admissible.
 fn put_best(
     ledger: &mut [u8],
     count: usize,
@@ -100,8 +101,8 @@ fn put_best(
     0
 }
 
-// The best admissible role set takes the place of the session's active roles and fills the answer. Limits bar roles, and under them every
-// line is to be sound; without a limit no other line is looked at.
+// The best admissible role set takes the place of the session's active roles and fills the answer. Limits bar roles,
+// and under them every line is to be sound; without a limit no other line is looked at.
 pub fn ask_roles(
     ledger: &mut [u8],
     rules: Rules,

@@ -203,7 +203,8 @@ unfolding limitedBy
 known-limited head own xs limits =
     record { head-is = refl; own-is = λ u l w. sym (authorized-alone (limitedBy head own xs limits) u refl w); exclusions-are = refl }
 
--- what code that got 0 of them holds: numbers and lengths within their bounds, and for the policy of its parts an ask that may be searched
+-- what code that got 0 of them holds: numbers and lengths within their bounds, and for the policy of its parts an ask
+-- that may be searched
 pub record Passed (W : ℕ) (head : Head) (own : List ℕ) (xs : Exclusions) (limits ledger : List ℕ) (u k : ℕ) (lower upper : List ℕ) (a b room : ℕ) : Type 0 where
   pub user : u < head .users
   pub fits : length ledger ≡ lineSize W * head .users

@@ -1,4 +1,5 @@
-// The bounds of an ask as permission sets: 32 bytes read into four words, and whether a set has permissions of the policy alone.
+// The bounds of an ask as permission sets: 32 bytes read into four words, and whether a set has permissions of the
+// policy alone.
 ghost use mathlib.Core.Path.{_≡_};
 ghost use Prim.Native.Nat.{_*_, _^_};
 ghost use lib.Dec.{ltb};

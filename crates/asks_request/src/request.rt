@@ -31,8 +31,8 @@ pub fn session_refusal(l: Line, session: u64) -> u64
     0
 }
 
-// 16 for a bound with a permission that the policy does not have, 17 for a lower bound that is not within the upper, 18 for an
-// objective (01: aim) that there is not, 19 for an answer buffer of another length, else 0.
+// 16 for a bound with a permission that the policy does not have, 17 for a lower bound that is not within the upper, 18
+// for an objective (01: aim) that there is not, 19 for an answer buffer of another length, else 0.
 fn bounds_refusal(
     lower: [u64; 4],
     upper: [u64; 4],

@@ -1,5 +1,5 @@
--- A call reads its user's line alone: the ledger with every other line zeroed has the same length and the same line of the user, and the
--- session rules are fed no more of it, unless they are told of other users.
+-- A call reads its user's line alone: the ledger with every other line zeroed has the same length and the same line of
+-- the user, and the session rules are fed no more of it, unless they are told of other users.
 -- Assumes nothing.
 use mathlib.Core.Path.{_≡_, refl, sym, ap, _∙_}
 use mathlib.Core.Logic.{_⊎_, inl, inr}

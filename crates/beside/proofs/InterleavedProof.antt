@@ -1,5 +1,5 @@
--- Two runs in which each user makes the same calls: a user with a line sees the same by the independence rule, one without a line is
--- refused by 10 throughout, and so every line of the ledger ends the same.
+-- Two runs in which each user makes the same calls: a user with a line sees the same by the independence rule, one
+-- without a line is refused by 10 throughout, and so every line of the ledger ends the same.
 -- Assumes nothing.
 use mathlib.Core.Path.{_≡_, refl, sym, ap, ap₂, _∙_, subst}
 use mathlib.Core.Bool.{Bool, true, false}

@@ -1,6 +1,6 @@
--- What calls on one ledger may do side by side, for whoever keeps the ledger in a database: which lines a call reads, and in which order
--- calls may be made. Which lines it writes is said by `Frame` of crates/model/specs/Frames.antt: its user's alone. docs/MACHINES.md says
--- what is to be locked.
+-- What calls on one ledger may do side by side, for whoever keeps the ledger in a database: which lines a call reads,
+-- and in which order calls may be made. Which lines it writes is said by `Frame` of crates/model/specs/Frames.antt: its
+-- user's alone. docs/MACHINES.md says what is to be locked.
 -- Assumes nothing.
 use mathlib.Core.Path.{_≡_}
 use mathlib.Core.Logic.{_⊎_}
@@ -30,17 +30,17 @@ pub record Alike (z u : ℕ) (e f : Event) : Type 0 where
   pub reply : e .reply ≡ f .reply
   pub line : lineAt z u (e .ledger) ≡ lineAt z u (f .ledger)
 
--- A call on the ledger with every other line zeroed is for its user as the call on the ledger: every call under a policy without limits,
--- and under any other each that is no ask, so an open, a close, a show and an explain. The image need not be accepted, and the ledger may
--- have any length.
+-- A call on the ledger with every other line zeroed is for its user as the call on the ledger: every call under a
+-- policy without limits, and under any other each that is no ask, so an open, a close, a show and an explain. The image
+-- need not be accepted, and the ledger may have any length.
 abbrev pub Alone : ℕ → Type 0
 Alone W = (image ledger : List ℕ) (c : Call) → (hasLimits (policyOf image) ≡ false) ⊎ (isAsk (c .operation) ≡ false)
     → Alike (lineSize W) (c .user) (step W image (aloneWith (lineSize W) (c .user) ledger) c) (step W image ledger c)
 
 -- ---- interleaved
 
--- two runs under one image, from one ledger, in which each user makes the same calls in the same order, however the calls of different
--- users lie between each other
+-- two runs under one image, from one ledger, in which each user makes the same calls in the same order, however the
+-- calls of different users lie between each other
 pub record SameCalls (W : ℕ) (r s : Run W) : Type 0 where
   pub image : r .image ≡ s .image
   pub ledger : r .ledger ≡ s .ledger

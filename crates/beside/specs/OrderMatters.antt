@@ -1,4 +1,5 @@
--- Under limits the order of two users' asks matters, and an ask reads other lines: two runs of the same calls, and an ask alone.
+-- Under limits the order of two users' asks matters, and an ask reads other lines: two runs of the same calls, and an
+-- ask alone.
 -- Assumes nothing.
 use mathlib.Core.Path.{_≡_}
 use mathlib.Core.List.{List, [], _∷_, map}
@@ -26,8 +27,9 @@ oneFirst = openBy 0 ∷ openBy 1 ∷ asks 0 ∷ asks 1 ∷ []
 unfoldable pub otherFirst : List Call
 otherFirst = openBy 0 ∷ openBy 1 ∷ asks 1 ∷ asks 0 ∷ []
 
--- The last ask of each run is refused by 20, so each user is told otherwise in the two, and they end with other ledgers; on the ledger
--- that the first run leaves, the second user's ask is refused, and with the first user's line zeroed it is done.
+-- The last ask of each run is refused by 20, so each user is told otherwise in the two, and they end with other
+-- ledgers; on the ledger that the first run leaves, the second user's ask is refused, and with the first user's line
+-- zeroed it is done.
 pub record OrderMatters : Type 0 where
   pub one : Run SESSIONS
   pub other : Run SESSIONS

@@ -1,4 +1,5 @@
--- The bytes of an answer: a set's 32 bytes are those of its four words, and five numbers put one behind the other fill the buffer.
+-- The bytes of an answer: a set's 32 bytes are those of its four words, and five numbers put one behind the other fill
+-- the buffer.
 -- Assumes nothing.
 use mathlib.Core.Path.{_≡_, refl, sym, ap, ap₂, subst, _∙_}
 use mathlib.Core.List.{List, [], _∷_, _++_, append-assoc}

@@ -242,8 +242,8 @@ open-bits : (W : ℕ) (m : Meaning) (l : Line) → sound W m l ≡ true → l .o
 unfolding sound
 open-bits W m l e = ltb-true (l .opened) (2 ^ W) (and-l _ _ (and-l _ _ (and-l _ _ e)))
 
--- what code that got 0 of the first refusals holds: the user's bytes are in the ledger, no bit stands for a session too many, and the
--- policy of its parts has no first refusal
+-- what code that got 0 of the first refusals holds: the user's bytes are in the ledger, no bit stands for a session too
+-- many, and the policy of its parts has no first refusal
 pub record Passed (W : ℕ) (head : Head) (own : List ℕ) (xs : Exclusions) (ledger : List ℕ) (u : ℕ) : Type 0 where
   pub line : lineSize W * u + lineSize W ≤ length ledger
   pub bits : lineOf W ledger u .opened < 2 ^ W

@@ -1,5 +1,5 @@
--- A call under an accepted policy: what code holds of the policy, the refusals that every call on a line can give first, and what a
--- host gets.
+-- A call under an accepted policy: what code holds of the policy, the refusals that every call on a line can give
+-- first, and what a host gets.
 -- Assumes nothing.
 use mathlib.Core.Path.{_≡_}
 use mathlib.Core.Bool.{not}

@@ -1,4 +1,5 @@
--- The cases of an explain of an open session of a sound line: no such permission, and a permission explained or not carried.
+-- The cases of an explain of an open session of a sound line: no such permission, and a permission explained or not
+-- carried.
 -- Assumes nothing.
 use mathlib.Core.Path.{_≡_, refl, sym, ap, _∙_}
 use mathlib.Core.Bool.{true, not}

@@ -7,8 +7,8 @@ use lib.ListN.{length, getD, take, drop}
 use Rattle.chunks.specs.declared.lines.Begun.{Begun}
 use Rattle.chunks.specs.Kept.{linesFrom}
 
--- the bytes of a chunk from `next` on are kept, up to a newline or to the chunk's end: whatever comes behind the chunk, the lines are the
--- same
+-- the bytes of a chunk from `next` on are kept, up to a newline or to the chunk's end: whatever comes behind the chunk,
+-- the lines are the same
 pub record Gathers (chunk : List ℕ) (next : ℕ) (before : List ℕ) (kept : ℕ) (behind : List ℕ) (r : Begun) : Type 0 where
   pub few : r .kept ≤ 174
   pub onward : next ≤ r .next

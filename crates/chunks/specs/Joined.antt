@@ -9,8 +9,8 @@ unfoldable pub joined : List (List ℕ) → List ℕ
 joined [] = []
 joined (c ∷ cs) = c ++ joined cs
 
--- a chunk takes the run from state s to state t, where `result` is what the run comes to, from a state and the bytes that are left:
--- whatever comes behind the chunk, that is the same
+-- a chunk takes the run from state s to state t, where `result` is what the run comes to, from a state and the bytes
+-- that are left: whatever comes behind the chunk, that is the same
 abbrev pub Takes : (S R : Type 0) → (S → List ℕ → R) → List ℕ → S → S → Type 0
 Takes S R result chunk s t = (more : List ℕ) → result s (chunk ++ more) ≡ result t more
 

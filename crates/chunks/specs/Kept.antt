@@ -1,5 +1,5 @@
--- The lines of an input by its bytes, in whatever chunks they come: what is still to be answered, of a line that is begun and the bytes
--- behind it.
+-- The lines of an input by its bytes, in whatever chunks they come: what is still to be answered, of a line that is
+-- begun and the bytes behind it.
 -- Assumes nothing.
 use mathlib.Core.Bool.{true, false}
 use mathlib.Core.List.{List, [], _∷_, _++_}
@@ -7,7 +7,8 @@ use Prim.Native.Nat.{ℕ}
 use lib.Dec.{eqb, ltb}
 use lib.ListN.{length}
 
--- a line with one byte more; no more than 174 bytes of it are kept, since a line that long is unreadable, whatever follows
+-- a line with one byte more; no more than 174 bytes of it are kept, since a line that long is unreadable, whatever
+-- follows
 unfoldable pub keeping : List ℕ → ℕ → List ℕ
 keeping line c = elim (ltb (length line) 174) [ true ↦ line ++ (c ∷ []) | false ↦ line ]
 

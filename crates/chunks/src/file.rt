@@ -40,8 +40,8 @@ fn read_file(fd: i32, file: &mut [u8]) -> usize
     have
 }
 
-// Reads the image, and returns its length; a file that can't be read counts as empty, and of a larger one than any image just as much
-// is read as has it refused.
+// Reads the image, and returns its length; a file that can't be read counts as empty, and of a larger one than any
+// image just as much is read as has it refused.
 pub fn read_image(file: &mut [u8]) -> usize
     ensures { λ r. ⌜ Counts r (now (file .exit)) ⌝ }
 {

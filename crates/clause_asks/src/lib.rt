@@ -1,5 +1,5 @@
-// The clause text of an ask under an accepted policy: refused as an ask is before the search, then if the buffer is too short, else
-// written to its front.
+// The clause text of an ask under an accepted policy: refused as an ask is before the search, then if the buffer is too
+// short, else written to its front.
 ghost use mathlib.Core.Path.{_≡_};
 ghost use Prim.Native.Nat.{_+_, _*_, _%_, _^_, _≤_, _<_};
 ghost use lib.Dec.{ltb};
@@ -25,7 +25,8 @@ use calls::given::Window;
 use ledger::bytes::line_of;
 use limits_left::roles_left;
 
-// The length of the clause text of an ask on a line that meets every exclusion; it is written to the front of the buffer if it fits.
+// The length of the clause text of an ask on a line that meets every exclusion; it is written to the front of the
+// buffer if it fits.
 fn write_clauses(
     ledger: &[u8],
     rules: Rules,
@@ -84,7 +85,8 @@ fn told(size: usize, room: usize) -> u64
     (size as u64) << 8
 }
 
-// The clause text of an ask, written to the front of the buffer; its length in bytes is the extra. Limits bar roles as in an ask.
+// The clause text of an ask, written to the front of the buffer; its length in bytes is the extra. Limits bar roles as
+// in an ask.
 pub fn ask_clauses(
     ledger: &[u8],
     rules: Rules,

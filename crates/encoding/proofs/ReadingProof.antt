@@ -1,4 +1,5 @@
--- A clause text reads back: the reader of specs/Reading.antt finds in the text of an ask the numbers of its head and exactly its clauses.
+-- A clause text reads back: the reader of specs/Reading.antt finds in the text of an ask the numbers of its head and
+-- exactly its clauses.
 -- Assumes nothing.
 use mathlib.Core.Path.{_≡_, refl, sym, ap, _∙_, subst}
 use mathlib.Core.Bool.{Bool, true, false}

@@ -90,7 +90,7 @@ module _ (s : List ℕ) (h : Head) (accepted : judge s ≡ Accepted h) where
   pub few-clauses : (l : Line) (k a : ℕ) → Each (FewClauses l k a) (policyOf s .exclusions)
   few-clauses l k a = ClauseProof.all-few l k a (policyOf s .head .roles) (policyOf s .exclusions) (accepted-in-range s h accepted .exclusions)
 
--- at the call, for every image, ledger, user and session: what the text that is written reads back to has for its models the sets that an ask
--- may be answered with, and none exactly if an ask is answered 20
+-- at the call, for every image, ledger, user and session: what the text that is written reads back to has for its
+-- models the sets that an ask may be answered with, and none exactly if an ask is answered 20
 pub call-says : (W : ℕ) (image : List ℕ) → CallSays W image
 call-says = CalledProof.call-says

@@ -1,5 +1,5 @@
--- What is claimed of the clause text that a call writes, read back: it is about the sets that an ask of the same user, for the same
--- session and on the same ledger, may be answered with.
+-- What is claimed of the clause text that a call writes, read back: it is about the sets that an ask of the same user,
+-- for the same session and on the same ledger, may be answered with.
 -- Assumes nothing.
 use mathlib.Core.Path.{_≡_}
 use mathlib.Core.Bool.{true, false}
@@ -20,14 +20,15 @@ use Rattle.model.specs.Run.{lineOf, heldByOthers, step, askBy, shortAskBy, clau
 use Rattle.encoding.specs.Satisfied.{Valuation, satisfiesAll, violated, named}
 use Rattle.encoding.specs.Reading.{Problem, readText}
 
--- the sets that an ask for session k of user u may be answered with: 001's conditions, and 001's CARD over the sessions of all users, the
--- user's own other sessions among them
+-- the sets that an ask for session k of user u may be answered with: 001's conditions, and 001's CARD over the sessions
+-- of all users, the user's own other sessions among them
 pub record MayAnswer (W : ℕ) (p : Policy) (ledger : List ℕ) (u k lb ub s : ℕ) : Type 0 where
   pub admitted : Admitted p u (lineOf W ledger u) k lb ub s
   pub card : (r : ℕ) → has s r ≡ true → limited (p .limits) r ≡ true
       → heldByOthers W p u ledger r + holding r (putIn k s (lineOf W ledger u) .sessions) < getD (p .limits) r 0
 
--- what a text says of the asks of user u for session k with the same bounds; a model is a valuation that satisfies its hard clauses
+-- what a text says of the asks of user u for session k with the same bounds; a model is a valuation that satisfies its
+-- hard clauses
 pub record TextSays (W : ℕ) (image ledger : List ℕ) (u k : ℕ) (lower upper : List ℕ) (a b : ℕ) (said : Problem) : Type 0 where
   -- each model names a set that may answer
   pub names : (v : Valuation) → satisfiesAll v (said .hard) ≡ true

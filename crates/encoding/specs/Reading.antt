@@ -1,5 +1,6 @@
--- A reader of the classic DIMACS form for weighted clauses, written from the form alone and not from the writer: bytes to lines, lines to
--- words at single blanks, words to numbers, and the numbers to a head and clauses. What does not have the form is not read.
+-- A reader of the classic DIMACS form for weighted clauses, written from the form alone and not from the writer: bytes
+-- to lines, lines to words at single blanks, words to numbers, and the numbers to a head and clauses. What does not
+-- have the form is not read.
 -- Assumes nothing.
 use mathlib.Core.Path.{_≡_, refl}
 use mathlib.Core.Bool.{true, false, _&&_}
@@ -152,7 +153,8 @@ unfolding computing andThen zeroWord pWord wcnfWord lineBegun linesOf wordBegun 
     weightedIn allWeighted headingIn hardIn softIn problemOf problemIn readText
 small-text = refl
 
--- texts that do not have the form: no newline at the end, two blanks, a blank behind the last word, a clause without its 0, a variable 0
+-- texts that do not have the form: no newline at the end, two blanks, a blank behind the last word, a clause without
+-- its 0, a variable 0
 pub not-texts : map readText (map ascii ("p wcnf 1 1 2\n2 1 0" ∷ "p wcnf 1 1 2\n2  1 0\n" ∷ "p wcnf 1 1 2\n2 1 0 \n" ∷ "p wcnf 1 1 2\n2 1\n"
     ∷ "p wcnf 1 1 2\n2 -0 0\n" ∷ []))
     ≡ none ∷ none ∷ none ∷ none ∷ none ∷ []
@@ -162,8 +164,8 @@ not-texts = refl
 
 -- ---- what is claimed
 
--- the text of an ask is read as the number of its variables, the number of its clauses, the weight of a hard clause, and exactly its hard
--- and its soft clauses, in their order
+-- the text of an ask is read as the number of its variables, the number of its clauses, the weight of a hard clause,
+-- and exactly its hard and its soft clauses, in their order
 abbrev pub ReadsBack : Meaning → Line → ℕ → ℕ → ℕ → ℕ → ℕ → Type 0
 ReadsBack m l k lower upper a b =
     readText (textOf m l k lower upper a b)

@@ -1,4 +1,5 @@
-// By the closed table of juniors: the roles that a role or a set of roles reaches, and through which of them a grant comes to a role.
+// By the closed table of juniors: the roles that a role or a set of roles reaches, and through which of them a grant
+// comes to a role.
 ghost use mathlib.Core.Path.{_≡_};
 ghost use lib.ListN.{getD};
 ghost use Prim.Native.Nat.{_<_};
@@ -38,8 +39,8 @@ pub enum Named {
     Nobody,
 }
 
-// The granting role of a permission for role r, by the roles that hold its grant: the lowest that r reaches, itself among them. There is
-// one exactly if role r carries the permission.
+// The granting role of a permission for role r, by the roles that hold its grant: the lowest that r reaches, itself
+// among them. There is one exactly if role r carries the permission.
 pub fn granter(below: &[u64; 64], holding: u64, r: Role) -> Named
     requires { ⌜ r .0 < 64 ⌝ }
     ensures { λ n. ⌜ nameOf n ≡ granterBy (withSelves (now (below .entry))) (has holding) (r .0) ⌝ }

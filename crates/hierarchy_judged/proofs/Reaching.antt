@@ -1,5 +1,5 @@
--- What users reach: the roles that stand over nobody, and the turns of the loop that makes the table of assigned roles that of the
--- roles that each user may activate.
+-- What users reach: the roles that stand over nobody, and the turns of the loop that makes the table of assigned roles
+-- that of the roles that each user may activate.
 -- Assumes nothing.
 use mathlib.Core.Path.{_≡_, refl, sym, ap, subst, _∙_}
 use mathlib.Core.Bool.{true, false, not}

@@ -29,8 +29,8 @@ pub record Gives (p : Policy) (h : Head) (assigned juniors : List ℕ) : Type 0 
 abbrev pub Passed : Policy → Checked → List ℕ → List ℕ → Type 0
 Passed p c assigned juniors = (h : Head) → c ≡ Accepted h → Gives p h assigned juniors
 
--- r is the judgement of an image whose words are judged c, and where it accepts, the one table has the roles that each user may activate,
--- and the other is the closed one
+-- r is the judgement of an image whose words are judged c, and where it accepts, the one table has the roles that each
+-- user may activate, and the other is the closed one
 pub record Judged (p : Policy) (c r : Checked) (own below : List ℕ) : Type 0 where
   pub verdict : r ≡ judgeMeaning p c
   pub below-is : (h : Head) → r ≡ Accepted h → below ≡ belowTable p

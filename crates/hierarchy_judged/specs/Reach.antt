@@ -1,4 +1,5 @@
--- What users reach by a closed table, and the table of assigned roles made that of the roles that each user may activate.
+-- What users reach by a closed table, and the table of assigned roles made that of the roles that each user may
+-- activate.
 -- Assumes nothing.
 use mathlib.Core.Path.{_≡_}
 use mathlib.Core.Bool.{Bool, true, false, not}
@@ -30,7 +31,8 @@ reachAt below assigned u = unionAt (withSelves below) (getD assigned u 0)
 abbrev pub wideAt : List ℕ → List ℕ → ℕ → Bool
 wideAt below assigned u = ltb 16 (count 64 (reachAt below assigned u))
 
--- u is the lowest of so many users with more than 16, or their number; then each row of the table has what its user reaches
+-- u is the lowest of so many users with more than 16, or their number; then each row of the table has what its user
+-- reaches
 pub record Authorizes (below : List ℕ) (users : ℕ) (assigned : List ℕ) (u : ℕ) (authorized : List ℕ) : Type 0 where
   pub lowest-is : u ≡ lowest (wideAt below assigned) 0 users
   pub rows : users ≤ u → (v : ℕ) → v < users → getD authorized v 0 ≡ reachAt below assigned v

@@ -1,4 +1,5 @@
-// The roles that users may activate, by the closed table: those assigned, and those that they reach. A user may have at most 16.
+// The roles that users may activate, by the closed table: those assigned, and those that they reach. A user may have at
+// most 16.
 ghost use mathlib.Core.Path.{_≡_};
 ghost use lib.ListN.{length};
 ghost use Prim.Native.Nat.{_≤_};
@@ -31,8 +32,8 @@ fn reach_of(below: &[u64; 64], seniors: u64, set: u64) -> u64
     reached_by(below, set)
 }
 
-// The roles assigned to each of so many users become those that the user may activate. The lowest user who may activate more than 16, or
-// the number of users where none may. Where no role stands over another, the table is right as it is.
+// The roles assigned to each of so many users become those that the user may activate. The lowest user who may activate
+// more than 16, or the number of users where none may. Where no role stands over another, the table is right as it is.
 pub fn authorize(below: &[u64; 64], roles: usize, users: usize, assigned: &mut [u64; 64]) -> usize
     requires { ⌜ (roles ≤ 64) × (users ≤ 64) × (length (now assigned) ≡ 64) × Few roles (now assigned) ⌝ }
     ensures { λ u. ⌜ Authorizes (now (below .entry)) users (now (assigned .entry)) u (now (assigned .exit)) ⌝ }

@@ -1,4 +1,5 @@
-// The lowest role on a loop of senior words, and an image judged by what its words mean together once they pass: the refusals 22 and 23.
+// The lowest role on a loop of senior words, and an image judged by what its words mean together once they pass: the
+// refusals 22 and 23.
 ghost use mathlib.Core.Path.{_≡_};
 ghost use lib.ListN.{getD};
 ghost use Prim.Native.Nat.{_≤_};
@@ -25,9 +26,9 @@ pub fn lowest_on_loop(below: &[u64; 64], roles: usize) -> usize
     roles
 }
 
-// What an image whose words are judged is judged by what they mean together: 22 with the lowest role on a loop, then 23 with the lowest
-// user who may activate more than 16 roles. The table of direct juniors is closed in place, and the table of assigned roles becomes that
-// of the roles that each user may activate.
+// What an image whose words are judged is judged by what they mean together: 22 with the lowest role on a loop, then 23
+// with the lowest user who may activate more than 16 roles. The table of direct juniors is closed in place, and the
+// table of assigned roles becomes that of the roles that each user may activate.
 pub fn judged(c: Checked, assigned: &mut [u64; 64], juniors: &mut [u64; 64]) -> Checked
     requires { ⌜ ((h : HeadOf) → c ≡ Checked.Accepted h → Fit h (now assigned) (now juniors)) ⌝ }
     ensures { λ r. ⌜ ((p : Policy) → Passed p c (now (assigned .entry)) (now (juniors .entry)) → Judged p c r (now (assigned .exit)) (now (juniors .exit))) ⌝ }

@@ -1,5 +1,6 @@
-// The shortest loop of the lowest role on one, shown: its roles from that role down and back to it, a byte each, and zeros after them.
-// Level k holds the roles from which k senior words lead down to the role; the chain takes the lowest junior in the next lower level.
+// The shortest loop of the lowest role on one, shown: its roles from that role down and back to it, a byte each, and
+// zeros after them. Level k holds the roles from which k senior words lead down to the role; the chain takes the lowest
+// junior in the next lower level.
 ghost use mathlib.Core.Path.{_≡_};
 ghost use mathlib.Core.List.{_++_};
 ghost use lib.ListN.{length, getD, replicate};
@@ -31,8 +32,8 @@ fn seniors_among(juniors: &[u64; 64], roles: usize, set: u64) -> u64
     found
 }
 
-// Fills level after level over role r until r itself is in one: how many senior words its shortest loop has, 65 where it is on none. The
-// rows from `roles` on are empty.
+// Fills level after level over role r until r itself is in one: how many senior words its shortest loop has, 65 where
+// it is on none. The rows from `roles` on are empty.
 fn fill_levels_among(juniors: &[u64; 64], roles: usize, r: Role, levels: &mut [u64; 64]) -> usize
     requires { ⌜ (r .0 < 64) × (length (now levels) ≡ 64) × (roles ≤ 64) × EmptyFrom roles (now juniors) ⌝ }
     ensures { λ n. ⌜ (n ≡ loopLength (now (juniors .entry)) (r .0)) × (n ≤ 64 → Levels (now (juniors .entry)) (r .0) n (now (levels .exit)))
@@ -97,8 +98,8 @@ fn put_chain(juniors: &[u64; 64], levels: &[u64; 64], r: Role, n: usize, chain: 
 
 // ---- the whole
 
-// The shortest loop of the lowest role on one fills the buffer, and its length is the extra; 19 for a buffer of another length than 64,
-// 20 where no role is on a loop.
+// The shortest loop of the lowest role on one fills the buffer, and its length is the extra; 19 for a buffer of another
+// length than 64, 20 where no role is on a loop.
 pub fn show_loop(juniors: &[u64; 64], roles: u8, chain: &mut [u8]) -> u64
     requires { ⌜ (roles ≤ 64) × (length (now juniors) ≡ 64) × Ranged (now juniors) roles ⌝ }
     ensures { λ x. ⌜ ((p : Policy) → InRange p → now (juniors .entry) ≡ p .juniors → p .head .roles ≡ roles

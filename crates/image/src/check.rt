@@ -1,4 +1,5 @@
-// The check: each word judged by the words before it, the earliest bad word decides, and the sum of all words comes last.
+// The check: each word judged by the words before it, the earliest bad word decides, and the sum of all words comes
+// last.
 ghost use mathlib.Core.Path.{_≡_};
 ghost use mathlib.Core.List.{List};
 ghost use Prim.Native.Nat.{ℕ, _+_, _-_, _*_, _≤_, _<_};
@@ -64,8 +65,8 @@ pub fn take_senior(h: Head, juniors: &mut [u64; 64], spare: u32, a: Role, b: Rol
     n
 }
 
-// 3 to 7, or 0. One match a word, so that one jump goes to the arm: each tests the spare bits and judges, and those of an assignment
-// and of a senior word store.
+// 3 to 7, or 0. One match a word, so that one jump goes to the arm: each tests the spare bits and judges, and those of
+// an assignment and of a senior word store.
 fn taken(
     h: Head,
     assigned: &mut [u64; 64],
@@ -179,8 +180,8 @@ fn check_words(
     }
 }
 
-// Judges an image by its words: accepted with the head's numbers, or refused by 1 to 8 with a place. Of an accepted image the tables have
-// the roles assigned to each user and the direct juniors of each role.
+// Judges an image by its words: accepted with the head's numbers, or refused by 1 to 8 with a place. Of an accepted
+// image the tables have the roles assigned to each user and the direct juniors of each role.
 pub fn check(image: &[u8], assigned: &mut [u64; 64], juniors: &mut [u64; 64]) -> Checked
     requires { ⌜ (now assigned ≡ emptyRows) × (now juniors ≡ emptyRows) ⌝ }
     ensures { λ r. ⌜ (r ≡ judgeWords (now (image .entry)))

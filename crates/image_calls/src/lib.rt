@@ -1,4 +1,5 @@
-// The calls on an image alone, over byte slices: what they return, and the refusal that every call under a refused image returns.
+// The calls on an image alone, over byte slices: what they return, and the refusal that every call under a refused
+// image returns.
 ghost use mathlib.Core.Path.{_≡_};
 ghost use lib.ListN.{length};
 ghost use Rattle.model.specs.Image.{checkNumber};

@@ -34,7 +34,8 @@ Grants h w (To r p) =
     × (p .0 < 256)
 Grants h w Nobody = 0 < 1
 
--- a usual word that, before the last and where no member is due, has no fault, taken into the roles assigned and the direct juniors so far
+-- a usual word that, before the last and where no member is due, has no fault, taken into the roles assigned and the
+-- direct juniors so far
 pub record Quick (h : Head) (w : ℕ) (assigned₀ juniors₀ assigned juniors : List ℕ) : Type 0 where
   pub usual : Usual (decode w .entry)
   pub faultless : (t : Scan) → t .due ≡ 0 → 0 ≡ fault h assigned₀ t false (decode w)
@@ -57,8 +58,8 @@ unfoldable pub placesFrom : List ℕ → ℕ → ℕ → List ℕ
 placesFrom s zero p = []
 placesFrom s (suc n) p = placed (entryAt s p) p (placesFrom s n (p + 1))
 
--- from one place of an image of so many words to another, over words that leave the state as it is: the scan and the tables from there on
--- are those from here on
+-- from one place of an image of so many words to another, over words that leave the state as it is: the scan and the
+-- tables from there on are those from here on
 pub record Passed
     (s : List ℕ) (h : Head) (words due from sum₀ : ℕ) (assigned₀ juniors₀ : List ℕ) (place sum : ℕ) (assigned juniors : List ℕ) : Type 0 where
   pub onward : from ≤ place
@@ -83,7 +84,8 @@ abbrev pub Led : List ℕ → Head → ℕ → ℕ → ℕ → List ℕ → List
 Led s h words from sum₀ assigned₀ juniors₀ place sum assigned juniors =
     (granted : List ℕ) → Filled s h words 0 from sum₀ assigned₀ granted juniors₀ place sum assigned granted juniors
 
--- the roles that the words assign to u, gathered into the row of u's roles: where they are 16 at most, the words are led through
+-- the roles that the words assign to u, gathered into the row of u's roles: where they are 16 at most, the words are
+-- led through
 abbrev pub Gathers : List ℕ → ℕ → ℕ → ℕ → ℕ → ℕ → ℕ → ℕ → ℕ → ℕ → Type 0
 Gathers s words from roles u sum₀ own place sum row =
     (h : Head) (assigned juniors : List ℕ) → h .roles ≡ roles → u < h .users → length assigned ≡ 64 → getD assigned u 0 ≡ own → count 64 row ≤ 16
@@ -97,7 +99,8 @@ pub record Joins (roles : ℕ) (t : Scan) (w : ℕ) (t′ : Scan) : Type 0 where
   pub faultless : (h : Head) (rows : List ℕ) → h .roles ≡ roles → 0 ≡ fault h rows t false (decode w)
   pub scan-is : t′ ≡ next t (decode w .entry)
 
--- from one place of an image to another, over members: the scan from there on is that from here on, and so is what every other table takes in
+-- from one place of an image to another, over members: the scan from there on is that from here on, and so is what
+-- every other table takes in
 pub record Joined (s : List ℕ) (roles words from sum₀ : ℕ) (t₀ : Scan) (place sum : ℕ) (t : Scan) : Type 0 where
   pub onward : from ≤ place
   pub inside : (n : ℕ) → words - 1 ≤ n → from ≤ n → place ≤ n

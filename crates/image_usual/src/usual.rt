@@ -1,4 +1,5 @@
-// The usual words, where no member is due: grants, assignments and senior words in range, with no spare bit, known by few tests.
+// The usual words, where no member is due: grants, assignments and senior words in range, with no spare bit, known by
+// few tests.
 ghost use mathlib.Core.Path.{_≡_};
 ghost use mathlib.Core.Bool.{true, false};
 ghost use mathlib.Core.List.{List};
@@ -26,8 +27,9 @@ pub enum Granting {
     Nobody,
 }
 
-// Whether the word is a grant in range with no spare bit. Turned by 14 bits, a word has its permission in the low byte and its spare bits at
-// the top, so that one comparison says that it is a grant, has no spare bit and names a role in range.
+// Whether the word is a grant in range with no spare bit. Turned by 14 bits, a word has its permission in the low byte
+// and its spare bits at the top, so that one comparison says that it is a grant, has no spare bit and names a role in
+// range.
 pub fn grants(h: Head, w: u32) -> Granting
     requires { ⌜ h .roles ≤ 64 ⌝ }
     ensures { λ g. ⌜ Grants h w g ⌝ }
@@ -56,9 +58,10 @@ struct Gathered {
     row: u64,
 }
 
-// The assignments to user u from a place on, in range and with no spare bit; `own` has the user's roles before. Turned by 16 bits, a word has
-// its spare bits above its kind, so that one comparison says that it assigns to u and has no spare bit. The roles are gathered aside, and
-// counted by the caller: where they are 16 at most, no word before had one too many.
+// The assignments to user u from a place on, in range and with no spare bit; `own` has the user's roles before. Turned
+// by 16 bits, a word has its spare bits above its kind, so that one comparison says that it assigns to u and has no
+// spare bit. The roles are gathered aside, and counted by the caller: where they are 16 at most, no word before had one
+// too many.
 fn gather(
     image: &[u8],
     words: usize,
@@ -241,9 +244,9 @@ pub fn pass(
     Run { place, sum: total }
 }
 
-// What a member that is due, in range, with no spare bit and not named before leaves to judge the next word by; any other word leaves as many
-// due. Turned by 22 bits, a word has its spare bits above its kind, so that one comparison says that it is a member, has no spare bit and
-// names a role in range.
+// What a member that is due, in range, with no spare bit and not named before leaves to judge the next word by; any
+// other word leaves as many due. Turned by 22 bits, a word has its spare bits above its kind, so that one comparison
+// says that it is a member, has no spare bit and names a role in range.
 fn member(roles: u8, t: Scan, w: u32) -> Scan
     requires { ⌜ roles ≤ 64 ⌝ }
     ensures { λ r. ⌜ ((r .due ≡ t .due → ⊥) → Joins roles t w r) ⌝ }

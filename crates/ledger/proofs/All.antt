@@ -1,4 +1,5 @@
--- Laws of a test of every member of a list: one turn of a loop over it, two such tests in either order, tests that say the same.
+-- Laws of a test of every member of a list: one turn of a loop over it, two such tests in either order, tests that say
+-- the same.
 -- Assumes nothing.
 use mathlib.Core.Path.{_≡_, refl, sym, ap, ap₂, _∙_}
 use mathlib.Core.Bool.{Bool, true, false, _&&_, not}

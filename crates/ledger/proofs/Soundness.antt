@@ -1,5 +1,5 @@
--- Laws of a line's soundness: the roles active in any session and the soundness of every session, one session a turn; the exclusions one
--- by one.
+-- Laws of a line's soundness: the roles active in any session and the soundness of every session, one session a turn;
+-- the exclusions one by one.
 -- Assumes nothing.
 use mathlib.Core.Path.{_≡_, refl, sym, ap, _∙_}
 use mathlib.Core.Bool.{Bool, true, false, _&&_, _||_, not}

@@ -1,4 +1,5 @@
--- What code judges a line by: each exclusion at every session, and the parts of a policy's meaning for one user that it holds.
+-- What code judges a line by: each exclusion at every session, and the parts of a policy's meaning for one user that it
+-- holds.
 -- Assumes nothing.
 use mathlib.Core.Path.{_≡_}
 use mathlib.Core.Bool.{Bool}

@@ -1,4 +1,5 @@
-// A line's bytes: 8 of open sessions, 8 of the user's history, then for each session 8 of active roles and 8 of its history.
+// A line's bytes: 8 of open sessions, 8 of the user's history, then for each session 8 of active roles and 8 of its
+// history.
 ghost use mathlib.Core.Path.{_≡_};
 ghost use Prim.Native.Nat.{_+_, _*_, _≤_};
 ghost use lib.ListN.{length, drop};

@@ -68,7 +68,8 @@ fn met_at_each(l: Line, x: Exclusion) -> bool
     true
 }
 
-// The exclusion is met at every session. A kind over all of the user's sessions counts the same at each, so one test is enough.
+// The exclusion is met at every session. A kind over all of the user's sessions counts the same at each, so one test is
+// enough.
 fn exclusion_met(l: Line, x: Exclusion) -> bool
     ensures { λ r. ⌜ r ≡ metAt l x ⌝ }
 {
@@ -96,7 +97,8 @@ fn named_in(sessions: [Session; SESSIONS]) -> u64
     roles
 }
 
-// The exclusion is met at every session, by all roles that the line names: where fewer than n of those are members, no session has more.
+// The exclusion is met at every session, by all roles that the line names: where fewer than n of those are members, no
+// session has more.
 fn met_by_all(l: Line, all: u64, x: Exclusion) -> bool
     requires { ⌜ all ≡ namedBy l ⌝ }
     ensures { λ r. ⌜ r ≡ metAt l x ⌝ }
@@ -125,8 +127,8 @@ pub fn exclusions_met(l: Line, xs: &[[u64; 2]; 32], count: usize) -> bool
 
 // ---- sessions
 
-// Session k is zero where it is closed, its active roles are in its history, that in the user's, and it has no role active that the user
-// may not activate. An empty session is, open or closed.
+// Session k is zero where it is closed, its active roles are in its history, that in the user's, and it has no role
+// active that the user may not activate. An empty session is, open or closed.
 fn session_sound(l: Line, k: usize, s: Session, authorized: u64) -> bool
     requires { ⌜ k < 64 ⌝ }
     ensures { λ r. ⌜ ((m : Meaning) → m .authorized ≡ authorized → r ≡ sessionSound m l k s) ⌝ }

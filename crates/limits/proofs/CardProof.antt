@@ -1,4 +1,5 @@
--- Limits are kept: a call changes how many sessions hold a role on one line alone, and there it puts in no role over its limit.
+-- Limits are kept: a call changes how many sessions hold a role on one line alone, and there it puts in no role over
+-- its limit.
 -- Assumes nothing.
 use mathlib.Core.Path.{_≡_, refl, sym, ap, _∙_, subst}
 use mathlib.Core.Logic.{inl, inr}

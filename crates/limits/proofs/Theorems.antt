@@ -1,4 +1,5 @@
--- The theorems on limits, each one claim. The arguments stand in the files that are cited; docs/PROOFS.md says which demand each one meets.
+-- The theorems on limits, each one claim. The arguments stand in the files that are cited; docs/PROOFS.md says which
+-- demand each one meets.
 -- Assumes nothing.
 use mathlib.Core.Path.{_≡_}
 use mathlib.Core.Bool.{false}
@@ -30,7 +31,8 @@ module _ (s : List ℕ) (h : Head) (accepted : judge s ≡ Accepted h) where
   pub limits-kept : (W : ℕ) → W ≤ 64 → LimitsKept W s
   limits-kept W wide = CardProof.limits-kept W wide s h accepted
 
-  -- an ask, an obstacle or a clause text under a policy with limits is refused by 11 exactly if some line is not sound, and names the lowest user with one
+  -- an ask, an obstacle or a clause text under a policy with limits is refused by 11 exactly if some line is not sound,
+  -- and names the lowest user with one
   pub asks-eleven : (W : ℕ) → W ≤ 64 → AsksEleven W s
   asks-eleven W wide = ElevenProof.asks-eleven W wide s h accepted
 

@@ -1,5 +1,6 @@
--- Two runs of one user under a policy with limits that differ in all that others may change, though each of the user's asks is told the
--- same of them: in how many of their sessions a limited role is active, and not in whose, nor in which session.
+-- Two runs of one user under a policy with limits that differ in all that others may change, though each of the user's
+-- asks is told the same of them: in how many of their sessions a limited role is active, and not in whose, nor in which
+-- session.
 -- Assumes nothing.
 use mathlib.Core.Path.{_≡_}
 use mathlib.Core.Bool.{true}
@@ -14,8 +15,8 @@ use Rattle.model.specs.Session.{done, given}
 use Rattle.model.specs.Run.{Call, openBy, closeBy, askBy, showBy, explainBy}
 use Rattle.model.specs.Independence.{Run, eventsOf, viewOf, toldOf, SameFor}
 
--- three users, two roles that carry the one permission, fewer than 2 sessions for role 0; the first user may activate both roles, the
--- second role 0, the third none
+-- three users, two roles that carry the one permission, fewer than 2 sessions for role 0; the first user may activate
+-- both roles, the second role 0, the third none
 unfoldable pub oneImage : List ℕ
 oneImage =
     imageBytes
@@ -45,10 +46,10 @@ otherLedger = replicate 144 0 ++ (idle 0 2 ++ idle 1 1)
 unfoldable pub asks : ℕ → ℕ → Call
 asks u k = askBy u k (bytesOf 32 1) (bytesOf 32 1) 0 0 40
 
--- The first user asks in a session while another user has role 0 active, is shown and explained what that gave, closes the session, opens it
--- again and asks once more, after that one closed. In the first run that is the second user in session 0, who closes before the show; in the
--- other the third in session 1, who closes after the second open, and the second has role 1 meanwhile: what others hold differs at all of
--- the user's calls that are no asks.
+-- The first user asks in a session while another user has role 0 active, is shown and explained what that gave, closes
+-- the session, opens it again and asks once more, after that one closed. In the first run that is the second user in
+-- session 0, who closes before the show; in the other the third in session 1, who closes after the second open, and the
+-- second has role 1 meanwhile: what others hold differs at all of the user's calls that are no asks.
 unfoldable pub oneList : List Call
 oneList =
     openBy 1 ∷ asks 1 0 ∷ openBy 0 ∷ asks 0 0 ∷ closeBy 1 0 ∷ showBy 0 0 40 ∷ explainBy 0 0 0 ∷ closeBy 0 0 ∷ openBy 0 ∷ asks 0 0 ∷ []
@@ -58,8 +59,8 @@ otherList =
     openBy 0 ∷ openBy 2 ∷ openBy 1 ∷ asks 2 1 ∷ asks 1 0 ∷ asks 0 0 ∷ showBy 0 0 40 ∷ explainBy 0 0 0 ∷ closeBy 0 0 ∷ openBy 0 ∷ closeBy 2 1
     ∷ asks 0 0 ∷ openBy 2 ∷ []
 
--- These are two runs, and they are the same for the first user, whose asks find one other session with role 0, and then none: role 1 is
--- put in, and then role 0, the lower one. Every call of both runs is done.
+-- These are two runs, and they are the same for the first user, whose asks find one other session with role 0, and then
+-- none: role 1 is put in, and then role 0, the lower one. Every call of both runs is done.
 pub record ApartLimited : Type 0 where
   pub one : Run SESSIONS
   pub other : Run SESSIONS

@@ -1,4 +1,5 @@
--- Limits are kept (001: CARD): the roles that an ask puts in are within their limits, and no call takes any role over its limit.
+-- Limits are kept (001: CARD): the roles that an ask puts in are within their limits, and no call takes any role over
+-- its limit.
 -- Assumes nothing.
 use mathlib.Core.Path.{_≡_}
 use mathlib.Core.Bool.{true}

@@ -1,5 +1,5 @@
--- What an ask, an obstacle or a clause text under a policy with limits says of lines that are not sound: it is refused by 11 exactly if there
--- is one, and the extra names the lowest user with one, plus 1, unless that is the asker.
+-- What an ask, an obstacle or a clause text under a policy with limits says of lines that are not sound: it is refused
+-- by 11 exactly if there is one, and the extra names the lowest user with one, plus 1, unless that is the asker.
 -- Assumes nothing.
 use mathlib.Core.Path.{_≡_}
 use mathlib.Core.Bool.{true, false}
@@ -19,7 +19,8 @@ pub record LowestUnsound (W : ℕ) (p : Policy) (ledger : List ℕ) (v : ℕ) : 
   pub unsound : sound W (meaning p v) (lineOf W ledger v) ≡ false
   pub lowest : (w : ℕ) → w < v → sound W (meaning p w) (lineOf W ledger w) ≡ true
 
--- the answer r to user u: 11 where any line is not sound, with the lowest user who has one named, and another number where all are sound
+-- the answer r to user u: 11 where any line is not sound, with the lowest user who has one named, and another number
+-- where all are sound
 pub record Eleven (W : ℕ) (p : Policy) (ledger : List ℕ) (u : ℕ) (r : Reply) : Type 0 where
   pub number : (v : ℕ) → v < p .head .users → sound W (meaning p v) (lineOf W ledger v) ≡ false → r .number ≡ 11
   pub extra : (v : ℕ) → LowestUnsound W p ledger v → r .extra ≡ pick (eqb v u) 0 (v + 1)

@@ -1,5 +1,5 @@
-// A count for each role, kept in words: bit r of the plane for 2^i is bit i of the count of role r. A word adds one to each of its roles
-// with a few operations on whole words.
+// A count for each role, kept in words: bit r of the plane for 2^i is bit i of the count of role r. A word adds one to
+// each of its roles with a few operations on whole words.
 ghost use mathlib.Core.Path.{_≡_};
 ghost use Prim.Native.Nat.{ℕ, _+_, _<_};
 ghost use Rattle.model.specs.Sets.{has, one};

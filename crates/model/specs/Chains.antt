@@ -39,7 +39,8 @@ pub record LowestOnLoop (p : Policy) (r : ℕ) : Type 0 where
   pub loop : Below p r r
   pub lowest : (a : ℕ) → a < r → ¬ Below p a a
 
--- user u may activate role r: a chain of senior words leads to it from a role assigned to the user (ANSI INCITS 359: authorized)
+-- user u may activate role r: a chain of senior words leads to it from a role assigned to the user (ANSI INCITS 359:
+-- authorized)
 pub record Authorized (p : Policy) (u r : ℕ) : Type 0 where
   pub senior : ℕ
   pub assigned : has (getD (p .assigned) u 0) senior ≡ true
@@ -59,7 +60,8 @@ pub record Provides (p : Policy) (s m : ℕ) : Type 0 where
 
 -- ---- through which role
 
--- role g is the granting role of the permission m for role r: it is reached from r and holds the grant, and no lower role does both
+-- role g is the granting role of the permission m for role r: it is reached from r and holds the grant, and no lower
+-- role does both
 pub record Granting (p : Policy) (r m g : ℕ) : Type 0 where
   pub chain : Chain p r g
   pub grant : grants p g m ≡ true

@@ -1,4 +1,5 @@
--- The choice of a role set (the User Authorization Query): which sets are admissible, and the best of them by the two objectives.
+-- The choice of a role set (the User Authorization Query): which sets are admissible, and the best of them by the two
+-- objectives.
 -- Assumes nothing.
 use mathlib.Core.Bool.{Bool, true, false, _&&_}
 use mathlib.Core.Option.{Option, none, some}
@@ -14,13 +15,14 @@ use Rattle.model.specs.Line.{exclusionsMet, putIn}
 unfoldable pub carriedBy : Meaning → ℕ → ℕ
 carriedBy m s = unionAt (m .carried) s
 
--- s holds roles that the user may activate, carries all of the lower bound and nothing outside the upper, and once put in for session k
--- leaves every exclusion met
+-- s holds roles that the user may activate, carries all of the lower bound and nothing outside the upper, and once put
+-- in for session k leaves every exclusion met
 unfoldable pub admissible : Meaning → Line → ℕ → ℕ → ℕ → ℕ → Bool
 admissible m l k lower upper s =
     within s (m .authorized) && within lower (carriedBy m s) && within (carriedBy m s) upper && exclusionsMet m (putIn k s l)
 
--- what an objective (01: aim) makes of a count, which is at most 256; the lower, the better: 0 is any, 1 the fewest, 2 the most
+-- what an objective (01: aim) makes of a count, which is at most 256; the lower, the better: 0 is any, 1 the fewest, 2
+-- the most
 unfoldable pub cost : ℕ → ℕ → ℕ
 cost zero n = 0
 cost (suc zero) n = n
@@ -32,7 +34,8 @@ permissionCost m a s = cost a (count 256 (carriedBy m s))
 unfoldable pub roleCost : ℕ → ℕ → ℕ
 roleCost b s = cost b (count 64 s)
 
--- s is better than t: by all permissions carried under the first objective, by roles under the second, by the lower set number
+-- s is better than t: by all permissions carried under the first objective, by roles under the second, by the lower set
+-- number
 unfoldable pub better : Meaning → ℕ → ℕ → ℕ → ℕ → Bool
 better m a b s t = earlier (permissionCost m a s) (permissionCost m a t) (roleCost b s) (roleCost b t) s t
 

@@ -1,5 +1,5 @@
--- What the choice gives: the admissible set that no admissible set is better than, and so among those without barred roles; and what
--- better means, in counts.
+-- What the choice gives: the admissible set that no admissible set is better than, and so among those without barred
+-- roles; and what better means, in counts.
 -- Assumes nothing.
 use mathlib.Core.Path.{_≡_}
 use mathlib.Core.Bool.{Bool, true, false, _&&_, _||_}
@@ -26,14 +26,15 @@ pub record ChoiceIs (m : Meaning) (l : Line) (k lower upper a b : ℕ) : Type 0 
   pub is-none : (choose m l k lower upper a b ≡ none) ↔ ((t : ℕ) → admissible m l k lower upper t ≡ false)
   pub is-unique : (s t : ℕ) → IsBest m l k lower upper a b s → IsBest m l k lower upper a b t → s ≡ t
 
--- n is before k under an objective: 1 is the fewest, 2 the most; where that does not tell them apart, and under 0, the rest does
+-- n is before k under an objective: 1 is the fewest, 2 the most; where that does not tell them apart, and under 0, the
+-- rest does
 unfoldable pub before : ℕ → ℕ → ℕ → Bool → Bool
 before zero n k rest = rest
 before (suc zero) n k rest = ltb n k || (eqb n k && rest)
 before (suc (suc a)) n k rest = ltb k n || (eqb n k && rest)
 
--- s is better than t by the count of all permissions carried under the first objective, then by the count of roles under the second, then
--- by the lower set number
+-- s is better than t by the count of all permissions carried under the first objective, then by the count of roles
+-- under the second, then by the lower set number
 abbrev pub RankIs : Meaning → Type 0
 RankIs m = (a b s t : ℕ)
     → better m a b s t
@@ -55,8 +56,8 @@ pub record IsBestUnbarred (m : Meaning) (x : Others) (l : Line) (k : ℕ) (q : Q
   pub is-unbarred : Unbarred m x l k s
   pub is-first : (t : ℕ) → Meets m l k q t → Unbarred m x l k t → better m (q .permissionAim) (q .roleAim) t s ≡ false
 
--- a query is answered with exactly the best set without barred roles, with none exactly if no such set is admissible, and there is
--- only one best set
+-- a query is answered with exactly the best set without barred roles, with none exactly if no such set is admissible,
+-- and there is only one best set
 pub record ChosenIs (m : Meaning) (x : Others) (l : Line) (k : ℕ) (q : Query) : Type 0 where
   pub is-best : (s : ℕ) → (chosen m x l k q ≡ some s) ↔ IsBestUnbarred m x l k q s
   pub is-none : (chosen m x l k q ≡ none) ↔ ((t : ℕ) → Meets m l k q t → ¬ Unbarred m x l k t)

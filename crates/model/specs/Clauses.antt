@@ -1,6 +1,6 @@
--- An ask as weighted clauses for an outside solver (PMaxSAT): hard clauses that say which role sets are admissible, soft clauses for the
--- two objectives. Role r is variable r + 1, permission q is R + q + 1, and the helpers of the exclusions follow. docs/CLAUSES.md has the
--- rule in words.
+-- An ask as weighted clauses for an outside solver (PMaxSAT): hard clauses that say which role sets are admissible,
+-- soft clauses for the two objectives. Role r is variable r + 1, permission q is R + q + 1, and the helpers of the
+-- exclusions follow. docs/CLAUSES.md has the rule in words.
 -- Assumes nothing.
 use mathlib.Core.Bool.{Bool, true, false, not}
 use mathlib.Core.List.{List, [], _∷_, _++_}
@@ -103,8 +103,9 @@ uncounted x base = variablesIn (maskOf (x .members) base)
 unfoldable pub room : Exclusion → ℕ → ℕ
 room x base = roomOf (x .members) (x .limit) base
 
--- The counter of the variables x₁, .., xₘ up to n: a row of n helpers for each. Where a row stands behind number a, its helper a + j says
--- that at least j of the variables up to the row's own are true. The next row, of the variable x, stands behind a + n.
+-- The counter of the variables x₁, .., xₘ up to n: a row of n helpers for each. Where a row stands behind number a, its
+-- helper a + j says that at least j of the variables up to the row's own are true. The next row, of the variable x,
+-- stands behind a + n.
 
 -- what was counted stays counted
 unfoldable pub keeping : ℕ → ℕ → List Clause

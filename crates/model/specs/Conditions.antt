@@ -1,5 +1,6 @@
--- What it is for a role set to be admissible, as the solution conditions 1 to 6 of 001 (its theorem 2.1), with the kinds of exclusion
--- counted by 001's table 1: for the roles s as the active ones of session k, in place of the old ones.
+-- What it is for a role set to be admissible, as the solution conditions 1 to 6 of 001 (its theorem 2.1), with the
+-- kinds of exclusion counted by 001's table 1: for the roles s as the active ones of session k, in place of the old
+-- ones.
 -- Assumes nothing.
 use mathlib.Core.Path.{_≡_}
 use mathlib.Core.Logic.{_≢_}
@@ -24,8 +25,9 @@ use Rattle.model.specs.Chains.{Authorized, Provides}
 abbrev pub ActiveElsewhere : Line → ℕ → ℕ → Type 0
 ActiveElsewhere l k r = (i : ℕ) × (i < length (l .sessions)) × (i ≢ k) × (has (sessionAt l i .active) r ≡ true)
 
--- what each kind counts at session j once s is put in for session k: the roles active in session j, where the replaced ones do not count;
--- s and the roles active in the other sessions; session j's history, with s where it is session k; the user's history with s
+-- what each kind counts at session j once s is put in for session k: the roles active in session j, where the replaced
+-- ones do not count; s and the roles active in the other sessions; session j's history, with s where it is session k;
+-- the user's history with s
 unfoldable pub countedAfter : Line → ℕ → ℕ → ℕ → Kind → ℕ
 countedAfter l k s j SsDmer = pick (eqb j k) s (sessionAt l j .active)
 countedAfter l k s j MsDmer = union s (activeIn (others k (l .sessions)))
@@ -36,8 +38,8 @@ countedAfter l k s j MsHmer = union (l .history) s
 abbrev pub MetAfter : Line → ℕ → ℕ → ℕ → Exclusion → Type 0
 MetAfter l k s j x = count 64 (inter (x .members) (countedAfter l k s j (x .kind))) < x .limit
 
--- the roles are the user's (condition 1), they provide every permission of the lower bound (2) and none outside the upper (3), where
--- what they provide is what they carry (4 and 5), and every exclusion is met at every session (6)
+-- the roles are the user's (condition 1), they provide every permission of the lower bound (2) and none outside the
+-- upper (3), where what they provide is what they carry (4 and 5), and every exclusion is met at every session (6)
 pub record Conditions (p : Policy) (u : ℕ) (l : Line) (k lb ub s : ℕ) : Type 0 where
   pub own : (r : ℕ) → has s r ≡ true → has (authorized p u) r ≡ true
   pub lower : (q : ℕ) → has lb q ≡ true → has (carriedBy (meaning p u) s) q ≡ true
@@ -51,8 +53,8 @@ pub record Solution (p : Policy) (u : ℕ) (l : Line) (k lb ub s : ℕ) : Type 0
   pub upper : (q : ℕ) → has (carriedBy (meaning p u) s) q ≡ true → has ub q ≡ true
   pub exclusions : (x : Exclusion) → List·Memᴰ x (p .exclusions) → MetAfter l k s k x
 
--- the same in the words of a policy: a role is the user's where a chain of senior words leads to it from an assigned one, and what the
--- roles provide is what a grant gives to a role reached from one of them by such a chain (001's π)
+-- the same in the words of a policy: a role is the user's where a chain of senior words leads to it from an assigned
+-- one, and what the roles provide is what a grant gives to a role reached from one of them by such a chain (001's π)
 pub record Admitted (p : Policy) (u : ℕ) (l : Line) (k lb ub s : ℕ) : Type 0 where
   pub own : (r : ℕ) → has s r ≡ true → Authorized p u r
   pub lower : (q : ℕ) → has lb q ≡ true → Provides p s q

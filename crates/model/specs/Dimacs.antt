@@ -1,5 +1,6 @@
--- The text of an ask's clauses, in the classic DIMACS form for weighted clauses: a line `p wcnf`, with the numbers of variables and clauses
--- and the weight of a hard clause, then a line for each clause: its weight, its literals, and 0. Numbers are decimal, one blank between two.
+-- The text of an ask's clauses, in the classic DIMACS form for weighted clauses: a line `p wcnf`, with the numbers of
+-- variables and clauses and the weight of a hard clause, then a line for each clause: its weight, its literals, and 0.
+-- Numbers are decimal, one blank between two.
 -- Assumes nothing.
 use mathlib.Core.Bool.{true, false}
 use mathlib.Core.List.{List, [], _∷_, _++_, map}

@@ -1,5 +1,5 @@
--- What single definitions give on small arguments, by computation. Each fact is false of a wrong definition that must-fail/ tries. The
--- cases from the bytes of whole images stand in crates/model_cases.
+-- What single definitions give on small arguments, by computation. Each fact is false of a wrong definition that
+-- must-fail/ tries. The cases from the bytes of whole images stand in crates/model_cases.
 -- Assumes nothing.
 use mathlib.Core.Path.{_≡_, refl, ap}
 use mathlib.Core.Bool.{Bool, true, false, _&&_, not}
@@ -299,7 +299,8 @@ barred-below-the-limit = refl
 
 -- ---- the choice
 
--- role 0 carries permission 0, and so does role 1; role 2 carries the permissions 0 and 1; role 16 carries permission 64
+-- role 0 carries permission 0, and so does role 1; role 2 carries the permissions 0 and 1; role 16 carries permission
+-- 64
 abbrev carrying : Meaning
 carrying =
     record {
@@ -353,8 +354,8 @@ lower-number = refl
 abbrev bothOf : Kind → Exclusion
 bothOf kind = record { kind = kind; limit = 2; members = 3 }
 
--- role 0 carries the permissions 0 and 2, role 1 permission 1, role 2 permission 3; the user may activate the roles 0 and 1; role 1 has the
--- limit 2; of two exclusions of the roles 0 and 1 the later by kind stands first in the image
+-- role 0 carries the permissions 0 and 2, role 1 permission 1, role 2 permission 3; the user may activate the roles 0
+-- and 1; role 1 has the limit 2; of two exclusions of the roles 0 and 1 the later by kind stands first in the image
 abbrev obstructing : Meaning
 obstructing =
     record {

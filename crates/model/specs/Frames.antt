@@ -1,5 +1,5 @@
--- What calls leave alone: a line's bytes and its value determine each other, a call changes no byte outside its user's line, and no
--- byte of a session other than its own.
+-- What calls leave alone: a line's bytes and its value determine each other, a call changes no byte outside its user's
+-- line, and no byte of a session other than its own.
 -- Assumes nothing.
 use mathlib.Core.Path.{_≡_}
 use mathlib.Core.Logic.{_⊎_}
@@ -38,9 +38,9 @@ pub record LineBytes (W : ℕ) : Type 0 where
 abbrev pub Outside : ℕ → ℕ → ℕ → Type 0
 Outside z u i = (i < z * u) ⊎ (z * u + z ≤ i)
 
--- A call, on lines of z bytes, keeps the ledger's length and every byte outside its user's line. A refused one, whose number is not 0,
--- keeps the whole ledger and fills nothing; one that is done fills nothing or the whole answer buffer, 16 bytes for an obstacle and else 40, and
--- a clause text as many bytes as its extra says.
+-- A call, on lines of z bytes, keeps the ledger's length and every byte outside its user's line. A refused one, whose
+-- number is not 0, keeps the whole ledger and fills nothing; one that is done fills nothing or the whole answer buffer,
+-- 16 bytes for an obstacle and else 40, and a clause text as many bytes as its extra says.
 pub record Frame (z : ℕ) (c : Call) (before : List ℕ) (e : Event) : Type 0 where
   pub keeps-length : length (e .ledger) ≡ length before
   pub outside : (i : ℕ) → Outside z (c .user) i → getD (e .ledger) i 0 ≡ getD before i 0
@@ -93,8 +93,8 @@ TextsKeep W = (image ledger : List ℕ) (c : Call) (buffer : List ℕ) → isTex
 unfoldable pub sessionBytes : ℕ → List ℕ → List ℕ
 sessionBytes j bs = take 16 (drop (16 + 16 * j) bs)
 
--- On a line bs, a call changes no byte of a session other than the one that it names. An open, which names none, changes nothing behind
--- the eight bytes of open sessions, so no byte of any session; a close keeps the user's history.
+-- On a line bs, a call changes no byte of a session other than the one that it names. An open, which names none,
+-- changes nothing behind the eight bytes of open sessions, so no byte of any session; a close keeps the user's history.
 pub record SessionFrame (W : ℕ) (m : Meaning) (x : Others) (bs : List ℕ) : Type 0 where
   pub others : (op : Operation) (j : ℕ) → ¬ (j ≡ sessionOf op) → sessionBytes j (rule W m x bs op .line) ≡ sessionBytes j bs
   pub by-open : (j : ℕ) → sessionBytes j (rule W m x bs open-session .line) ≡ sessionBytes j bs

@@ -1,5 +1,6 @@
--- The policy image: bytes, words, entries, and the judgement of an image by its words: accepted with the head's numbers, or refused by
--- 1 to 8 with a place. The named parts of a fault follow the lines 3 to 7 of 01's refusal register.
+-- The policy image: bytes, words, entries, and the judgement of an image by its words: accepted with the head's
+-- numbers, or refused by 1 to 8 with a place. The named parts of a fault follow the lines 3 to 7 of 01's refusal
+-- register.
 -- Assumes nothing.
 use mathlib.Core.Bool.{Bool, true, false, _&&_, _||_, not}
 use mathlib.Core.List.{List}
@@ -66,9 +67,11 @@ decode w =
     (pick (isKind w 7) (says (Limit (role (field w 22 6)) (field w 13 9)) (w % 2 ^ 13))
     (pick (isKind w 15) (says End 0) (says Unknown 0)))))))
 
--- ---- the faults of a word behind the head; `final` says that it is the last word, `rows` has the roles assigned so far, a row a user
+-- ---- the faults of a word behind the head; `final` says that it is the last word, `rows` has the roles assigned so
+-- far, a row a user
 
--- 3: a word of no kind, a member not due, another word where a member is due, an end before the end, a last word that is no end
+-- 3: a word of no kind, a member not due, another word where a member is due, an end before the end, a last word that
+-- is no end
 unfoldable pub wrongKind : Bool → ℕ → Entry → Bool
 wrongKind final due (Assignment u r) = final || not (eqb due 0)
 wrongKind final due (Grant r p) = final || not (eqb due 0)

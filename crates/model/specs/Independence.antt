@@ -1,6 +1,6 @@
--- The independence rule: what a user sees of a run, what the session rules give that user, and the claim that these are the same,
--- whatever the other users' assignments, lines and calls are. Under a policy with limits the rules go by what the user's asks are told
--- of the other users, and by nothing else of them.
+-- The independence rule: what a user sees of a run, what the session rules give that user, and the claim that these are
+-- the same, whatever the other users' assignments, lines and calls are. Under a policy with limits the rules go by what
+-- the user's asks are told of the other users, and by nothing else of them.
 -- Assumes nothing.
 use mathlib.Core.Path.{_≡_}
 use mathlib.Core.Bool.{Bool, true, false, _&&_, _||_}
@@ -21,8 +21,8 @@ use Rattle.model.specs.OwnWords.{policyIn, ownWords}
 
 -- ---- the session rules alone
 
--- the session rules over a list of one user's calls, each on the line that the one before left: every answer, with the line after it;
--- the calls are told the members of xs in turn, and nothing of other users where there is none
+-- the session rules over a list of one user's calls, each on the line that the one before left: every answer, with the
+-- line after it; the calls are told the members of xs in turn, and nothing of other users where there is none
 unfoldable pub rules : ℕ → Meaning → List ℕ → List Others → List Operation → List Result
 rules W m bs xs [] = []
 rules W m bs xs (o ∷ os) = let r = rule W m (getD xs 0 nobody) bs o in r ∷ rules W m (r .line) (drop 1 xs) os
@@ -97,8 +97,8 @@ SteadyFor W u r = Steady (lineSize W) u (firstLine W u r) (r .calls) (eventsOf W
 unfoldable pub hasText : List Operation → Bool
 hasText os = any isText os
 
--- a result without what follows the order of the image's words: of a clause text that is written, or refused by 19 as too long, the line
--- after it is left, and not which of the two it is, nor the text; every other result is left whole
+-- a result without what follows the order of the image's words: of a clause text that is written, or refused by 19 as
+-- too long, the line after it is left, and not which of the two it is, nor the text; every other result is left whole
 unfoldable pub besideText : Operation → Result → Result
 besideText o r = pick (isText o && (eqb (r .reply .number) 0 || eqb (r .reply .number) 19)) (record { reply = done 0; line = r .line }) r
 
@@ -108,8 +108,9 @@ besideTexts [] rs = rs
 besideTexts (o ∷ os) [] = []
 besideTexts (o ∷ os) (r ∷ rs) = besideText o r ∷ besideTexts os rs
 
--- two runs that are the same for user u, who has a line: the policies agree in all but other users' assignments, the first ledgers
--- agree in u's line, u makes the same calls in the same order and, where the policy has limits, is told the same of the other users
+-- two runs that are the same for user u, who has a line: the policies agree in all but other users' assignments, the
+-- first ledgers agree in u's line, u makes the same calls in the same order and, where the policy has limits, is told
+-- the same of the other users
 pub record SameFor (W u : ℕ) (r s : Run W) : Type 0 where
   pub agree : Agree u (policyOf (r .image)) (policyOf (s .image))
   pub below : u < r .head .users
@@ -117,14 +118,15 @@ pub record SameFor (W u : ℕ) (r s : Run W) : Type 0 where
   pub calls : callsOf u (r .calls) ≡ callsOf u (s .calls)
   pub told : toldOf W u r ≡ toldOf W u s
 
--- where a clause text is among u's calls, both images, other users' assignments and the end word left out, are the same words in the
--- same order
+-- where a clause text is among u's calls, both images, other users' assignments and the end word left out, are the same
+-- words in the same order
 abbrev pub SameWords : (W u : ℕ) → Run W → Run W → Type 0
 SameWords W u r s = hasText (callsOf u (r .calls)) ≡ true → ownWords u (r .image) ≡ ownWords u (s .image)
 
--- User u sees the same in both runs: at every call, texts that are written or too long aside, and at these too where the words are the
--- same. It is what the session rules give from u's own policy, first line, calls and what those are told; nobody else's call changes u's
--- line. The rules may be fed the image's words in place of the policy, other users' assignments and the end word left out.
+-- User u sees the same in both runs: at every call, texts that are written or too long aside, and at these too where
+-- the words are the same. It is what the session rules give from u's own policy, first line, calls and what those are
+-- told; nobody else's call changes u's line. The rules may be fed the image's words in place of the policy, other
+-- users' assignments and the end word left out.
 pub record Independent (W u : ℕ) (r s : Run W) : Type 0 where
   pub beside-texts : besideTexts (callsOf u (r .calls)) (viewOf W u r) ≡ besideTexts (callsOf u (s .calls)) (viewOf W u s)
   pub same : SameWords W u r s → viewOf W u r ≡ viewOf W u s

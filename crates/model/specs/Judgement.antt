@@ -24,7 +24,8 @@ lowestOverReach p = lowest (λ u. ltb 16 (count 64 (authorized p u))) 0 (p .head
 unfoldable pub refusing : ℕ → ℕ → ℕ → Checked → Checked
 refusing n x bound v = elim (ltb x bound) [ true ↦ Refused n x | false ↦ v ]
 
--- 22, loop: a role stands below itself; the lowest such role. 23, reach: a user may activate more than 16 roles; the lowest such user
+-- 22, loop: a role stands below itself; the lowest such role. 23, reach: a user may activate more than 16 roles; the
+-- lowest such user
 unfoldable pub judgeMeaning : Policy → Checked → Checked
 judgeMeaning p (Refused n place) = Refused n place
 judgeMeaning p (Accepted h) =

@@ -1,4 +1,5 @@
--- Soundness is kept: what calls leave of a sound line is a sound line, and a run that begins with the zero ledger never gives 11.
+-- Soundness is kept: what calls leave of a sound line is a sound line, and a run that begins with the zero ledger never
+-- gives 11.
 -- Assumes nothing.
 use mathlib.Core.Path.{_≡_}
 use mathlib.Core.Bool.{true}
@@ -26,8 +27,8 @@ Antitone m = (f g : Kind → ℕ) → Fewer f g → m .allMet g ≡ true → m .
 abbrev pub SoundBytes : ℕ → Meaning → List ℕ → Type 0
 SoundBytes W m bs = sound W m (readLine W bs) ≡ true
 
--- one user's line: exclusions pass to smaller counts, the zero line is sound, and every call on a sound line leaves a sound line,
--- whatever it is told of other users
+-- one user's line: exclusions pass to smaller counts, the zero line is sound, and every call on a sound line leaves a
+-- sound line, whatever it is told of other users
 pub record LineKept (W : ℕ) (m : Meaning) : Type 0 where
   pub antitone : Antitone m
   pub zero-line : SoundBytes W m (replicate (lineSize W) 0)

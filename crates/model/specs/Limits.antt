@@ -10,7 +10,8 @@ use Rattle.model.specs.Sets.{has, setOf}
 use Rattle.model.specs.Policy.{limited, Meaning}
 use Rattle.model.specs.Line.{holding, others}
 
--- what other users contribute: in how many of their sessions each limited role is active, and the lowest of them whose line is not sound
+-- what other users contribute: in how many of their sessions each limited role is active, and the lowest of them whose
+-- line is not sound
 pub record Others : Type 0 where
   pub held : ℕ → ℕ
   pub unsound : Option ℕ

@@ -76,7 +76,8 @@ exclusionsMet m l = all (λ s. m .allMet (counted l s)) (l .sessions)
 
 -- ---- soundness
 
--- session k: zero where closed; active within its history, that within the user's; active within the roles that the user may activate
+-- session k: zero where closed; active within its history, that within the user's; active within the roles that the
+-- user may activate
 unfoldable pub sessionSound : Meaning → Line → ℕ → Session → Bool
 sessionSound m l k s =
     (isOpen l k || (eqb (s .active) 0 && eqb (s .history) 0)) && within (s .active) (s .history) && within (s .history) (l .history)

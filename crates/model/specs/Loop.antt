@@ -1,4 +1,5 @@
--- The loop call: the lowest role that stands below itself, shown by a shortest chain of senior words from it down and back to it.
+-- The loop call: the lowest role that stands below itself, shown by a shortest chain of senior words from it down and
+-- back to it.
 -- Assumes nothing.
 use mathlib.Core.Bool.{true, false}
 use mathlib.Core.List.{List, [], _∷_, _++_}
@@ -29,7 +30,8 @@ level juniors r (suc k) = seniorsOf juniors (level juniors r k)
 unfoldable pub loopLength : List ℕ → ℕ → ℕ
 loopLength juniors r = lowest (λ n. has (level juniors r n) r) 1 64
 
--- a chain of k senior words from role a down to role r, a itself left out: each role the lowest junior from which one leads on
+-- a chain of k senior words from role a down to role r, a itself left out: each role the lowest junior from which one
+-- leads on
 unfoldable pub chainDown : List ℕ → ℕ → ℕ → ℕ → List ℕ
 chainDown juniors r a zero = []
 chainDown juniors r a (suc k) =

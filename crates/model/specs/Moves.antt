@@ -80,8 +80,9 @@ narrowed image old new = move 8 4 image old new
 unfoldable pub padded : ℕ → Line → Line
 padded d l = record { opened = l .opened; history = l .history; sessions = l .sessions ++ replicate d emptySession }
 
--- The bytes of a line of F sessions, resized: with zeros behind them they are read as the line with empty sessions behind its own, which
--- is sound for F + d sessions exactly if the line is sound for F, but for open bits above F; for fewer sessions they are cut.
+-- The bytes of a line of F sessions, resized: with zeros behind them they are read as the line with empty sessions
+-- behind its own, which is sound for F + d sessions exactly if the line is sound for F, but for open bits above F; for
+-- fewer sessions they are cut.
 pub record Resized (F : ℕ) (m : Meaning) (bs : List ℕ) : Type 0 where
   pub longer : (d : ℕ) → resized (F + d) bs ≡ bs ++ replicate (16 * d) 0
   pub reads : (d : ℕ) → readLine (F + d) (resized (F + d) bs) ≡ padded d (readLine F bs)
@@ -95,9 +96,9 @@ pub record StartsOn (W : ℕ) (image target : List ℕ) (calls : List Call) : Ty
   pub on : start .ledger ≡ target
   pub by : start .calls ≡ calls
 
--- A move that is done. Its target has a sound line of W sessions for each user, and runs may start on it. Open sessions, the user's history
--- and each session's bytes stand as they did, new sessions are zero, and a session is shown and explained as before. The move back is
--- done, and gives the old ledger back.
+-- A move that is done. Its target has a sound line of W sessions for each user, and runs may start on it. Open
+-- sessions, the user's history and each session's bytes stand as they did, new sessions are zero, and a session is
+-- shown and explained as before. The move back is done, and gives the old ledger back.
 pub record Moved (F W : ℕ) (image old target : List ℕ) : Type 0 where
   pub sound-ledger : SoundLedger W (policyOf image) target
   pub heads : (u : ℕ) → u < policyOf image .head .users → take 16 (lineAt (lineSize W) u target) ≡ take 16 (lineAt (lineSize F) u old)
@@ -111,7 +112,8 @@ pub record Moved (F W : ℕ) (image old target : List ℕ) : Type 0 where
   pub starts : (calls : List Call) → StartsOn W image target calls
   pub back : (room : List ℕ) → length room ≡ length old → move W F image target room ≡ record { reply = done 0; ledger = old }
 
--- every move keeps the target's length; a refused one keeps the target; one that is done is as above; none to more sessions gives 24
+-- every move keeps the target's length; a refused one keeps the target; one that is done is as above; none to more
+-- sessions gives 24
 pub record MoveIs (F W : ℕ) (image old new : List ℕ) (e : Event) : Type 0 where
   pub keeps-length : length (e .ledger) ≡ length new
   pub refused : ¬ (e .reply .number ≡ 0) → e .ledger ≡ new

@@ -14,7 +14,8 @@ use Rattle.model.specs.Limits.{Others, unbarred}
 use Rattle.model.specs.Choice.{carriedBy, admissible}
 use Rattle.model.specs.Reduced.{stays}
 
--- what stands in the way: its kind, what it is about (a permission, or the kind of an exclusion plus 4 times its limit), and two role sets
+-- what stands in the way: its kind, what it is about (a permission, or the kind of an exclusion plus 4 times its
+-- limit), and two role sets
 pub record Obstacle : Type 0 where
   pub kind : ℕ
   pub about : ℕ
@@ -81,8 +82,8 @@ blocks l k (some y) =
 
 -- ---- the first kind that holds
 
--- the roles that the user may activate lack a permission (1); those that fit the upper bound lack one (2); those that fit and are not
--- barred lack one (3); an exclusion, in the order of the tidy image, leaves no set (4)
+-- the roles that the user may activate lack a permission (1); those that fit the upper bound lack one (2); those that
+-- fit and are not barred lack one (3); an exclusion, in the order of the tidy image, leaves no set (4)
 unfoldable pub obstacleOf : Meaning → Others → Line → ℕ → ℕ → ℕ → Option Obstacle
 obstacleOf m x l k lower upper =
     let free = unbarred m x l k in

@@ -91,8 +91,8 @@ module _ (p : Policy) (u : ℕ) (x : Others) (l : Line) (k lb ub : ℕ) where
         → Left front → ¬ Left (front ++ (y ∷ [])) → Members s (λ r. (has (y .members) r ≡ true) × Counted y r)
         → Stands (record { kind = 4; about = kindNumber (y .kind) + 4 * y .limit; first = s; second = y .members })
 
-  -- what is told is what stands in the way, and nothing is told exactly if some set meets what the ask asks; where none does, exactly one
-  -- thing stands in the way
+  -- what is told is what stands in the way, and nothing is told exactly if some set meets what the ask asks; where none
+  -- does, exactly one thing stands in the way
   pub record ObstacleIs : Type 0 where
     pub tells : (o : Obstacle) → (obstacleOf (meaning p u) x l k lb ub ≡ some o) ↔ Stands o
     pub clear : (obstacleOf (meaning p u) x l k lb ub ≡ none) ↔ ((s : ℕ) × Permitted p u x l k lb ub s)

@@ -1,5 +1,5 @@
--- Seniority is an order, and no user's reach is too wide: which images 22 and 23 refuse, what is so of those accepted, and what the loop
--- call shows.
+-- Seniority is an order, and no user's reach is too wide: which images 22 and 23 refuse, what is so of those accepted,
+-- and what the loop call shows.
 -- Assumes nothing.
 use mathlib.Core.Path.{_≡_}
 use mathlib.Core.Logic.{_↔_}
@@ -36,8 +36,9 @@ pub record LowestOverReach (p : Policy) (u : ℕ) : Type 0 where
   pub wide : ¬ FewRoles p u
   pub lowest : (v : ℕ) → v < u → FewRoles p v
 
--- an image is refused by 22 with r exactly if its words pass and r is the lowest role on a loop, by 23 with u exactly if its words pass,
--- no role is on a loop and u is the lowest user with more than 16 roles, and accepted exactly if its words pass and none is so
+-- an image is refused by 22 with r exactly if its words pass and r is the lowest role on a loop, by 23 with u exactly
+-- if its words pass, no role is on a loop and u is the lowest user with more than 16 roles, and accepted exactly if its
+-- words pass and none is so
 pub record JudgeIs (s : List ℕ) : Type 0 where
   pub by-loop : (r : ℕ) → (judge s ≡ Refused 22 r) ↔ (WordsPass s × LowestOnLoop (policyOf s) r)
   pub by-reach : (u : ℕ) → (judge s ≡ Refused 23 u) ↔ (WordsPass s × Loopless (policyOf s) × LowestOverReach (policyOf s) u)
@@ -54,8 +55,8 @@ Antisymmetric p = (a b : ℕ) → Chain p a b → Chain p b a → a ≡ b
 abbrev pub NotAbove : List ℕ → List ℕ → Type 0
 NotAbove bs cs = (i : ℕ) → ((j : ℕ) → j < i → getD bs j 0 ≡ getD cs j 0) → getD bs i 0 ≤ getD cs i 0
 
--- bs are the roles of a chain of senior words from role r down and back to it, r itself last and nowhere before; none of at least one
--- word is shorter, and of those as short none is lower
+-- bs are the roles of a chain of senior words from role r down and back to it, r itself last and nowhere before; none
+-- of at least one word is shorter, and of those as short none is lower
 pub record ShortestLoop (p : Policy) (r : ℕ) (bs : List ℕ) : Type 0 where
   pub chain : Chain p r r
   pub roles : rolesOf chain ≡ bs

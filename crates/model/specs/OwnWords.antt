@@ -1,5 +1,5 @@
--- An image by its words: the policy that words say, and the words that are left of an image for one user. The clause text goes by them in
--- their order.
+-- An image by its words: the policy that words say, and the words that are left of an image for one user. The clause
+-- text goes by them in their order.
 -- Assumes nothing.
 use mathlib.Core.Bool.{Bool, true, false}
 use mathlib.Core.List.{List, [], _∷_, map}

@@ -1,4 +1,5 @@
--- What the words of an accepted image mean: the policy, five tables read off its entries, and what it means for one user.
+-- What the words of an accepted image mean: the policy, five tables read off its entries, and what it means for one
+-- user.
 -- Assumes nothing.
 use mathlib.Core.Path.{_≡_}
 use mathlib.Core.Bool.{Bool, true, false, _&&_, _||_, not}
@@ -182,8 +183,8 @@ reached p = withSelves (belowTable p)
 unfoldable pub carriedTable : Policy → List ℕ
 carriedTable p = map (unionAt (p .granted)) (reached p)
 
--- the granting role for role r, by the table of roles reached and the test that a role holds the grant: the lowest-numbered role reached
--- from r, itself among them, that holds it; none where there is none
+-- the granting role for role r, by the table of roles reached and the test that a role holds the grant: the
+-- lowest-numbered role reached from r, itself among them, that holds it; none where there is none
 unfoldable pub granterBy : List ℕ → (ℕ → Bool) → ℕ → Option ℕ
 granterBy reached holds r = lowestIn holds (getD reached r 0)
 
@@ -209,9 +210,10 @@ limited limits r = not (eqb (getD limits r 0) 0)
 unfoldable pub hasLimits : Policy → Bool
 hasLimits p = any (λ t. not (eqb t 0)) (p .limits)
 
--- what the session rules see of a policy: the user's number, the numbers of roles and permissions, the roles that the user may activate,
--- what each role carries and through which granting role, whether every exclusion is met where kind k counts the roles `counted k`, the
--- exclusions in image order, by which the clause text alone goes, the same in the order of the tidy image, and the limits
+-- what the session rules see of a policy: the user's number, the numbers of roles and permissions, the roles that the
+-- user may activate, what each role carries and through which granting role, whether every exclusion is met where kind
+-- k counts the roles `counted k`, the exclusions in image order, by which the clause text alone goes, the same in the
+-- order of the tidy image, and the limits
 pub record Meaning : Type 0 where
   pub user : ℕ
   pub roles : ℕ
@@ -260,7 +262,8 @@ sameExclusion x y = eqb (kindNumber (x .kind)) (kindNumber (y .kind)) && eqb (x 
 unfoldable pub excludes : Policy → Exclusion → Bool
 excludes p x = any (λ y. sameExclusion y x) (p .exclusions)
 
--- the policies agree in all but other users' assignments, order and repeats of their entries aside: a table's row is a set
+-- the policies agree in all but other users' assignments, order and repeats of their entries aside: a table's row is a
+-- set
 pub record Agree (u : ℕ) (p q : Policy) : Type 0 where
   pub heads : p .head ≡ q .head
   pub own : getD (p .assigned) u 0 ≡ getD (q .assigned) u 0

@@ -1,5 +1,5 @@
--- What an accepted image says of its policy: every number is in its range, no user is assigned to more than 16 roles, and there are at
--- most 32 exclusions, each with a limit that its members can reach; a role's limit is from 2 to 256.
+-- What an accepted image says of its policy: every number is in its range, no user is assigned to more than 16 roles,
+-- and there are at most 32 exclusions, each with a limit that its members can reach; a role's limit is from 2 to 256.
 -- Assumes nothing.
 use mathlib.Core.Path.{_≡_}
 use mathlib.Core.Bool.{true}
@@ -51,7 +51,8 @@ pub record InRange (p : Policy) : Type 0 where
   pub users : OneTo 64 (p .head .users)
   pub roles : OneTo 64 (p .head .roles)
   pub permissions : OneTo 256 (p .head .permissions)
-  -- what is assigned is a role, to a user; what is granted a permission, to a role; what has juniors and what is one, a role
+  -- what is assigned is a role, to a user; what is granted a permission, to a role; what has juniors and what is one, a
+  -- role
   pub assigned : TableInRange (p .head .users) (p .head .roles) (p .assigned)
   pub granted : TableInRange (p .head .roles) (p .head .permissions) (p .granted)
   pub juniors : TableInRange (p .head .roles) (p .head .roles) (p .juniors)

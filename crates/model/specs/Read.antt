@@ -1,4 +1,5 @@
--- What a policy is read off: each bit of its tables, each exclusion and each member is there exactly if words of the image say so.
+-- What a policy is read off: each bit of its tables, each exclusion and each member is there exactly if words of the
+-- image say so.
 -- Assumes nothing.
 use mathlib.Core.Path.{_≡_}
 use mathlib.Core.Logic.{_⊎_, _↔_}
@@ -20,7 +21,8 @@ pub record Said (s : List ℕ) (e : Entry) : Type 0 where
   pub within : place ≤ behindHead s
   pub says : entryAt s place ≡ e
 
--- an exclusion word among the entries gives the kind and the limit of x, and the entries behind it, as many as it says, the members
+-- an exclusion word among the entries gives the kind and the limit of x, and the entries behind it, as many as it says,
+-- the members
 pub record Excluded (es : List Entry) (x : Exclusion) : Type 0 where
   pub before : List Entry
   pub word : Exclusion
@@ -55,8 +57,8 @@ pub record Smallest (es : List Entry) (r t : ℕ) : Type 0 where
   pub said : List·Memᴰ (Limit (role r) t) es
   pub least : (n : ℕ) → List·Memᴰ (Limit (role r) n) es → t ≤ n
 
--- the limits of the policy of the image s, which is accepted, are the smallest that its words give: role r has a limit exactly if a word
--- gives it one, and it is t exactly if t is the smallest
+-- the limits of the policy of the image s, which is accepted, are the smallest that its words give: role r has a limit
+-- exactly if a word gives it one, and it is t exactly if t is the smallest
 pub record LimitsRead (s : List ℕ) : Type 0 where
   pub is-limited : (r : ℕ) → (limited (policyOf s .limits) r ≡ true) ↔ ((t : ℕ) × List·Memᴰ (Limit (role r) t) (entriesOf s))
   pub is-limit : (r t : ℕ) → limited (policyOf s .limits) r ≡ true → (getD (policyOf s .limits) r 0 ≡ t) ↔ Smallest (entriesOf s) r t

@@ -1,5 +1,5 @@
--- An exclusion reduced for an ask: by what stays counted whatever roles are put in for a session (000, Theorem 4.4.1). The search and the
--- clause text both go by it.
+-- An exclusion reduced for an ask: by what stays counted whatever roles are put in for a session (000, Theorem 4.4.1).
+-- The search and the clause text both go by it.
 -- Assumes nothing.
 use Prim.Native.Nat.{ℕ, _-_}
 use lib.Bits.{bitAnd, bitXor}
@@ -9,7 +9,8 @@ use Rattle.model.specs.declared.Line.{Line}
 use Rattle.model.specs.Sets.{inter, count}
 use Rattle.model.specs.Line.{sessionAt, activeIn, others}
 
--- what stays counted for each kind: the roles active in a session are replaced, those active elsewhere and the histories stay
+-- what stays counted for each kind: the roles active in a session are replaced, those active elsewhere and the
+-- histories stay
 unfoldable pub stay : Kind → ℕ → ℕ → ℕ → ℕ
 stay SsDmer elsewhere session user = 0
 stay MsDmer elsewhere session user = elsewhere

@@ -1,5 +1,6 @@
--- Calls on a whole ledger, and runs of them: the image is judged, the ledger's length and the user's number are tested, and the session
--- rules are fed the user's line and, at an ask under a policy with limits, what the other users' lines hold.
+-- Calls on a whole ledger, and runs of them: the image is judged, the ledger's length and the user's number are tested,
+-- and the session rules are fed the user's line and, at an ask under a policy with limits, what the other users' lines
+-- hold.
 -- Assumes nothing.
 use mathlib.Core.Bool.{not, Bool, true, false, _&&_}
 use mathlib.Core.List.{List, [], _∷_, _++_}

@@ -1,4 +1,5 @@
--- The session rules: what a call does to one user's line, and what it answers, given what it is told of the other users.
+-- The session rules: what a call does to one user's line, and what it answers, given what it is told of the other
+-- users.
 -- Assumes nothing.
 use mathlib.Core.Bool.{Bool, true, false, _&&_, _||_, not}
 use mathlib.Core.Option.{Option, none, some}
@@ -27,8 +28,8 @@ pub record Query : Type 0 where
   pub roleAim : ℕ
   pub room : ℕ
 
--- what a user may call for; a number is a session's, that of a show after it the answer buffer's length, that of an explain after it a
--- permission; a short ask and an obstacle have both bounds as their bytes, then the buffer's length
+-- what a user may call for; a number is a session's, that of a show after it the answer buffer's length, that of an
+-- explain after it a permission; a short ask and an obstacle have both bounds as their bytes, then the buffer's length
 pub data Operation : Type 0 where
   open-session : Operation
   close-session : ℕ → Operation
@@ -76,7 +77,8 @@ isText (explain k n) = false
 isText (obstacle k lower upper room) = false
 isText (clauses k q) = true
 
--- an ask, of either form, an obstacle or a clause text: the calls that look at the other users, under a policy with limits
+-- an ask, of either form, an obstacle or a clause text: the calls that look at the other users, under a policy with
+-- limits
 unfoldable pub isAsk : Operation → Bool
 isAsk open-session = false
 isAsk (close-session k) = false
@@ -98,7 +100,8 @@ putsIn (explain k n) = false
 putsIn (obstacle k lower upper room) = false
 putsIn (clauses k q) = false
 
--- how many bytes a call fills, where it fills a buffer and is no clause text: two role sets of 8 bytes, else roles and permissions
+-- how many bytes a call fills, where it fills a buffer and is no clause text: two role sets of 8 bytes, else roles and
+-- permissions
 unfoldable pub answerSize : Operation → ℕ
 answerSize open-session = 40
 answerSize (close-session k) = 40
@@ -140,7 +143,8 @@ pub record Result : Type 0 where
   pub reply : Reply
   pub line : List ℕ
 
--- ---- the refusals 11 to 20, by the words of the register; 11 for another user's line, and for the user's own; two are of one permission,
+-- ---- the refusals 11 to 20, by the words of the register; 11 for another user's line, and for the user's own; two are
+-- of one permission,
 -- `bad-pair` and `no-obstacle` are of an obstacle, and `too-long` is of a clause text
 
 pub data Refusal : Type 0 where
@@ -213,8 +217,8 @@ unfoldable pub withGranter : (ℕ → Option ℕ) → Option ℕ → Option ℕ
 withGranter name none = none
 withGranter name (some r) = twoRoles r (name r)
 
--- through which roles the roles of s carry a permission, by the name of each role's granting role: the lowest that carries it and its
--- granting role, none where none carries it
+-- through which roles the roles of s carry a permission, by the name of each role's granting role: the lowest that
+-- carries it and its granting role, none where none carries it
 unfoldable pub explanation : (ℕ → Option ℕ) → ℕ → Option ℕ
 explanation name s = withGranter name (carrier name s)
 
@@ -223,7 +227,8 @@ unfoldable pub otherFirst : Bool → ℕ → Option ℕ → Bool
 otherFirst own u none = false
 otherFirst own u (some v) = own || ltb v u
 
--- the case of a refusal holds, for W sessions, the meaning of the policy, what is told, the line, the session named and the query
+-- the case of a refusal holds, for W sessions, the meaning of the policy, what is told, the line, the session named and
+-- the query
 unfoldable pub applies : ℕ → Meaning → Others → Line → ℕ → Query → Refusal → Bool
 applies W m x l k q bad-other = otherFirst (sound W m l) (m .user) (x .unsound)
 applies W m x l k q bad-line = not (sound W m l)

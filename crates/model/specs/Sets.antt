@@ -1,5 +1,5 @@
--- Sets of roles, permissions or sessions, as numbers: k is a member of s where binary digit k of s is 1 (01: role r counts 2 to the
--- power r). Every definition computes on numerals.
+-- Sets of roles, permissions or sessions, as numbers: k is a member of s where binary digit k of s is 1 (01: role r
+-- counts 2 to the power r). Every definition computes on numerals.
 -- Assumes nothing.
 use mathlib.Core.Bool.{Bool, true, false, _&&_, not}
 use mathlib.Core.Option.{Option}

@@ -1,4 +1,5 @@
--- The words of an image written out, by 01's table of kinds and with no spare bits; the end word that balances them, and their bytes.
+-- The words of an image written out, by 01's table of kinds and with no spare bits; the end word that balances them,
+-- and their bytes.
 -- Assumes nothing.
 use mathlib.Core.List.{List, [], _∷_, _++_}
 use Prim.Native.Nat.{ℕ, _+_, _-_, _*_, _%_, _^_}

@@ -1,5 +1,5 @@
-// The plain data of the session kit. The definitions in specs/ and the code of the other crates use these same types, so that a
-// contract is a plain equation. There is no function here.
+// The plain data of the session kit. The definitions in specs/ and the code of the other crates use these same types,
+// so that a contract is a plain equation. There is no function here.
 
 // ---- numbers, one sort for each
 
@@ -21,8 +21,9 @@ pub struct Head {
     pub permissions: u16,
 }
 
-// The four kinds of mutual exclusion, 0 to 3 in an image: what is counted is active in the session (single session), active in any
-// open session of the user (multi session), or was so at any time since the session was opened, or ever (history).
+// The four kinds of mutual exclusion, 0 to 3 in an image: what is counted is active in the session (single session),
+// active in any open session of the user (multi session), or was so at any time since the session was opened, or ever
+// (history).
 pub enum Kind {
     SsDmer,
     MsDmer,
@@ -43,8 +44,8 @@ pub struct Exclusions {
     pub count: usize,
 }
 
-// What a word behind the head says. An exclusion word comes with the number of its member words (01: m), and has no member yet. A limit
-// word says that fewer than t sessions of all users may hold a role.
+// What a word behind the head says. An exclusion word comes with the number of its member words (01: m), and has no
+// member yet. A limit word says that fewer than t sessions of all users may hold a role.
 pub enum Entry {
     Assignment(User, Role),
     Grant(Role, Permission),
@@ -62,8 +63,8 @@ pub struct Word {
     pub spare: u32,
 }
 
-// What the words so far leave to judge the next one by, beside the roles assigned so far: the number of exclusions, how many members
-// are still due, and the members so far of the exclusion that they are due for.
+// What the words so far leave to judge the next one by, beside the roles assigned so far: the number of exclusions, how
+// many members are still due, and the members so far of the exclusion that they are due for.
 pub struct Scan {
     pub exclusions: u32,
     pub due: u32,
@@ -87,7 +88,8 @@ pub struct Session {
     pub history: u64,
 }
 
-// A user's line of the ledger: the open sessions as a set, the roles ever active (01: the person's past), and each session.
+// A user's line of the ledger: the open sessions as a set, the roles ever active (01: the person's past), and each
+// session.
 pub struct Line {
     pub opened: u64,
     pub history: u64,

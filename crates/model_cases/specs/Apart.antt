@@ -1,5 +1,6 @@
--- Two runs of one user that differ in all that others may change: the order and repeats of entries, the other users' assignments, lines
--- and calls. That they are the same for the user keeps the independence rule from being claimed of equal runs alone.
+-- Two runs of one user that differ in all that others may change: the order and repeats of entries, the other users'
+-- assignments, lines and calls. That they are the same for the user keeps the independence rule from being claimed of
+-- equal runs alone.
 -- Assumes nothing.
 use mathlib.Core.Path.{_≡_}
 use mathlib.Core.List.{List, [], _∷_, _++_, map}
@@ -21,8 +22,8 @@ oneImage =
     (0x106080A0 ∷ 0x20000000 ∷ 0x20010000 ∷ 0x20400000 ∷ 0x20810000 ∷ 0x30000000 ∷ 0x30004000 ∷ 0x30008000 ∷ 0x3000C000 ∷ 0x30404000 ∷ 0x30410000
     ∷ 0x40010000 ∷ 0x54102000 ∷ 0x60000000 ∷ 0x60400000 ∷ []))
 
--- the same in another order, with an assignment, a grant, a senior word and the exclusion said twice, the members the other way round, and
--- the other users' roles exchanged
+-- the same in another order, with an assignment, a grant, a senior word and the exclusion said twice, the members the
+-- other way round, and the other users' roles exchanged
 unfoldable pub otherImage : List ℕ
 otherImage =
     imageBytes
@@ -44,8 +45,8 @@ thirdAsks k = askBy 2 k (bytesOf 32 0x3) (bytesOf 32 0x1f) 1 0 40
 unfoldable pub clauseText : Call
 clauseText = clausesBy 0 0 (bytesOf 32 0x3) (bytesOf 32 0x1f) 1 0 1000
 
--- the first user's calls alone, and with others before, between and behind them: by a user with a damaged line, by one with a sound line,
--- by one without a line
+-- the first user's calls alone, and with others before, between and behind them: by a user with a damaged line, by one
+-- with a sound line, by one without a line
 unfoldable pub oneList : List Call
 oneList = opens ∷ asks 0 0x3 0x1f 1 0 ∷ clauseText ∷ shows 0 ∷ []
 
@@ -54,8 +55,9 @@ otherList =
     openBy 1 ∷ openBy 2 ∷ opens ∷ closeBy 1 0 ∷ thirdAsks 1 ∷ asks 0 0x3 0x1f 1 0 ∷ closeBy 2 0 ∷ openBy 3 ∷ clauseText ∷ thirdAsks 0 ∷ shows 0
     ∷ openBy 1 ∷ []
 
--- These are two runs, and they are the same for the first user; the session rules are fed no other user's assignments, so the same ones.
--- The third user's calls are done, all but the one in a session just closed. The texts differ, since the order of the exclusions does.
+-- These are two runs, and they are the same for the first user; the session rules are fed no other user's assignments,
+-- so the same ones. The third user's calls are done, all but the one in a session just closed. The texts differ, since
+-- the order of the exclusions does.
 pub record Apart : Type 0 where
   pub one : Run SESSIONS
   pub other : Run SESSIONS
@@ -69,8 +71,8 @@ pub record Apart : Type 0 where
 
 -- ---- the same words, for a clause text among the user's calls
 
--- image A for three users again, with the other users' assignments at other places and to other roles, and so another end word: the other
--- words are the same in the same order
+-- image A for three users again, with the other users' assignments at other places and to other roles, and so another
+-- end word: the other words are the same in the same order
 unfoldable pub movedImage : List ℕ
 movedImage =
     imageBytes

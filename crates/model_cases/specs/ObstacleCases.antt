@@ -36,12 +36,14 @@ obstacleCases =
     -- 01's lines: Doctor is active in the other session, and so Data_Manager is barred, until that session is closed
     case imageA (take 3 lines ++ (obstacles 1 0x12 0x1f ∷ asks 1 0x12 0x1f 1 0 ∷ closes 0 ∷ obstacles 1 0x12 0x1f ∷ asks 1 0x12 0x1f 1 0 ∷ []))
     (opened 0 ∷ chose 1 0xf ∷ opened 1 ∷ excludes 1 1 ∷ refused 20 ∷ opened 0 ∷ refused 20 ∷ chose 2 0x12 ∷ [])
-    -- kind 3 counts Doctor for good, kind 2 in this session alone; where both roles are asked for, nothing is counted beforehand
+    -- kind 3 counts Doctor for good, kind 2 in this session alone; where both roles are asked for, nothing is counted
+    -- beforehand
     ∷ case (imageOfKind 3) (opens ∷ asks 0 0x3 0x1f 0 0 ∷ closes 0 ∷ opens ∷ obstacles 0 0x10 0x1f ∷ [])
     (opened 0 ∷ chose 1 0xf ∷ opened 0 ∷ opened 0 ∷ excludes 3 1 ∷ [])
     ∷ case (imageOfKind 2) (opens ∷ asks 0 0x3 0x1f 0 0 ∷ obstacles 0 0x10 0x1f ∷ opens ∷ obstacles 1 0x10 0x1f ∷ obstacles 1 0x11 0x1f ∷ [])
     (opened 0 ∷ chose 1 0xf ∷ excludes 2 1 ∷ opened 1 ∷ refused 20 ∷ excludes 2 0 ∷ [])
-    -- Data_Manager is none of the user's roles; that comes before Doctor's carrying more than the upper bound, about a lower permission
+    -- Data_Manager is none of the user's roles; that comes before Doctor's carrying more than the upper bound, about a
+    -- lower permission
     ∷ case doctorAlone (opens ∷ obstacles 0 0x12 0x1f ∷ obstacles 0 0x11 0x11 ∷ obstacles 0 0x1 0x11 ∷ [])
     (opened 0 ∷ names 1 4 2 0 ∷ names 1 4 2 0 ∷ names 2 0 1 0 ∷ [])
     -- the ward head may take Nurse and not Surgeon
@@ -49,11 +51,13 @@ obstacleCases =
     -- Doctor carries more than the upper bound, and so does Data_Manager; nothing stands in the way of empty bounds
     ∷ case imageA (opens ∷ obstacles 0 0x3 0x3 ∷ obstacles 0 0x2 0x2 ∷ obstacles 0 0 0 ∷ [])
     (opened 0 ∷ names 2 0 1 0 ∷ names 2 1 3 0 ∷ refused 20 ∷ [])
-    -- the other user's session holds Doctor, which one session may; Data_Manager carries permission 1 too, and is not barred
+    -- the other user's session holds Doctor, which one session may; Data_Manager carries permission 1 too, and is not
+    -- barred
     ∷ caseOfTwo (doctors 2 ∷ []) (replicate 288 0)
     (opens ∷ asksShort 0 0x3 0x1f ∷ openBy 1 ∷ obstacleOfUser 1 0 0x6 0x1f ∷ obstacleOfUser 1 0 0x2 0x1f ∷ [])
     (opened 0 ∷ chose 1 0xf ∷ opened 0 ∷ names 3 2 1 0 ∷ refused 20 ∷ [])
-    -- the order is that of the tidy image, by kind first, and a repeated exclusion adds nothing; one that leaves a set is passed over
+    -- the order is that of the tidy image, by kind first, and a repeated exclusion adds nothing; one that leaves a set
+    -- is passed over
     ∷ case (imageAnd 0x50102000) (opens ∷ obstacles 0 0x11 0x1f ∷ []) (opened 0 ∷ excludes 0 0 ∷ [])
     ∷ case (imageAnd 0x54102000) (opens ∷ obstacles 0 0x11 0x1f ∷ []) (opened 0 ∷ excludes 1 0 ∷ [])
     ∷ case (imageAnd 0x50102000) (opens ∷ asks 0 0x3 0x1f 0 0 ∷ opens ∷ obstacles 1 0x10 0x1f ∷ [])

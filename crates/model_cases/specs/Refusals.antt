@@ -1,6 +1,6 @@
--- Images and how they are judged: image A with words replaced, put in or left out, each with the number and the place of its refusal
--- (0, 0: accepted). Each clause of the register's lines 1 to 8 has a case, and so has each tie; 22 comes after them
--- with a role, 23 with a user.
+-- Images and how they are judged: image A with words replaced, put in or left out, each with the number and the place
+-- of its refusal (0, 0: accepted). Each clause of the register's lines 1 to 8 has a case, and so has each tie; 22 comes
+-- after them with a role, 23 with a user.
 -- Assumes nothing.
 use mathlib.Core.Bool.{Bool}
 use mathlib.Core.List.{List, [], _∷_, _++_}
@@ -156,14 +156,16 @@ judgedImages =
     ∷ judged (edited 1 (0x40000000 ∷ [])) 6 1
     ∷ judged (edited 1 (0x40410000 ∷ [])) 6 1
     ∷ judged (edited 1 (0x20000000 ∷ 0x20000000 ∷ 0x30000000 ∷ [])) 0 0
-    -- 7, crowd: a 17th role, the same 16 twice being none; a 33rd exclusion, an entry of another kind behind the 32nd being none
+    -- 7, crowd: a 17th role, the same 16 twice being none; a 33rd exclusion, an entry of another kind behind the 32nd
+    -- being none
     ∷ judged (imageBytes (ended (wide (assignments 16)))) 0 0
     ∷ judged (imageBytes (ended (wide (assignments 16 ++ assignments 16)))) 0 0
     ∷ judged (imageBytes (ended (wide (assignments 17)))) 7 17
     ∷ judged (afterThirtyTwo (0x20000000 ∷ 0x30000000 ∷ 0x40010000 ∷ 0x70004000 ∷ [])) 0 0
     ∷ judged (afterThirtyTwo (0x54102000 ∷ 0x60000000 ∷ 0x60400000 ∷ [])) 7 97
-    -- limits: the smallest and the largest t, in any place, several for one role; 3 where a member is due and as the last word;
-    -- 4 for the lowest spare bit, one in the middle and the highest; 5 for the role and for t of 0, 1, 257 and 511; ties
+    -- limits: the smallest and the largest t, in any place, several for one role; 3 where a member is due and as the
+    -- last word; 4 for the lowest spare bit, one in the middle and the highest; 5 for the role and for t of 0, 1, 257
+    -- and 511; ties
     ∷ judged (edited 3 (0x70004000 ∷ [])) 0 0
     ∷ judged (edited 1 (0x70600000 ∷ [])) 0 0
     ∷ judged (edited 9 (0x70004000 ∷ 0x54102000 ∷ [])) 0 0
@@ -193,8 +195,8 @@ judgedImages =
     -- 3 and 6: a senior over itself where a member is due, a member again and not due
     ∷ judged (edited 10 (0x40000000 ∷ [])) 3 10
     ∷ judged (edited 12 (0x60000000 ∷ [])) 3 12
-    -- 7 with 3, 4 and 5: a 17th role where a member is due, as the last word, with a spare bit, and not below R; a 33rd exclusion with n of
-    -- 1, and above m
+    -- 7 with 3, 4 and 5: a 17th role where a member is due, as the last word, with a spare bit, and not below R; a 33rd
+    -- exclusion with n of 1, and above m
     ∷ judged (imageBytes (ended (wide (assignments 16 ++ (0x54102000 ∷ 0x20100000 ∷ []))))) 3 18
     ∷ judged (imageBytes (wide (assignments 17))) 3 17
     ∷ judged (imageBytes (ended (wide (assignments 16 ++ (0x20100001 ∷ []))))) 4 17
@@ -207,14 +209,16 @@ judgedImages =
     ∷ judged (unbalanced 1 (0x20400000 ∷ [])) 5 1
     ∷ judged (imageBytes (wide (assignments 17) ++ (0xF0000001 ∷ []))) 7 17
     ∷ judged (take 4 (imageBytes (0 ∷ [])) ++ imageBytes (drop 1 imageA)) 2 0
-    -- 22, loop: of two roles; of three, with a role above it that is not on it; two loops, the lowest role; not a loop: two ways down
+    -- 22, loop: of two roles; of three, with a role above it that is not on it; two loops, the lowest role; not a loop:
+    -- two ways down
     ∷ judged (edited 1 (0x40010000 ∷ 0x40400000 ∷ 0x40010000 ∷ [])) 22 0
     ∷ judged (hierarchyOf (seniorWord 0 1 ∷ seniorWord 1 2 ∷ seniorWord 2 3 ∷ seniorWord 3 1 ∷ [])) 22 1
     ∷ judged (hierarchyOf (seniorWord 2 3 ∷ seniorWord 3 2 ∷ seniorWord 1 0 ∷ seniorWord 0 1 ∷ [])) 22 0
     ∷ judged (hierarchyOf (seniorWord 0 1 ∷ seniorWord 0 2 ∷ seniorWord 1 3 ∷ seniorWord 2 3 ∷ [])) 0 0
     -- after 8
     ∷ judged (unbalanced 1 (0x40010000 ∷ 0x40400000 ∷ [])) 8 13
-    -- 23, reach: a role over 16 others, and over 15; 16 assigned, one of them over a further one, and over one of the 16
+    -- 23, reach: a role over 16 others, and over 15; 16 assigned, one of them over a further one, and over one of the
+    -- 16
     ∷ judged (imageBytes (ended (wide (assignments 1 ++ overOthers 16)))) 23 0
     ∷ judged (imageBytes (ended (wide (assignments 1 ++ overOthers 15)))) 0 0
     ∷ judged (imageBytes (ended (wide (assignments 16 ++ (seniorWord 3 16 ∷ []))))) 23 0
@@ -253,7 +257,8 @@ loopedImages =
     chained (imageBytes loop) 3 (1 ∷ 2 ∷ 0 ∷ [])
     -- a role above a loop is not on it
     ∷ chained (hierarchyOf (seniorWord 0 1 ∷ seniorWord 1 2 ∷ seniorWord 2 3 ∷ seniorWord 3 1 ∷ [])) 3 (2 ∷ 3 ∷ 1 ∷ [])
-    -- of two loops of one role the shorter, though its first role is higher; of two as short the one with the lower role
+    -- of two loops of one role the shorter, though its first role is higher; of two as short the one with the lower
+    -- role
     ∷ chained (hierarchyOf (seniorWord 0 1 ∷ seniorWord 1 2 ∷ seniorWord 2 0 ∷ seniorWord 0 3 ∷ seniorWord 3 0 ∷ [])) 2 (3 ∷ 0 ∷ [])
     ∷ chained (hierarchyOf (seniorWord 0 2 ∷ seniorWord 2 3 ∷ seniorWord 2 1 ∷ seniorWord 3 0 ∷ seniorWord 1 0 ∷ [])) 3 (2 ∷ 1 ∷ 0 ∷ [])
     -- the lowest role on a loop, though a higher one is on a shorter

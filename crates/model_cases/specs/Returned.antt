@@ -1,6 +1,7 @@
--- What a host sees: cases with the number that a C call returns, and the bytes of its answer buffer and of the ledger after it. Users,
--- roles, permissions and sessions up to the highest; lines that are not sound, each by one clause; every refusal from 9 to 20 of open,
--- close, ask, short ask, show and explain, refused images, and every refusal of a check.
+-- What a host sees: cases with the number that a C call returns, and the bytes of its answer buffer and of the ledger
+-- after it. Users, roles, permissions and sessions up to the highest; lines that are not sound, each by one clause;
+-- every refusal from 9 to 20 of open, close, ask, short ask, show and explain, refused images, and every refusal of a
+-- check.
 -- Assumes nothing.
 use mathlib.Core.Bool.{Bool, true, _&&_}
 use mathlib.Core.List.{List, [], _∷_, _++_, map}
@@ -60,8 +61,8 @@ line opened history s0 s1 s7 = setBytes 8 opened ++ (setBytes 8 history ++ (s0 +
 
 -- ---- cases
 
--- a call by a host: the bytes of its answer buffer before it (none for a call without one), the number that it returns, and the bytes of
--- the answer buffer and of the ledger after it
+-- a call by a host: the bytes of its answer buffer before it (none for a call without one), the number that it returns,
+-- and the bytes of the answer buffer and of the ledger after it
 pub record HostCall : Type 0 where
   pub call : Call
   pub buffer : List ℕ
@@ -206,7 +207,8 @@ highs = imageOf (headWord 1 1 201 ∷ [])
 unfoldable pub otherLengths : List ℕ
 otherLengths = 0 ∷ 31 ∷ 33 ∷ 34 ∷ 64 ∷ []
 
--- 15, with nothing behind it right: a lower and an upper bound of another length, and two that are together as long as right ones
+-- 15, with nothing behind it right: a lower and an upper bound of another length, and two that are together as long as
+-- right ones
 unfoldable pub refusedLengths : HostCase
 refusedLengths =
     under highs opened0
@@ -318,7 +320,8 @@ linesJudged =
 
 -- ---- objectives, and high permissions
 
--- Role 61 carries 64, role 62 127, 192 and 255, role 63 64, 128 and 192: what is best is up to permissions above 63, and to 255.
+-- Role 61 carries 64, role 62 127, 192 and 255, role 63 64, 128 and 192: what is best is up to permissions above 63,
+-- and to 255.
 unfoldable pub ranked : List ℕ
 ranked =
     imageOf
@@ -348,8 +351,8 @@ objectives =
     ∷ ranks ranked (asksFor 0 (64 ∷ []) (64 ∷ 128 ∷ []) 2 0) (61 ∷ []) (64 ∷ [])
     ∷ []
 
--- Role 0 carries 0 and 2, role 1 1, role 2 all three, role 3 0, role 4 0 and 1. For 0 and 1, the best sets are the roles 0 and 1 by the
--- objectives 0, 0, role 2 by 0, 1, the roles 1 and 3 by 1, 0, and role 4 by 1, 1.
+-- Role 0 carries 0 and 2, role 1 1, role 2 all three, role 3 0, role 4 0 and 1. For 0 and 1, the best sets are the
+-- roles 0 and 1 by the objectives 0, 0, role 2 by 0, 1, the roles 1 and 3 by 1, 0, and role 4 by 1, 1.
 unfoldable pub fiveRoles : List ℕ
 fiveRoles =
     imageOf
@@ -366,8 +369,8 @@ shortObjectives =
 
 -- ---- the highest user, roles, permissions and session
 
--- The largest head. User 63 has the roles 32 and 63, and may not have had both 32 and 62. Role 63 is over 62, which is granted 127 and 255,
--- and which the user may so activate too.
+-- The largest head. User 63 has the roles 32 and 63, and may not have had both 32 and 62. Role 63 is over 62, which is
+-- granted 127 and 255, and which the user may so activate too.
 unfoldable pub far : List ℕ
 far =
     imageOf
@@ -401,7 +404,8 @@ lastUser =
 unfoldable pub bothActive : List ℕ
 bothActive = two (0 ∷ []) (16 ∷ 63 ∷ []) (session (16 ∷ 63 ∷ []) (16 ∷ 63 ∷ [])) idle
 
--- 256 times 64 * 16 + 16 and 64 * 63 + 62; a permission that neither carries, one not below P, a closed session, no session
+-- 256 times 64 * 16 + 16 and 64 * 63 + 62; a permission that neither carries, one not below P, a closed session, no
+-- session
 unfoldable pub explanations : HostCase
 explanations =
     under (imageBytes widest) bothActive
@@ -469,8 +473,8 @@ isChecked c = eqb (checkNumber (c .judgement)) (c .number)
 unfoldable pub checks : List ℕ → ℕ → CheckCase
 checks image number = record { judgement = judge image; number = number }
 
--- the last words of an image alone, from the place on, under image A's head: to compute the judgement of all the words before a high place
--- takes as long as all the other cases of the list
+-- the last words of an image alone, from the place on, under image A's head: to compute the judgement of all the words
+-- before a high place takes as long as all the other cases of the list
 unfoldable pub checksFrom : ℕ → List ℕ → ℕ → CheckCase
 checksFrom place ws number =
     let words = replicate (4 * place) 0 ++ imageBytes ws in
@@ -478,7 +482,8 @@ checksFrom place ws number =
 
 unfoldable pub checkedCases : List CheckCase
 checkedCases =
-    -- accepted: image A, the smallest head with nothing behind it, the highest numbers, an exclusion of 64 roles with n of 64
+    -- accepted: image A, the smallest head with nothing behind it, the highest numbers, an exclusion of 64 roles with n
+    -- of 64
     checks (imageBytes imageA) 0
     ∷ checks (imageOf (headWord 1 1 1 ∷ [])) 0
     ∷ checks far 0

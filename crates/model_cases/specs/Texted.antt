@@ -1,5 +1,5 @@
--- Clause texts as a host sees them: the number that the call returns, and its buffer after it. The texts are those of a small program
--- written from docs/CLAUSES.md alone.
+-- Clause texts as a host sees them: the number that the call returns, and its buffer after it. The texts are those of a
+-- small program written from docs/CLAUSES.md alone.
 -- Assumes nothing.
 use mathlib.Core.Bool.{Bool, _&&_}
 use mathlib.Core.List.{List, [], _∷_, _++_, map}
@@ -32,7 +32,8 @@ twoOf opened history s0 s1 = setBytes 8 opened ++ (setBytes 8 history ++ (s0 ++ 
 
 -- ---- cases
 
--- a clause text into a buffer of n bytes: the number that it returns, and the text that is then at the front of the buffer
+-- a clause text into a buffer of n bytes: the number that it returns, and the text that is then at the front of the
+-- buffer
 pub record TextCase : Type 0 where
   pub image : List ℕ
   pub ledger : List ℕ
@@ -93,7 +94,8 @@ textOfA =
     ∷ "1 -1 0"
     ∷ "1 -2 0" ∷ [])
 
--- at least permission 1, the most permissions and any roles; the Doctor's role is in the user's history, and counts there ever
+-- at least permission 1, the most permissions and any roles; the Doctor's role is in the user's history, and counts
+-- there ever
 unfoldable pub most : ℕ → Call
 most = textFrom 1 (1 ∷ []) (0 ∷ 1 ∷ 2 ∷ 3 ∷ 4 ∷ []) 2 0
 
@@ -149,8 +151,8 @@ textOfNone =
     ∷ "1 -2 -8 11 0"
     ∷ "1 -11 0" ∷ [])
 
--- docs/CLAUSES.md's second example: four roles, which carry 0, 1, 0 and 2, 1 and 2; the user has the first three, and had the second in
--- session 0; fewer than 3 of the first three in a session, fewer than 2 of the last three ever
+-- docs/CLAUSES.md's second example: four roles, which carry 0, 1, 0 and 2, 1 and 2; the user has the first three, and
+-- had the second in session 0; fewer than 3 of the first three in a session, fewer than 2 of the last three ever
 unfoldable pub fourRoles : List ℕ
 fourRoles =
     imageOf
@@ -196,9 +198,9 @@ textOfFour =
     ∷ "5 6 0"
     ∷ "5 7 0" ∷ [])
 
--- Five roles, of which the user has 0, 1 and 3; the first two carry permission 1, and nobody carries permission 0. Exclusions of each kind,
--- that of kind 2 twice: kind 3 with n 3 of the roles 2 to 4, kind 1 with n 3 of 0 to 2, kind 2 with n 3 of 0, 1 and 3, kind 0 with n 2 of
--- 0, 1 and 4.
+-- Five roles, of which the user has 0, 1 and 3; the first two carry permission 1, and nobody carries permission 0.
+-- Exclusions of each kind, that of kind 2 twice: kind 3 with n 3 of the roles 2 to 4, kind 1 with n 3 of 0 to 2, kind 2
+-- with n 3 of 0, 1 and 3, kind 0 with n 2 of 0, 1 and 4.
 unfoldable pub reducing : List ℕ
 reducing =
     imageOf
@@ -216,8 +218,8 @@ mixed =
     ++ (setBytes 8 (0 ∷ 1 ∷ 2 ∷ 3 ∷ [])
     ++ (session (0 ∷ []) (0 ∷ 2 ∷ []) ++ (replicate 64 0 ++ (session (1 ∷ []) (1 ∷ 3 ∷ []) ++ replicate 32 0))))
 
--- for session 5: at least permission 1, the most permissions and the most roles. Counted already are the roles 2 and 3 by kind 3, role 0 by
--- kind 1, the roles 1 and 3 by kind 2, and none by kind 0.
+-- for session 5: at least permission 1, the most permissions and the most roles. Counted already are the roles 2 and 3
+-- by kind 3, role 0 by kind 1, the roles 1 and 3 by kind 2, and none by kind 0.
 unfoldable pub textOfReducing : List ℕ
 textOfReducing =
     linesText
@@ -287,9 +289,9 @@ textOfHeavy =
 unfoldable pub hundred : List ℕ
 hundred = imageOf (headWord 1 1 100 ∷ assignWord 0 0 ∷ grantWord 0 98 ∷ [])
 
--- for at least permission 98 and none but 0 to 98, any permissions and any roles: variables of three digits, and numbers of variables and
--- clauses. It is long since a hundred variables have some 85 lines at least: each permission one, each role one but for the user's 16 at
--- most, each helper more than one.
+-- for at least permission 98 and none but 0 to 98, any permissions and any roles: variables of three digits, and
+-- numbers of variables and clauses. It is long since a hundred variables have some 85 lines at least: each permission
+-- one, each role one but for the user's 16 at most, each helper more than one.
 unfoldable pub textOfHundred : List ℕ
 textOfHundred =
     linesText
@@ -307,7 +309,8 @@ textOfHundred =
 unfoldable pub allButLast : List ℕ
 allButLast = replicate 12 255 ++ (7 ∷ replicate 19 0)
 
--- the same for user 0 of image A for two, where fewer than 2 sessions may hold Data_Manager's role and the other user holds it: it is barred
+-- the same for user 0 of image A for two, where fewer than 2 sessions may hold Data_Manager's role and the other user
+-- holds it: it is barred
 unfoldable pub textOfBarred : List ℕ
 textOfBarred = linesText ("p wcnf 11 27 18" ∷ "18 -2 0" ∷ []) ++ drop 16 textOfA
 

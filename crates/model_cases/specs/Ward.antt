@@ -1,5 +1,6 @@
--- The ward examples: images, first ledgers and calls with the answers that 01 gives them. `starred` are 01's starred cases, `settled`
--- further ones on what 01 says in words, `fewer`, which are among these, those on exclusions with n below m, `carded` those on limits.
+-- The ward examples: images, first ledgers and calls with the answers that 01 gives them. `starred` are 01's starred
+-- cases, `settled` further ones on what 01 says in words, `fewer`, which are among these, those on exclusions with n
+-- below m, `carded` those on limits.
 -- Assumes nothing.
 use mathlib.Core.Bool.{Bool, true, false, _&&_}
 use mathlib.Core.List.{List, [], _∷_, _++_, map}
@@ -14,7 +15,8 @@ use Rattle.model.specs.Run.{Call, Event, run, openBy, closeBy, askBy, shortAskB
 
 -- ---- images as words
 
--- image A: Doctor carries 0 to 3, Data_Manager 1 and 4; one user has both, and no two may be active in any of her sessions
+-- image A: Doctor carries 0 to 3, Data_Manager 1 and 4; one user has both, and no two may be active in any of her
+-- sessions
 unfoldable pub imageA : List ℕ
 imageA =
     0x102080A0 ∷ 0x20000000 ∷ 0x20010000 ∷ 0x30000000 ∷ 0x30004000 ∷ 0x30008000 ∷ 0x3000C000 ∷ 0x30404000 ∷ 0x30410000 ∷ 0x54102000
@@ -91,8 +93,8 @@ twoGrants =
     ended
     (0x10210040 ∷ 0x20020000 ∷ 0x20030000 ∷ 0x30400000 ∷ 0x30800000 ∷ 0x30004000 ∷ 0x40C20000 ∷ 0x40810000 ∷ 0x40030000 ∷ [])
 
--- the widest numbers: 64 roles and 256 permissions; role 63 over 62 and 16, permission 64 granted to roles 16 and 63, permission 255 to
--- roles 62 and 63; the user has roles 16 and 63
+-- the widest numbers: 64 roles and 256 permissions; role 63 over 62 and 16, permission 64 granted to roles 16 and 63,
+-- permission 255 to roles 62 and 63; the user has roles 16 and 63
 unfoldable pub widest : List ℕ
 widest =
     ended
@@ -217,7 +219,8 @@ caseOfThree t l0 l1 l2 calls answers = record { image = oneRole t; ledger = l0 +
 -- limits
 unfoldable pub carded : List Case
 carded =
-    -- the t - 1st session is given the role, and the t-th is refused, over two users, until one closes; a set without the role is given
+    -- the t - 1st session is given the role, and the t-th is refused, over two users, until one closes; a set without
+    -- the role is given
     caseOfTwo (doctors 2 ∷ []) (replicate 288 0)
     (opens ∷ asksShort 0 0x3 0x1f ∷ openBy 1 ∷ asksDoctor 0 ∷ asksManager 0 ∷ closes 0 ∷ asksDoctor 0 ∷ [])
     (opened 0 ∷ chose 1 0xf ∷ opened 0 ∷ refused 20 ∷ chose 2 0x12 ∷ opened 0 ∷ chose 1 0xf ∷ [])
@@ -238,7 +241,8 @@ carded =
     ∷ caseOfTwo (doctors 2 ∷ []) (replicate 288 0)
     (opens ∷ asksShort 0 0x3 0x1f ∷ asksShort 0 0x10 0x1f ∷ openBy 1 ∷ asksDoctor 0 ∷ [])
     (opened 0 ∷ chose 1 0xf ∷ chose 2 0x12 ∷ opened 0 ∷ chose 1 0xf ∷ [])
-    -- a damaged line of a higher user: an ask and a clause text name it, before 12, and the other calls do not look at it
+    -- a damaged line of a higher user: an ask and a clause text name it, before 12, and the other calls do not look at
+    -- it
     ∷ caseOfTwo (doctors 2 ∷ []) (replicate 144 0 ++ damaged)
     (opens ∷ asksShort 0 0x3 0x1f ∷ asks 8 0 0 3 3 ∷ textsLow 0 0 ∷ shows 0 ∷ explains 0 4 ∷ closes 0 ∷ openBy 1 ∷ asksDoctor 0 ∷ [])
     (opened 0 ∷ refusedFor 11 2 ∷ refusedFor 11 2 ∷ refusedFor 11 2 ∷ chose 0 0 ∷ refused 20 ∷ opened 0 ∷ refused 11 ∷ refused 11 ∷ [])
@@ -256,7 +260,8 @@ carded =
     ∷ caseOfTwo [] (replicate 144 0 ++ damaged) (opens ∷ asksShort 0 0x3 0x1f ∷ []) (opened 0 ∷ chose 1 0xf ∷ [])
     -- the middle one of three users asks: sessions of the user below and of the user above count
     ∷ caseOfThree 3 (activeRole 1) (activeRole 0) (activeRole 1) (asksMiddle ∷ closeBy 2 0 ∷ asksMiddle ∷ []) (refused 20 ∷ opened 0 ∷ chose 1 1 ∷ [])
-    -- a damaged line of the user above, of the one below, and of both; the asker's own and that of the user above, and of the one below
+    -- a damaged line of the user above, of the one below, and of both; the asker's own and that of the user above, and
+    -- of the one below
     ∷ caseOfThree 2 (activeRole 0) (activeRole 0) damaged (asksMiddle ∷ textsMiddle ∷ []) (refusedFor 11 3 ∷ refusedFor 11 3 ∷ [])
     ∷ caseOfThree 2 damaged (activeRole 0) (activeRole 0) (asksMiddle ∷ []) (refusedFor 11 1 ∷ [])
     ∷ caseOfThree 2 damaged (activeRole 0) damaged (asksMiddle ∷ []) (refusedFor 11 1 ∷ [])
@@ -328,13 +333,15 @@ settled =
     -- a loop is refused, before the ledger's length is looked at
     ∷ case loop (opens ∷ asks 0 0x1 0x7 1 1 ∷ []) (refused 22 ∷ refused 22 ∷ [])
     ∷ record { image = loop; ledger = replicate 143 0; calls = opens ∷ []; answers = refused 22 ∷ [] }
-    -- a short ask takes the fewest permissions, and of sets with as many the fewest roles, where the objectives 0, 0 take the lowest number
+    -- a short ask takes the fewest permissions, and of sets with as many the fewest roles, where the objectives 0, 0
+    -- take the lowest number
     ∷ case threeRoles (opens ∷ asks 0 0x6 0xf 0 0 ∷ asksShort 0 0x6 0xf ∷ []) (opened 0 ∷ chose 3 0xf ∷ chose 4 0x6 ∷ [])
     ∷ case twoAndBoth (opens ∷ asks 0 0x3 0x3 0 0 ∷ asks 0 0x3 0x3 1 0 ∷ asksShort 0 0x3 0x3 ∷ [])
     (opened 0 ∷ chose 3 0x3 ∷ chose 3 0x3 ∷ chose 4 0x3 ∷ [])
     -- permissions come first: two roles that carry 0 and 1 rank before one that carries 2 also
     ∷ case threeOrTwo (opens ∷ asks 0 0x3 0x7 0 1 ∷ asksShort 0 0x3 0x7 ∷ []) (opened 0 ∷ chose 1 0x7 ∷ chose 6 0x3 ∷ [])
-    -- an explain names the lowest active role that carries the permission, and the lowest granting role at or below it; it changes nothing
+    -- an explain names the lowest active role that carries the permission, and the lowest granting role at or below it;
+    -- it changes nothing
     ∷ case twoGrants (opens ∷ explains 0 0 ∷ asks 0 0x1 0x1 0 2 ∷ explains 0 0 ∷ []) (opened 0 ∷ refused 20 ∷ chose 14 0x1 ∷ opened 65 ∷ [])
     ∷ record {
       image = twoGrants;

@@ -1,4 +1,5 @@
--- What holds of a policy whose image passes the judgement by its words: every number is in its range, and every limit of the register is kept.
+-- What holds of a policy whose image passes the judgement by its words: every number is in its range, and every limit
+-- of the register is kept.
 -- Assumes nothing.
 use mathlib.Core.Path.{_≡_, refl, sym, ap, _∙_, subst}
 use mathlib.Core.Bool.{Bool, true, false, _&&_, _||_, not, true≢false}

@@ -1,4 +1,5 @@
--- The roles active in a line's sessions: the union of all in any order, and the members of the union of all or of all but one.
+-- The roles active in a line's sessions: the union of all in any order, and the members of the union of all or of all
+-- but one.
 -- Assumes nothing.
 use mathlib.Core.Path.{_≡_, refl, ap, _∙_}
 use mathlib.Core.Logic.{_↔_, _≢_, inl, inr}

@@ -1,5 +1,5 @@
--- Calls that only read a session answer alike on sound lines that agree, whatever the number of their sessions; they are told nothing of
--- other users.
+-- Calls that only read a session answer alike on sound lines that agree, whatever the number of their sessions; they
+-- are told nothing of other users.
 -- Assumes nothing.
 use mathlib.Core.Path.{_≡_, refl, sym, ap, _∙_}
 use mathlib.Core.Bool.{Bool, true, not}

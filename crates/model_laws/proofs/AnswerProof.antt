@@ -1,5 +1,5 @@
--- The answer buffer of a call keeps its length: an answer fills nothing, or all the bytes of a buffer that was tested to have
--- as many, or the front of a buffer that was tested to have room for it.
+-- The answer buffer of a call keeps its length: an answer fills nothing, or all the bytes of a buffer that was tested
+-- to have as many, or the front of a buffer that was tested to have room for it.
 -- Assumes nothing.
 use mathlib.Core.Path.{_≡_, refl, sym, ap, _∙_}
 use mathlib.Core.Logic.{_⊎_, inl, inr}

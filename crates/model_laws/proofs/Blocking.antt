@@ -1,4 +1,5 @@
--- Laws of the first exclusion with which a test fails, of the lowest number below a bound, of tests of some member, and of either choice.
+-- Laws of the first exclusion with which a test fails, of the lowest number below a bound, of tests of some member, and
+-- of either choice.
 -- Assumes nothing.
 use mathlib.Core.Path.{_≡_, refl, sym, ap, _∙_, subst}
 use mathlib.Core.Logic.{_⊎_, inl, inr, _↔_}

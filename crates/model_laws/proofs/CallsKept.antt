@@ -62,7 +62,8 @@ module _ (W : ℕ) (m : Meaning) (wide : W ≤ 64) (small : m .roles ≤ 64) whe
   written : (l : Line) → length (l .sessions) ≡ W → SoundLine W m l → SoundBytes W m (writeLine l)
   written l n p = rw (read-back l n p) (parts-sound m l W p)
 
--- what a call does to the sessions that hold role r: they do not become more, or are, together with those of other users, within its limit
+-- what a call does to the sessions that hold role r: they do not become more, or are, together with those of other
+-- users, within its limit
 abbrev pub NoMore : Line → ℕ → Line → Type 0
 NoMore before r after = holding r (after .sessions) ≤ holding r (before .sessions)
 

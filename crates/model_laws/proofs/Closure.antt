@@ -1,5 +1,5 @@
--- The closed table of seniority holds exactly the roles below each role, with itself those that chains of senior words reach, the
--- carried table exactly what a role carries, and the union of its rows exactly what a set of roles carries.
+-- The closed table of seniority holds exactly the roles below each role, with itself those that chains of senior words
+-- reach, the carried table exactly what a role carries, and the union of its rows exactly what a set of roles carries.
 -- Assumes nothing.
 use mathlib.Core.Path.{_≡_, refl, sym, ap, _∙_}
 use mathlib.Core.Logic.{_⊎_, inl, inr, _↔_}

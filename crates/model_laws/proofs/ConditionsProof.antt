@@ -153,7 +153,8 @@ module _ (p : Policy) (u : ℕ) (l : Line) (k lb ub s : ℕ) where
           (within-iff (carriedBy (meaning p u) s) ub .1 (c .upper)) (met-after l k s h p u .1 (c .exclusions)),
     )
 
-    -- on a line where every exclusion is met, as on a sound one, exactly if it meets them with condition 6 for session k alone
+    -- on a line where every exclusion is met, as on a sound one, exactly if it meets them with condition 6 for session
+    -- k alone
     pub solution : exclusionsMet (meaning p u) l ≡ true → (admissible (meaning p u) l k lb ub s ≡ true) ↔ Solution p u l k lb ub s
     solution e = (
       λ a. let c = conditions .0 a in record { own = c .own; lower = c .lower; upper = c .upper; exclusions = λ x m. c .exclusions x m k h },

@@ -1,4 +1,5 @@
--- Entries told apart, and what each does to a policy: those of one sort change a table, or begin an exclusion, and all others leave it.
+-- Entries told apart, and what each does to a policy: those of one sort change a table, or begin an exclusion, and all
+-- others leave it.
 -- Assumes nothing.
 use mathlib.Core.Path.{_≡_, refl}
 use mathlib.Core.Bool.{false}

@@ -23,7 +23,8 @@ use Rattle.model_laws.proofs.LedgerLaws.{patch-outside, apart, withLine
 
 -- ---- what the session rules answer
 
--- a refused call keeps the line and fills nothing; a done one fills nothing or the whole answer buffer, or a text of the length that it tells
+-- a refused call keeps the line and fills nothing; a done one fills nothing or the whole answer buffer, or a text of
+-- the length that it tells
 record Quiet (op : Operation) (bs : List ℕ) (r : Result) : Type 0 where
   line : ¬ (r .reply .number ≡ 0) → r .line ≡ bs
   filled : ¬ (r .reply .number ≡ 0) → r .reply .filled ≡ []

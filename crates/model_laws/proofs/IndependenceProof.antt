@@ -1,5 +1,5 @@
--- The independence rule, proved by induction on the calls: a call changes only the line of the user it names, and goes by that line
--- and by the policy's meaning for that user.
+-- The independence rule, proved by induction on the calls: a call changes only the line of the user it names, and goes
+-- by that line and by the policy's meaning for that user.
 -- Assumes nothing.
 use mathlib.Core.Path.{_≡_, refl, sym, ap, ap₂, _∙_}
 use mathlib.Core.Bool.{false, not, and-false}
@@ -141,8 +141,8 @@ same-words-agree u s t g h a b small e =
       limits = x .limits ∙ ap (λ (q : Policy). q .limits) p ∙ sym (y .limits);
     }
 
--- the session rules give the same: texts aside whatever the order of the exclusions; where no clause text is asked for that is all, else
--- the rest is by the same words
+-- the session rules give the same: texts aside whatever the order of the exclusions; where no clause text is asked for
+-- that is all, else the rest is by the same words
 module _ (W u : ℕ) (r s : Run W) (h : SameFor W u r s) (below : u < s .head .users) where
   abbrev given : Meaning → List Result
   given m = rules W m (firstLine W u r) (toldOf W u r) (callsOf u (r .calls))

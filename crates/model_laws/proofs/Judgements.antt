@@ -1,4 +1,5 @@
--- The judgement of an image taken apart: by its words, then by the lowest role on a loop, then by the lowest user with too many roles.
+-- The judgement of an image taken apart: by its words, then by the lowest role on a loop, then by the lowest user with
+-- too many roles.
 -- Assumes nothing.
 use mathlib.Core.Path.{_≡_, refl, sym, ap, _∙_, subst}
 use mathlib.Core.List.{List}

@@ -120,7 +120,8 @@ own-line z u l =
     ap (λ (x : List ℕ). take (z * u) l ++ (take z (drop (z * u) l) ++ x)) (sym (drop-drop z (z * u) l))
     ∙ ap (λ (x : List ℕ). take (z * u) l ++ x) (take-append-drop z (drop (z * u) l)) ∙ take-append-drop (z * u) l
 
--- ---- a call under a judged image: what holds of every refusal and of what the session rules give to a user with a line holds of it
+-- ---- a call under a judged image: what holds of every refusal and of what the session rules give to a user with a
+-- line holds of it
 pub step-case : (P : Event → Type 0) (W : ℕ) (p : Policy) (l : List ℕ) (c : Call)
     → ((n x : ℕ) → P (record { reply = refuse n x; ledger = l }))
     → (length l ≡ lineSize W * p .head .users → c .user < p .head .users → P (ruled W p l c)) → (v : Checked) → P (stepBy W v p l c)

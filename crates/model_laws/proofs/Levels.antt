@@ -1,5 +1,5 @@
--- Level k of a role holds the roles from which a chain of k senior words leads down to it; the chain that the loop call gives goes down
--- through the levels; and a role on a loop is in one of its own first 64 levels.
+-- Level k of a role holds the roles from which a chain of k senior words leads down to it; the chain that the loop call
+-- gives goes down through the levels; and a role on a loop is in one of its own first 64 levels.
 -- Assumes nothing.
 use mathlib.Core.Path.{_≡_, refl, ap, _∙_}
 use mathlib.Core.Logic.{_⊎_, inl, inr}
@@ -142,7 +142,8 @@ module _ (p : Policy) (range : InRange p) where
   down-lowest (step {a = a} {b = b} {c = r} e q) (suc i) h =
       rw (h 0 (omega arith)) (down-lowest q i (λ j l. rw (h 0 (omega arith)) at (h (suc j) (omega arith))))
 
-  -- ---- a role on a loop is in one of its own first 64 levels: the levels 1 to n together grow by a role each, or grow no more
+  -- ---- a role on a loop is in one of its own first 64 levels: the levels 1 to n together grow by a role each, or grow
+  -- no more
   module _ (r : ℕ) where
     -- the roles of the levels 1 to n
     near : ℕ → ℕ

@@ -1,4 +1,5 @@
--- A call that is no clause text does not look at the order in which the exclusions stand: it goes by the rest of a policy's meaning.
+-- A call that is no clause text does not look at the order in which the exclusions stand: it goes by the rest of a
+-- policy's meaning.
 -- Assumes nothing.
 use mathlib.Core.Path.{_≡_, refl, ap, ap₂, _∙_, sym}
 use mathlib.Core.Bool.{Bool, true, false, _&&_, not, true≢false, _||_}

@@ -1,4 +1,5 @@
--- Laws of the lowest number that passes a test, of the lowest member of a set that does, of a set made by a test, and of sets that meet.
+-- Laws of the lowest number that passes a test, of the lowest member of a set that does, of a set made by a test, and
+-- of sets that meet.
 -- Assumes nothing.
 use mathlib.Core.Path.{_≡_, refl, sym, ap, ap₂, _∙_, subst}
 use mathlib.Core.Logic.{inl, inr, _↔_}

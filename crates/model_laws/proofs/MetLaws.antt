@@ -1,4 +1,5 @@
--- Exclusions and counts: fewer roles counted keep an exclusion met, and none counted meets every exclusion of a policy in range.
+-- Exclusions and counts: fewer roles counted keep an exclusion met, and none counted meets every exclusion of a policy
+-- in range.
 -- Assumes nothing.
 use mathlib.Core.Path.{_≡_, refl, ap, _∙_}
 use mathlib.Core.Bool.{true}

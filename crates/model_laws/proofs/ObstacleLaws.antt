@@ -1,5 +1,6 @@
--- What stands in the way, by a policy's meaning: with no exclusion some set is left exactly if the roles that fit and are not barred give
--- every permission, and so nothing stands in the way exactly if some set is left with every exclusion.
+-- What stands in the way, by a policy's meaning: with no exclusion some set is left exactly if the roles that fit and
+-- are not barred give every permission, and so nothing stands in the way exactly if some set is left with every
+-- exclusion.
 -- Assumes nothing.
 use mathlib.Core.Path.{_≡_, refl, sym, ap, _∙_}
 use mathlib.Core.Logic.{_↔_}

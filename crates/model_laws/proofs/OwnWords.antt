@@ -1,5 +1,5 @@
--- The words of an accepted image that are left for a user, other users' assignments and the end word left out, mean for that user what the
--- image means, the exclusions in the same order.
+-- The words of an accepted image that are left for a user, other users' assignments and the end word left out, mean for
+-- that user what the image means, the exclusions in the same order.
 -- Assumes nothing.
 use mathlib.Core.Path.{_≡_, refl, sym, ap, ap₂, _∙_}
 use mathlib.Core.Bool.{Bool, true, false, true≢false}

@@ -36,8 +36,8 @@ same-line : (k l : Line) → Agreeing k l → length (k .sessions) ≡ length (l
 same-line k l h n =
     λ i. record { opened = h .opened i; history = h .history i; sessions = ext-getD emptySession (k .sessions) (l .sessions) n (λ j _. h .sessions j) i }
 
--- the law of both moves: a line of F sessions with empty ones behind it is sound for F + d exactly if it is sound for F, given that
--- no open bit is above F
+-- the law of both moves: a line of F sessions with empty ones behind it is sound for F + d exactly if it is sound for
+-- F, given that no open bit is above F
 pub padded-sound : (F d : ℕ) (m : Meaning) → Antitone m → (l : Line) → 0 < length (l .sessions)
     → sound F m l ≡ (ltb (l .opened) (2 ^ F) && sound (F + d) m (padded d l))
 padded-sound F d m anti l pos =

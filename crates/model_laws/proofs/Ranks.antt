@@ -1,4 +1,5 @@
--- The order of role sets by the two objectives and the set number: irreflexive, transitive and total, and the one that the counts make.
+-- The order of role sets by the two objectives and the set number: irreflexive, transitive and total, and the one that
+-- the counts make.
 -- Assumes nothing.
 use mathlib.Core.Path.{_≡_, refl, sym, ap, _∙_}
 use mathlib.Core.Logic.{_⊎_, inl, inr}

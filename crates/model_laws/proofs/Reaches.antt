@@ -1,5 +1,5 @@
--- What a user may activate: exactly the roles that chains of senior words lead to from the assigned ones, each of them a role of the
--- policy; where no assigned role stands over another, the assigned ones alone.
+-- What a user may activate: exactly the roles that chains of senior words lead to from the assigned ones, each of them
+-- a role of the policy; where no assigned role stands over another, the assigned ones alone.
 -- Assumes nothing.
 use mathlib.Core.Path.{_≡_, refl, ap, _∙_}
 use mathlib.Core.Logic.{_↔_, inl, inr}

@@ -1,5 +1,5 @@
--- Lines of bytes that agree byte by byte, a byte behind the last counted as 0: they are read alike, for any number of sessions, and a
--- resized line agrees with the one that it came from.
+-- Lines of bytes that agree byte by byte, a byte behind the last counted as 0: they are read alike, for any number of
+-- sessions, and a resized line agrees with the one that it came from.
 -- Assumes nothing.
 use mathlib.Core.Path.{_≡_, refl, sym, ap, ap₂, _∙_}
 use mathlib.Core.List.{List, [], _∷_, _++_}

@@ -1,5 +1,5 @@
--- The laws of sets that are numbers, over any width: a member of each operation's result, equal sets by their members, inclusion, the
--- count.
+-- The laws of sets that are numbers, over any width: a member of each operation's result, equal sets by their members,
+-- inclusion, the count.
 -- Assumes nothing.
 use mathlib.Core.Path.{_≡_, refl, sym, ap, ap₂, _∙_}
 use mathlib.Core.Logic.{_⊎_, inl, inr}

@@ -33,7 +33,8 @@ use Rattle.model_laws.proofs.Inclusion.{within-refl, within-trans, none
 
 -- ---- soundness in parts
 
--- of session j: zero where closed; active within its history, that within the user's; active within the roles that may be active
+-- of session j: zero where closed; active within its history, that within the user's; active within the roles that may
+-- be active
 pub record SoundSession (m : Meaning) (l : Line) (j : ℕ) (s : Session) : Type 0 where
   pub closed : (isOpen l j || (eqb (s .active) 0 && eqb (s .history) 0)) ≡ true
   pub active : within (s .active) (s .history) ≡ true

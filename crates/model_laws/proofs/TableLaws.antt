@@ -16,7 +16,8 @@ use Rattle.model.specs.Ranges.{Each, TableInRange, RowsBelow}
 use Rattle.model_laws.proofs.SetLaws.{with-cases}
 use Rattle.model_laws.proofs.UnionLaws.{has-none}
 
--- at any place of a list with one element replaced: what holds of the new element and of the one that was there holds of what is there
+-- at any place of a list with one element replaced: what holds of the new element and of the one that was there holds
+-- of what is there
 pub set-case : {A : Type 0} (P : ℕ → A → Type 0) (xs : List A) (d : A) (k : ℕ) (v : A) (j : ℕ) → P k v → P j (getD xs j d)
     → P j (getD (set xs k v) j d)
 set-case P [] d k v j a b = b

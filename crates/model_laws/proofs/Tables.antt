@@ -1,5 +1,5 @@
--- The policy of an image is what its words say: a bit of a table is set exactly if some word names it, an exclusion is there exactly
--- if its words are.
+-- The policy of an image is what its words say: a bit of a table is set exactly if some word names it, an exclusion is
+-- there exactly if its words are.
 -- Assumes nothing.
 use mathlib.Core.Path.{_≡_, refl, sym, ap, _∙_, subst}
 use mathlib.Core.Logic.{_⊎_, inl, inr, _↔_}
@@ -46,7 +46,8 @@ kept {P} {named} {e} q = (
   λ h. elim h [ inl p ↦ p | inr p ↦ not-both (eqb (sort named) (sort e)) (eq-eqb (sort named) (sort e) (ap sort p)) q ],
 )
 
--- ---- the entries taken in one by one: where each step adds exactly the named entry's fact, the whole adds it if the entry is among them
+-- ---- the entries taken in one by one: where each step adds exactly the named entry's fact, the whole adds it if the
+-- entry is among them
 module _ {A : Type 0} (step : A → Entry → A) (good : A → Type 0) (keeps : (a : A) (e : Entry) → good a → good (step a e))
     (holds : A → Bool) (named : Entry)
     (one : (a : A) (e : Entry) → good a → (holds (step a e) ≡ true) ↔ ((holds a ≡ true) ⊎ (named ≡ e))) where

@@ -1,4 +1,5 @@
--- The theorems, each one claim. The arguments stand in the files that are cited; docs/PROOFS.md says which demand each one meets.
+-- The theorems, each one claim. The arguments stand in the files that are cited; docs/PROOFS.md says which demand each
+-- one meets.
 -- Assumes nothing.
 use mathlib.Core.Path.{_≡_, sym}
 use mathlib.Core.Logic.{_↔_}
@@ -72,8 +73,8 @@ rank-is = Ranks.rank-is
 pub read-off : (s : List ℕ) → ReadOff s
 read-off = Tables.read-off
 
--- an image is refused by 22 exactly where its words pass and a role is on a loop, with the lowest such role, and then by 23 exactly where
--- a user may activate more than 16 roles, with the lowest such user
+-- an image is refused by 22 exactly where its words pass and a role is on a loop, with the lowest such role, and then
+-- by 23 exactly where a user may activate more than 16 roles, with the lowest such user
 pub judge-is : (s : List ℕ) → JudgeIs s
 judge-is = Judgements.judge-is
 
@@ -105,15 +106,16 @@ module _ (s : List ℕ) (h : Head) (accepted : judge s ≡ Accepted h) where
   pub carried-is : (r m : ℕ) → r < 64 → (has (getD (carriedTable (policyOf s)) r 0) m ≡ true) ↔ Carries (policyOf s) r m
   carried-is = Closure.carried-is (policyOf s) in-range
 
-  -- the roles that a user may activate are those that chains of senior words lead to from an assigned one, and at most 16
+  -- the roles that a user may activate are those that chains of senior words lead to from an assigned one, and at most
+  -- 16
   pub authorized-is : (u r : ℕ) → (has (authorized (policyOf s) u) r ≡ true) ↔ Authorized (policyOf s) u r
   authorized-is = Reaches.authorized-is (policyOf s) in-range
 
   pub few-authorized : (u : ℕ) → FewRoles (policyOf s) u
   few-authorized = Judgements.few-authorized s h accepted
 
-  -- the granting role is named exactly if the role carries the permission; the name is that of the lowest role that is reached and holds
-  -- the grant
+  -- the granting role is named exactly if the role carries the permission; the name is that of the lowest role that is
+  -- reached and holds the grant
   pub granter-is : (r m : ℕ) → r < 64 → GranterIs (policyOf s) r m
   granter-is = Closure.granter-is (policyOf s) in-range
 
@@ -136,7 +138,8 @@ module _ (s : List ℕ) (h : Head) (accepted : judge s ≡ Accepted h) where
   choice-is u l k lower upper a b =
       Choices.choice (meaning (policyOf s) u) l k lower upper a b (unfold meaning in (AdmittedProof.own-below (policyOf s) in-range u))
 
-  -- an ask is answered with the one best admissible set without barred roles, and with none exactly if there is no such set
+  -- an ask is answered with the one best admissible set without barred roles, and with none exactly if there is no such
+  -- set
   pub chosen-is : (u : ℕ) (x : Others) (l : Line) (k : ℕ) (q : Query) → ChosenIs (meaning (policyOf s) u) x l k q
   chosen-is u x l k q = Barred.chosen-is (meaning (policyOf s) u) x l k (unfold meaning in (AdmittedProof.own-below (policyOf s) in-range u)) q
 
@@ -152,7 +155,8 @@ module _ (s : List ℕ) (h : Head) (accepted : judge s ≡ Accepted h) where
     pub admissible-is : (admissible (meaning (policyOf s) u) l k lb ub t ≡ true) ↔ Admitted (policyOf s) u l k lb ub t
     admissible-is = AdmittedProof.admissible-is (policyOf s) in-range u l k lb ub t open-k
 
-    -- on a line where every exclusion is met, as on a sound one, they are 001's as they stand there, condition 6 for session k alone
+    -- on a line where every exclusion is met, as on a sound one, they are 001's as they stand there, condition 6 for
+    -- session k alone
     pub solution-is : exclusionsMet (meaning (policyOf s) u) l ≡ true
         → (admissible (meaning (policyOf s) u) l k lb ub t ≡ true) ↔ Solution (policyOf s) u l k lb ub t
     solution-is = ConditionsProof.solution (policyOf s) u l k lb ub t open-k
@@ -182,8 +186,8 @@ asks-twenty = TwentyProof.asks-twenty
 
 -- ---- independence: demand 3
 
--- two runs that are the same for a user tell that user the same, which is what the session rules give: clause texts too where the words of
--- the images are the same, and every other call without that
+-- two runs that are the same for a user tell that user the same, which is what the session rules give: clause texts too
+-- where the words of the images are the same, and every other call without that
 pub independence : (W u : ℕ) (r s : Run W) → SameFor W u r s → Independent W u r s
 independence = IndependenceProof.independence
 
@@ -195,8 +199,8 @@ pub untold-same : (W u : ℕ) (r s : Run W) → Agree u (policyOf (r .image)) (p
     → toldOf W u r ≡ toldOf W u s
 untold-same = IndependenceProof.untold-same
 
--- images that are the same words, other users' assignments and the end word left out, have policies that agree: for a clause text the
--- independence rule asks for no more than the words
+-- images that are the same words, other users' assignments and the end word left out, have policies that agree: for a
+-- clause text the independence rule asks for no more than the words
 pub same-words-agree : (u : ℕ) (s t : List ℕ) (g h : Head) → judge s ≡ Accepted g → judge t ≡ Accepted h → u < 64 → ownWords u s ≡ ownWords u t
     → Agree u (policyOf s) (policyOf t)
 same-words-agree = IndependenceProof.same-words-agree
@@ -239,6 +243,7 @@ session-frame = SessionFrameProof.session-frame
 pub resized-is : (F : ℕ) → 0 < F → (s : List ℕ) (u : ℕ) (bs : List ℕ) → length bs ≡ lineSize F → Resized F (meaning (policyOf s) u) bs
 resized-is F pos s u bs fits = Padding.resizing F pos (meaning (policyOf s) u) (MetLaws.meaning-antitone (policyOf s) u) bs fits
 
--- a move that is done makes sound lines with the same bytes and the same shows, and the move back is done and gives the ledger back
+-- a move that is done makes sound lines with the same bytes and the same shows, and the move back is done and gives the
+-- ledger back
 pub move-is : (F W : ℕ) → 0 < F → (image old new : List ℕ) → MoveIs F W image old new (move F W image old new)
 move-is = MovesProof.moves

@@ -1,4 +1,5 @@
--- The members of a union of rows: each is a member of some row that the set names. Sets of a width have unions of that width.
+-- The members of a union of rows: each is a member of some row that the set names. Sets of a width have unions of that
+-- width.
 -- Assumes nothing.
 use mathlib.Core.Path.{_≡_, refl, sym, ap, ap₂, _∙_}
 use mathlib.Core.Logic.{_⊎_, inl, inr, _↔_}

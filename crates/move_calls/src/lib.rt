@@ -1,4 +1,5 @@
-// The calls that carry a ledger over, over byte slices: from so many sessions a user to so many, and the two that a host may make.
+// The calls that carry a ledger over, over byte slices: from so many sessions a user to so many, and the two that a
+// host may make.
 ghost use Prim.Native.Nat.{_≤_, _<_};
 ghost use Rattle.model.specs.Line.{SESSIONS};
 ghost use Rattle.model.specs.Moves.{move, widened, narrowed};

@@ -55,8 +55,8 @@ fn put_lines(old: &[u8], from: u8, to: u8, users: usize, new: &mut [u8])
     }
 }
 
-// The ledger carried from so many sessions a user to so many: 9 where the old one does not fit, 19 where the new one does not, then the
-// first fault of a line; else the lines are written.
+// The ledger carried from so many sessions a user to so many: 9 where the old one does not fit, 19 where the new one
+// does not, then the first fault of a line; else the lines are written.
 pub fn move_lines(
     old: &[u8],
     from: u8,

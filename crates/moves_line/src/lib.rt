@@ -1,5 +1,5 @@
-// One line of an old ledger: read as a line of SESSIONS sessions, with empty ones behind its own, judged, and written with the sessions of
-// the new one.
+// One line of an old ledger: read as a line of SESSIONS sessions, with empty ones behind its own, judged, and written
+// with the sessions of the new one.
 ghost use mathlib.Core.Path.{_≡_};
 ghost use mathlib.Core.List.{_++_};
 ghost use Prim.Native.Nat.{_+_, _-_, _*_, _≤_, _<_};
@@ -66,7 +66,8 @@ fn line_in(bytes: &[u8], count: u8) -> Line
     }
 }
 
-// Why a line of `from` sessions cannot go to `to`: 11 where it is not sound, 24 where a session from `to` on is open, else 0.
+// Why a line of `from` sessions cannot go to `to`: 11 where it is not sound, 24 where a session from `to` on is open,
+// else 0.
 pub fn line_fault(
     bytes: &[u8],
     from: u8,

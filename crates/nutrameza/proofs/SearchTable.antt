@@ -16,8 +16,8 @@ use Rattle.turned.specs.Turned.{rowAt, turned}
 use Rattle.turned_table.specs.Table.{grantTable}
 use Rattle.turned_table.proofs.Theorems.{table-is}
 
--- of a table that `query::carriers::carriers` makes for roles of an accepted policy: the word of a wanted permission has, of these roles,
--- those that the permission's row of the turned grant table has
+-- of a table that `query::carriers::carriers` makes for roles of an accepted policy: the word of a wanted permission
+-- has, of these roles, those that the permission's row of the turned grant table has
 pub search-reads : (s : List ℕ) (h : Head) → judge s ≡ Accepted h → (table : List ℕ) (wanted roles : ℕ) → wanted < 2 ^ 256 → roles < 2 ^ 64
     → Named (policyOf s) table wanted roles → (r k : ℕ) → has roles r ≡ true → has wanted k ≡ true
     → has (getD table k 0) r ≡ has (rowAt 8 (turned (grantTable (policyOf s))) k) r

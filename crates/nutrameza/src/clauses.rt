@@ -4,8 +4,8 @@ ghost use lib.ListN.{length};
 ghost use Rattle.model.specs.Line.{SESSIONS};
 ghost use Rattle.model.specs.Run.{step, clausesBy, returned, written};
 
-// Writes an ask as weighted clauses (docs/CLAUSES.md) to the front of the buffer, and returns the text's length as the extra. No session
-// changes; 19 where the text is longer than the buffer, 20 never.
+// Writes an ask as weighted clauses (docs/CLAUSES.md) to the front of the buffer, and returns the text's length as the
+// extra. No session changes; 19 where the text is longer than the buffer, 20 never.
 #[no_mangle]
 pub extern "C" fn nutrameza_clauses(
     image: &[u8],

@@ -1,5 +1,5 @@
-// The calls of the session kit, as a C host makes them: numbers are u64, a slice is a pointer and a length, and the answer is a number
-// plus 256 times an extra. No call requires anything of its arguments.
+// The calls of the session kit, as a C host makes them: numbers are u64, a slice is a pointer and a length, and the
+// answer is a number plus 256 times an extra. No call requires anything of its arguments.
 ghost use mathlib.Core.Path.{_≡_};
 ghost use Prim.Native.Nat.{_+_, _*_};
 ghost use lib.ListN.{length};
@@ -17,8 +17,8 @@ ghost use Rattle.turned.specs.Calls.{turnCall, unturnCall};
 pub mod clauses; // clauses.rt: the clause text of an ask
 pub mod obstacle; // obstacle.rt: what stands in the way of an ask
 
-// Judges an image: 0, or the refusal's number plus 256 times the place of the refused word, by 22 the lowest role on a loop, or by 23 the
-// lowest user who may activate more than 16 roles.
+// Judges an image: 0, or the refusal's number plus 256 times the place of the refused word, by 22 the lowest role on a
+// loop, or by 23 the lowest user who may activate more than 16 roles.
 #[no_mangle]
 pub extern "C" fn nutrameza_check(image: &[u8]) -> u64
     ensures { λ r. ⌜ r ≡ checkNumber (judge (now (image .entry))) ⌝ }
@@ -26,8 +26,8 @@ pub extern "C" fn nutrameza_check(image: &[u8]) -> u64
     image_calls::check_image(image)
 }
 
-// Shows the shortest loop of the lowest role on one: its roles from that role down and back to it, a byte each, and zeros after them. The
-// extra is their number; 20 where no role is on a loop. An image is judged by its words alone.
+// Shows the shortest loop of the lowest role on one: its roles from that role down and back to it, a byte each, and
+// zeros after them. The extra is their number; 20 where no role is on a loop. An image is judged by its words alone.
 #[no_mangle]
 pub extern "C" fn nutrameza_loop(image: &[u8], chain: &mut [u8]) -> u64
     ensures { λ r. ⌜ (r ≡ returned (loopCall (now (image .entry)) (length (now (chain .entry)))))
@@ -36,9 +36,9 @@ pub extern "C" fn nutrameza_loop(image: &[u8], chain: &mut [u8]) -> u64
     image_calls::show_loop(image, chain)
 }
 
-// Writes the tidy image of the image's policy at the front of the buffer: head, assignments, grants, seniors, exclusions, limits, each
-// group ascending by its fields and without repeats, of limits the smallest for a role. The extra is the number of words written; 19
-// for a buffer that is too small for them.
+// Writes the tidy image of the image's policy at the front of the buffer: head, assignments, grants, seniors,
+// exclusions, limits, each group ascending by its fields and without repeats, of limits the smallest for a role. The
+// extra is the number of words written; 19 for a buffer that is too small for them.
 #[no_mangle]
 pub extern "C" fn nutrameza_tidy(image: &[u8], out: &mut [u8]) -> u64
     ensures { λ r. ⌜ (r ≡ tidyCall (now (image .entry)) (now (out .entry)) .number + 256 * tidyCall (now (image .entry)) (now (out .entry)) .extra)
@@ -47,8 +47,8 @@ pub extern "C" fn nutrameza_tidy(image: &[u8], out: &mut [u8]) -> u64
     image_calls::write_tidy(image, out)
 }
 
-// Tells whom the image stops: the users whose line of the ledger is not sound under it, user u as bit u of 8 bytes. The extra is how many
-// they are.
+// Tells whom the image stops: the users whose line of the ledger is not sound under it, user u as bit u of 8 bytes. The
+// extra is how many they are.
 #[no_mangle]
 pub extern "C" fn nutrameza_stopped(image: &[u8], ledger: &[u8], users: &mut [u8]) -> u64
     ensures { λ r. ⌜ (r ≡ returned (stoppedCall SESSIONS (now (image .entry)) (now (ledger .entry)) (length (now (users .entry)))))
@@ -92,8 +92,8 @@ pub extern "C" fn nutrameza_show(
     session_calls::show_session(image, ledger, user, session, answer)
 }
 
-// Explains through which roles the active ones of the user's session carry the permission: the extra is 64 times the lowest that carries
-// it plus the lowest role at or below that one which holds the grant.
+// Explains through which roles the active ones of the user's session carry the permission: the extra is 64 times the
+// lowest that carries it plus the lowest role at or below that one which holds the grant.
 #[no_mangle]
 pub extern "C" fn nutrameza_explain(
     image: &[u8],
@@ -107,7 +107,8 @@ pub extern "C" fn nutrameza_explain(
     session_calls::explain_session(image, ledger, user, session, permission)
 }
 
-// Asks for roles in the user's session: at least the lower permissions, none outside the upper, the best by both objectives.
+// Asks for roles in the user's session: at least the lower permissions, none outside the upper, the best by both
+// objectives.
 #[no_mangle]
 pub extern "C" fn nutrameza_ask(
     image: &[u8],
@@ -163,8 +164,8 @@ pub extern "C" fn nutrameza_short_ask(
     short_asks::short_ask(image, ledger, user, session, lower, upper, answer)
 }
 
-// Carries a ledger of four sessions a user over to one of eight: open bits, histories and each session's bytes stand as they were, and
-// the new sessions are closed. 9 is by 80 bytes a user, 19 by 144; the extra of 11 is the user.
+// Carries a ledger of four sessions a user over to one of eight: open bits, histories and each session's bytes stand as
+// they were, and the new sessions are closed. 9 is by 80 bytes a user, 19 by 144; the extra of 11 is the user.
 #[no_mangle]
 pub extern "C" fn nutrameza_widen(image: &[u8], old: &[u8], new: &mut [u8]) -> u64
     ensures { λ r. ⌜ (r ≡ returned (widened (now (image .entry)) (now (old .entry)) (now (new .entry)) .reply))
@@ -173,8 +174,8 @@ pub extern "C" fn nutrameza_widen(image: &[u8], old: &[u8], new: &mut [u8]) -> u
     move_calls::widen(image, old, new)
 }
 
-// Carries a ledger of eight sessions a user back to one of four. 9 is by 144 bytes a user, 19 by 80; 24 where any of the sessions 4 to 7
-// is open; the extra of 11 and 24 is the user.
+// Carries a ledger of eight sessions a user back to one of four. 9 is by 144 bytes a user, 19 by 80; 24 where any of
+// the sessions 4 to 7 is open; the extra of 11 and 24 is the user.
 #[no_mangle]
 pub extern "C" fn nutrameza_narrow(image: &[u8], old: &[u8], new: &mut [u8]) -> u64
     ensures { λ r. ⌜ (r ≡ returned (narrowed (now (image .entry)) (now (old .entry)) (now (new .entry)) .reply))

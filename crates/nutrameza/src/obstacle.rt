@@ -4,9 +4,9 @@ ghost use lib.ListN.{length};
 ghost use Rattle.model.specs.Line.{SESSIONS};
 ghost use Rattle.model.specs.Run.{step, obstacleBy, returned, answered};
 
-// Tells what stands in the way of an ask with these bounds, as the first of four kinds that holds: the extra is the kind plus 8 times the
-// permission or, of an exclusion, its kind plus 4 times its limit; the buffer is filled with two role sets of 8 bytes. No session changes;
-// 20 where nothing stands in the way.
+// Tells what stands in the way of an ask with these bounds, as the first of four kinds that holds: the extra is the
+// kind plus 8 times the permission or, of an exclusion, its kind plus 4 times its limit; the buffer is filled with two
+// role sets of 8 bytes. No session changes; 20 where nothing stands in the way.
 #[no_mangle]
 pub extern "C" fn nutrameza_obstacle(
     image: &[u8],

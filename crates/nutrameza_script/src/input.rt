@@ -76,8 +76,8 @@ fn answer_chunk(
     }
 }
 
-// Reads once and answers what came; at the end of the input, the line that is begun. A read that fails is not the end: the run stops,
-// with a line on standard error, and a line that is begun gets no answer, since it is not known whole.
+// Reads once and answers what came; at the end of the input, the line that is begun. A read that fails is not the end:
+// the run stops, with a line on standard error, and a line that is begun gets no answer, since it is not known whole.
 fn answer_some(
     image: &[u8],
     ledger: &mut [u8],
@@ -103,8 +103,8 @@ fn answer_some(
     answer_chunk(image, ledger, line, &chunk[..count], out, run)
 }
 
-// Reads and answers until the input ends. A proved loop has to end, so it counts its turns down, from a number of reads that no run uses
-// up; it keeps the number of calls within 64 bits.
+// Reads and answers until the input ends. A proved loop has to end, so it counts its turns down, from a number of reads
+// that no run uses up; it keeps the number of calls within 64 bits.
 fn answer_each(image: &[u8], ledger: &mut [u8], line: &mut [u8], chunk: &mut [u8], out: &mut [u8])
     requires { ⌜ (length (now line) ≡ 174) × (length (now chunk) ≡ 65536) × (160 ≤ length (now out)) ⌝ }
 {
@@ -120,7 +120,8 @@ fn answer_each(image: &[u8], ledger: &mut [u8], line: &mut [u8], chunk: &mut [u8
     }
 }
 
-// Answers all of the input from the first ledger on, by a buffer for a line and one each for what is read and what is written.
+// Answers all of the input from the first ledger on, by a buffer for a line and one each for what is read and what is
+// written.
 pub fn answer_all(image: &[u8], ledger: &mut [u8])
     requires { ⌜ now ledger ≡ firstLedger (judge (now image)) ⌝ }
 {

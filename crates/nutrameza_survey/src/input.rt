@@ -9,8 +9,8 @@ use libc::STDIN_FILENO;
 use survey_counts::counts::count_chunk;
 use survey_counts::counts::count_last;
 
-// The run between two reads: how many bytes of the line are kept, how many calls are answered, whether it goes on, and whether the input
-// is read to its end.
+// The run between two reads: how many bytes of the line are kept, how many calls are answered, whether it goes on, and
+// whether the input is read to its end.
 struct Run {
     kept: usize,
     calls: u64,
@@ -18,8 +18,8 @@ struct Run {
     ended: bool,
 }
 
-// Reads once and counts the answers to what came; at the end of the input, that to the line that is begun. A read that fails is not the
-// end: the run stops, with a line on standard error.
+// Reads once and counts the answers to what came; at the end of the input, that to the line that is begun. A read that
+// fails is not the end: the run stops, with a line on standard error.
 fn count_some(
     image: &[u8],
     ledger: &mut [u8],
@@ -70,8 +70,8 @@ fn count_some(
     }
 }
 
-// Reads and counts until the input ends, and returns whether it is read to its end. A proved loop has to end, so it counts its turns down,
-// from a number of reads that no run uses up; it keeps the counts within 64 bits.
+// Reads and counts until the input ends, and returns whether it is read to its end. A proved loop has to end, so it
+// counts its turns down, from a number of reads that no run uses up; it keeps the counts within 64 bits.
 fn count_each(
     image: &[u8],
     ledger: &mut [u8],
@@ -95,8 +95,8 @@ fn count_each(
     run.ended
 }
 
-// Counts the answers to all of the input from the first ledger on, by a buffer for a line and one for what is read; returns whether the
-// input is read to its end.
+// Counts the answers to all of the input from the first ledger on, by a buffer for a line and one for what is read;
+// returns whether the input is read to its end.
 pub fn count_all(image: &[u8], ledger: &mut [u8], counts: &mut [u64; 256]) -> bool
     requires { ⌜ (now ledger ≡ firstLedger (judge (now image))) × (now counts ≡ replicate 256 0) ⌝ }
 {

@@ -1,5 +1,5 @@
-// What stands in the way of an ask under an accepted policy: refused as a short ask is up to 17, then for a buffer of another length, else
-// told.
+// What stands in the way of an ask under an accepted policy: refused as a short ask is up to 17, then for a buffer of
+// another length, else told.
 ghost use mathlib.Core.Path.{_≡_};
 ghost use mathlib.Core.List.{_++_};
 ghost use Prim.Native.Nat.{_*_, _+_, _≤_, _<_};
@@ -38,7 +38,8 @@ fn fill(roles: &mut [u8], first: u64, second: u64)
     octets::put_numbers(roles, 0, &pair);
 }
 
-// An obstacle is written, both its role sets, and returned: 256 times its kind plus 8 times what it is about. 20 where nothing was found.
+// An obstacle is written, both its role sets, and returned: 256 times its kind plus 8 times what it is about. 20 where
+// nothing was found.
 fn told(found: Found, roles: &mut [u8]) -> u64
     requires { ⌜ length (now roles) ≡ 16 ⌝ }
     ensures { λ r. ⌜ Tells (foundOf found) r (now (roles .entry)) (now (roles .exit)) ⌝ }

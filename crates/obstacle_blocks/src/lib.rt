@@ -1,5 +1,5 @@
-// An exclusion that stands in the way of an ask: of the exclusions in their order the first with which no role set is left. It is found by
-// halving: with fewer exclusions no fewer sets are left.
+// An exclusion that stands in the way of an ask: of the exclusions in their order the first with which no role set is
+// left. It is found by halving: with fewer exclusions no fewer sets are left.
 ghost use mathlib.Core.Path.{_≡_};
 ghost use mathlib.Core.Bool.{true, false};
 ghost use mathlib.Core.List.{[]};
@@ -47,7 +47,8 @@ fn left_with(
     }
 }
 
-// How many exclusions come before the first with which no set is left, where the first `low` leave one and the first `high` leave none.
+// How many exclusions come before the first with which no set is left, where the first `low` leave one and the first
+// `high` leave none.
 fn before_blocking(
     rows: &[[u64; 4]; 64],
     authorized: u64,
@@ -75,7 +76,8 @@ fn before_blocking(
     before_blocking(rows, authorized, xs, low, middle, l, k, wanted)
 }
 
-// What is told of the exclusion of row j: its kind and limit, the members that stay counted whatever is put in for session k, all members.
+// What is told of the exclusion of row j: its kind and limit, the members that stay counted whatever is put in for
+// session k, all members.
 fn told_at(xs: &[[u64; 2]; 32], j: usize, l: Line, k: usize) -> Told
     requires { ⌜ (j < 32) × (k < SESSIONS) × (length (now xs) ≡ 32) ⌝ }
     ensures { λ t. ⌜ foundOf (Found.One t) ≡ blocks l k (some (exclusionOf (getD (now (xs .entry)) j []))) ⌝ }
@@ -93,7 +95,8 @@ fn told_at(xs: &[[u64; 2]; 32], j: usize, l: Line, k: usize) -> Told
     }
 }
 
-// The first exclusion with which no set is left, where one is left without exclusions; nothing where one is left with them all.
+// The first exclusion with which no set is left, where one is left without exclusions; nothing where one is left with
+// them all.
 pub fn blocked(
     rows: &[[u64; 4]; 64],
     authorized: u64,

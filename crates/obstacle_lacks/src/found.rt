@@ -1,6 +1,7 @@
 // What stands in the way of an ask, as a value.
 
-// An obstacle: its kind, what it is about (a permission, or the kind of an exclusion plus 4 times its limit), and two role sets.
+// An obstacle: its kind, what it is about (a permission, or the kind of an exclusion plus 4 times its limit), and two
+// role sets.
 pub struct Told {
     pub kind: u8,
     pub about: u16,

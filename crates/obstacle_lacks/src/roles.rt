@@ -1,5 +1,5 @@
-// The kinds 1 to 3 of an obstacle: a permission of the lower bound that no role gives, with the roles that would give it but for this
-// kind.
+// The kinds 1 to 3 of an obstacle: a permission of the lower bound that no role gives, with the roles that would give
+// it but for this kind.
 ghost use mathlib.Core.Path.{_≡_};
 ghost use mathlib.Core.Bool.{true};
 ghost use Prim.Native.Nat.{ℕ, _^_, _<_};
@@ -72,7 +72,8 @@ fn lacked_by_own(
     })
 }
 
-// The kinds 2 and 3: of the user's roles those that fit the upper bound lack a permission, or those of them that are free (not barred).
+// The kinds 2 and 3: of the user's roles those that fit the upper bound lack a permission, or those of them that are
+// free (not barred).
 fn lacked_within(
     rows: &[[u64; 4]; 64],
     own: u64,

@@ -12,8 +12,8 @@ use Rattle.model.specs.Limits.{Others}
 use Rattle.model.specs.Line.{exclusionsMet}
 use Rattle.asks.specs.Asks.{leftTo}
 
--- it is the policy's: what is granted, who is below whom, what user u may activate, what of that is not barred, and the exclusions, which
--- the line meets, in the order of the tidy image
+-- it is the policy's: what is granted, who is below whom, what user u may activate, what of that is not barred, and the
+-- exclusions, which the line meets, in the order of the tidy image
 pub record Asking (p : Policy) (u : ℕ) (x : Others) (l : Line) (k : ℕ) (granted below : List ℕ) (own free : ℕ) (xs : Exclusions) : Type 0 where
   pub granted-is : granted ≡ p .granted
   pub below-is : below ≡ belowTable p

@@ -1,4 +1,5 @@
--- The lowest line that is not sound: an ask under a policy with limits is refused for it, and where there is none it is told of none.
+-- The lowest line that is not sound: an ask under a policy with limits is refused for it, and where there is none it is
+-- told of none.
 -- Assumes nothing.
 use mathlib.Core.Path.{_≡_, sym, ap, _∙_, subst}
 use mathlib.Core.Bool.{Bool, true, false, _&&_, not, and-false}

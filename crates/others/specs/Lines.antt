@@ -20,7 +20,8 @@ linesRefusal W p ledger u v zero = 0
 linesRefusal W p ledger u v (suc d) =
     elim (sound W (meaning p v) (lineOf W ledger v)) [ true ↦ linesRefusal W p ledger u (suc v) d | false ↦ blamed u v ]
 
--- what another line, or the user's own, refuses an ask with where the policy has limits, the ledger fits and the user has a line
+-- what another line, or the user's own, refuses an ask with where the policy has limits, the ledger fits and the user
+-- has a line
 unfoldable pub othersRefusal : ℕ → Policy → List ℕ → ℕ → ℕ
 othersRefusal W p ledger u =
     elim (hasLimits p && (eqb (length ledger) (lineSize W * p .head .users) && ltb u (p .head .users))) [

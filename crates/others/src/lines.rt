@@ -65,7 +65,8 @@ fn lines_refusal(
     0
 }
 
-// What a line that is not sound refuses an ask with, where some role has a limit; 0 where none has, and where 9 or 10 refuses the ask.
+// What a line that is not sound refuses an ask with, where some role has a limit; 0 where none has, and where 9 or 10
+// refuses the ask.
 pub fn refusal(
     ledger: &[u8],
     rules: Rules,

@@ -209,7 +209,8 @@ row-end row wanted fit fit′ r place before after a b w =
 
 -- ---- the table, role by role
 
--- of the set s the roles of left are still to come, and those before them have joined at the wanted permissions of their rows
+-- of the set s the roles of left are still to come, and those before them have joined at the wanted permissions of
+-- their rows
 pub record Joined (row : ℕ → ℕ) (wanted s left : ℕ) (table : List ℕ) : Type 0 where
   pub size : length table ≡ 256
   pub inside : Sub left s

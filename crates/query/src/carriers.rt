@@ -38,9 +38,9 @@ fn mark_row(table: &mut [u64; 256], row: [u64; 4], wanted: [u64; 4], r: Role)
     }
 }
 
-// The roles of a set join the sets of the wanted permissions of their rows, in a table of empty sets: it then has for each wanted permission
-// the roles of the set whose rows have it. Under every policy in which each of them carries its row, these are those that have a granting
-// role of it.
+// The roles of a set join the sets of the wanted permissions of their rows, in a table of empty sets: it then has for
+// each wanted permission the roles of the set whose rows have it. Under every policy in which each of them carries its
+// row, these are those that have a granting role of it.
 pub fn join_carriers(table: &mut [u64; 256], rows: &[[u64; 4]; 64], set: u64, wanted: [u64; 4])
     requires { ⌜ now table ≡ replicate 256 0 ⌝ }
     ensures { λ _. ⌜ (Turned (rowsOf (now (rows .entry))) (now (table .exit)) (value wanted) set)

@@ -1,4 +1,5 @@
--- Bounds of a search: the least that an objective makes of the sets between two, and that no set within these bounds is better.
+-- Bounds of a search: the least that an objective makes of the sets between two, and that no set within these bounds is
+-- better.
 -- Assumes nothing.
 use mathlib.Core.Path.{_≡_, refl, sym, ap, _∙_}
 use mathlib.Core.Bool.{Bool, true, false}

@@ -42,7 +42,8 @@ pub record Judged (job : Job) (chosen carried : ℕ) (a r : Best) : Type 0 where
 
 -- ---- what no set between can better
 
--- r is at most 256, and an objective makes no less of the count, below d, of any set with the members of a and none outside b
+-- r is at most 256, and an objective makes no less of the count, below d, of any set with the members of a and none
+-- outside b
 pub record LeastCost (d objective a b r : ℕ) : Type 0 where
   pub small : r ≤ 256
   pub least : (s : ℕ) → Sub a s → Sub s b → r ≤ cost objective (count d s)

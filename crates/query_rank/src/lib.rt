@@ -1,4 +1,5 @@
-// How role sets rank: by a key made of the two objectives' costs, of which the lower is better, then by the lower set number.
+// How role sets rank: by a key made of the two objectives' costs, of which the lower is better, then by the lower set
+// number.
 ghost use mathlib.Core.Path.{_≡_};
 ghost use mathlib.Core.Bool.{true};
 ghost use Prim.Native.Nat.{ℕ, _≤_};
@@ -16,8 +17,8 @@ pub struct Best {
 // The key of no set, above that of any.
 pub const NONE: u64 = 1048576;
 
-// What is asked: the lower bound, how many exclusions there are, and the objectives for permissions and then for roles (01: aims): 0 is
-// any, 1 the fewest, 2 the most.
+// What is asked: the lower bound, how many exclusions there are, and the objectives for permissions and then for roles
+// (01: aims): 0 is any, 1 the fewest, 2 the most.
 pub struct Job {
     pub lower: [u64; 4],
     pub count: usize,
@@ -57,7 +58,8 @@ pub fn no_worse(best: Best, key: u64, chosen: u64) -> bool
     (best_key < key) | ((best_key == key) & (best_roles <= chosen))
 }
 
-// The chosen roles, which carry these permissions, where they have the lower bound and are better than the best so far; else that.
+// The chosen roles, which carry these permissions, where they have the lower bound and are better than the best so far;
+// else that.
 pub fn judged(job: Job, chosen: u64, carried: [u64; 4], best: Best) -> Best
     ensures { λ r. ⌜ Judged job chosen (value carried) best r ⌝ }
 {
@@ -95,7 +97,8 @@ pub fn fewest_roles(objective: u8, chosen: u64) -> u32
     0
 }
 
-// What an objective makes at least of the permissions of a set that has those carried, of which it counts `fewest`, and none outside top.
+// What an objective makes at least of the permissions of a set that has those carried, of which it counts `fewest`, and
+// none outside top.
 fn least_permissions(objective: u8, fewest: u32, top: [u64; 4]) -> u32
     ensures { λ r. ⌜ ((carried : ℕ) → (objective ≡ 1 → fewest ≡ count 256 carried) → LeastCost 256 objective carried (value top) r) ⌝ }
 {
@@ -108,7 +111,8 @@ fn least_permissions(objective: u8, fewest: u32, top: [u64; 4]) -> u32
     256 - sets::perm_size(top)
 }
 
-// What an objective makes at least of the roles of a set that has the chosen ones, of which it counts `fewest`, and beside them only free ones.
+// What an objective makes at least of the roles of a set that has the chosen ones, of which it counts `fewest`, and
+// beside them only free ones.
 fn least_roles(objective: u8, fewest: u32, chosen: u64, free: u64) -> u32
     ensures { λ r. ⌜ ((objective ≡ 1 → fewest ≡ count 64 chosen) → LeastCost 64 objective chosen (unionOf chosen free) r) ⌝ }
 {
@@ -121,10 +125,11 @@ fn least_roles(objective: u8, fewest: u32, chosen: u64, free: u64) -> u32
     256 - sets::size(sets::union(chosen, free))
 }
 
-// No set of the chosen roles and some of the free ones that carries the permissions carried, none outside top and all of the lower bound is
-// better than the best so far: top lacks some of the bound, or their least key and the lowest set number, that of the chosen roles alone, are
-// no better. The objectives count so many of the permissions carried and of the chosen roles where they are the fewest: `settled` is called
-// for one such set after the other, and these are the same for all.
+// No set of the chosen roles and some of the free ones that carries the permissions carried, none outside top and all
+// of the lower bound is better than the best so far: top lacks some of the bound, or their least key and the lowest set
+// number, that of the chosen roles alone, are no better. The objectives count so many of the permissions carried and of
+// the chosen roles where they are the fewest: `settled` is called for one such set after the other, and these are the
+// same for all.
 pub fn settled(
     job: Job,
     free: u64,

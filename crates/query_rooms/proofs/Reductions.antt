@@ -1,4 +1,5 @@
--- The reduced exclusions have room for a role set exactly if every exclusion is met once the set is put in (000, Theorem 4.4.1).
+-- The reduced exclusions have room for a role set exactly if every exclusion is met once the set is put in (000,
+-- Theorem 4.4.1).
 -- Assumes nothing.
 use mathlib.Core.Path.{_≡_, refl, sym, ap, ap₂, subst, _∙_}
 use mathlib.Core.Bool.{Bool, true, false, _&&_, _||_, not}

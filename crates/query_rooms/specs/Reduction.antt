@@ -14,9 +14,9 @@ use Rattle.model.specs.Line.{exclusionsMet, putIn}
 use Rattle.model.specs.Reduced.{stays, maskOf, roomOf}
 use Rattle.query_rooms.specs.Rooms.{roomy}
 
--- each exclusion by the members that are not counted yet and by the room that they have; so, under every policy with these exclusions that
--- the line meets, for every set of the user's roles: every exclusion is met once the roles are put in for session k exactly if each reduced
--- one has room for them
+-- each exclusion by the members that are not counted yet and by the room that they have; so, under every policy with
+-- these exclusions that the line meets, for every set of the user's roles: every exclusion is met once the roles are
+-- put in for session k exactly if each reduced one has room for them
 pub record Reduces (x : Exclusions) (l : Line) (k : ℕ) (masks rooms : List ℕ) : Type 0 where
   pub same : (p : Policy) (u : ℕ) → p .exclusions ≡ take (x .count) (x .list) → exclusionsMet (meaning p u) l ≡ true
       → (s : ℕ) → within s (authorized p u) ≡ true → exclusionsMet (meaning p u) (putIn k s l) ≡ roomy masks rooms (x .count) s

@@ -13,8 +13,8 @@ use model::SESSIONS;
 use model::Session;
 use rows::exclusion_of;
 
-// Each exclusion by the members that are not counted yet and by its room, one more than the number of them that may still join: the
-// first `count` of both lists.
+// Each exclusion by the members that are not counted yet and by its room, one more than the number of them that may
+// still join: the first `count` of both lists.
 pub struct Reduced {
     pub masks: [u64; 32],
     pub rooms: [u32; 32],
@@ -34,7 +34,8 @@ fn active_elsewhere(sessions: [Session; SESSIONS], k: usize) -> u64
     active_in(rest)
 }
 
-// What stays counted for a kind, whatever roles are put in: of the session's own active roles nothing, since they are replaced.
+// What stays counted for a kind, whatever roles are put in: of the session's own active roles nothing, since they are
+// replaced.
 fn staying(kind: Kind, elsewhere: u64, session: u64, user: u64) -> u64
     ensures { λ r. ⌜ r ≡ stay kind elsewhere session user ⌝ }
 {

@@ -1,5 +1,5 @@
--- The places behind an image's head: what stands at one, which comes after it, where the next exclusion stands, and what a walk from one
--- exclusion to the next reads.
+-- The places behind an image's head: what stands at one, which comes after it, where the next exclusion stands, and
+-- what a walk from one exclusion to the next reads.
 -- Assumes nothing.
 use mathlib.Core.Bool.{Bool, true, false}
 use mathlib.Core.List.{List, [], _∷_, _++_}

@@ -1,5 +1,6 @@
-// A reader over a policy image: a struct that holds the image's bytes and the place of the next word, and thin functions over it. The
-// work is done by functions of a slice and a place. A place is a word's number in the image, and the head has place 0.
+// A reader over a policy image: a struct that holds the image's bytes and the place of the next word, and thin
+// functions over it. The work is done by functions of a slice and a place. A place is a word's number in the image, and
+// the head has place 0.
 ghost use mathlib.Core.Path.{_≡_};
 ghost use Prim.Native.Nat.{_+_};
 ghost use Rattle.model.specs.Image.{behindHead};
@@ -125,7 +126,8 @@ fn is_exclusion(f: Found) -> bool
     excludes(e)
 }
 
-// The place of the first exclusion behind the place, or 0 where there is none: from one to the next, the exclusions in image order.
+// The place of the first exclusion behind the place, or 0 where there is none: from one to the next, the exclusions in
+// image order.
 pub fn exclusion_after(image: &[u8], place: usize) -> usize
     ensures { λ r. ⌜ r ≡ exclusionAfter (now (image .entry)) place ⌝ }
 {

@@ -1,4 +1,5 @@
--- A call that passes on what the judgement of its image refuses, and else answers no number of a check, refuses as a check does.
+-- A call that passes on what the judgement of its image refuses, and else answers no number of a check, refuses as a
+-- check does.
 -- Assumes nothing.
 use mathlib.Core.Path.{_≡_, refl, sym, ap, ap₂, _∙_, subst}
 use mathlib.Core.Logic.{_⊎_, inl, inr, _↔_}

@@ -1,4 +1,5 @@
--- What a call answers is what the register says: the tests of the session rules decide its cases one by one, and what is done is as written.
+-- What a call answers is what the register says: the tests of the session rules decide its cases one by one, and what
+-- is done is as written.
 -- Assumes nothing.
 use mathlib.Core.Path.{_≡_, refl, sym, ap, ap₂, _∙_, subst}
 use mathlib.Core.Logic.{_⊎_, inl, inr, _↔_}

@@ -1,4 +1,5 @@
--- The scan of an image finds what the register says: at each place the first fault that the word has, and behind the last word the sum.
+-- The scan of an image finds what the register says: at each place the first fault that the word has, and behind the
+-- last word the sum.
 -- Assumes nothing.
 use mathlib.Core.Path.{_≡_, refl, sym, ap, ap₂, _∙_, subst}
 use mathlib.Core.Logic.{_⊎_, inl, inr, _↔_}

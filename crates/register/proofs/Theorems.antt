@@ -1,4 +1,5 @@
--- The theorems on the register, each one claim. The arguments stand in the files that are cited; docs/PROOFS.md says which demand each one meets.
+-- The theorems on the register, each one claim. The arguments stand in the files that are cited; docs/PROOFS.md says
+-- which demand each one meets.
 -- Assumes nothing.
 use mathlib.Core.Path.{_≡_}
 use mathlib.Core.Bool.{true}

@@ -1,5 +1,5 @@
--- The register at a call: 1 to 8 for the image (specs/Faults.antt), 22 and 23, then 9 and up, each in its own words; the first that holds
--- decides, and where none does the call does what is written for it.
+-- The register at a call: 1 to 8 for the image (specs/Faults.antt), 22 and 23, then 9 and up, each in its own words;
+-- the first that holds decides, and where none does the call does what is written for it.
 -- Assumes nothing.
 use mathlib.Core.Path.{_≡_}
 use mathlib.Core.Logic.{_⊎_, _↔_}
@@ -103,8 +103,8 @@ module _ (W : ℕ) (p : Policy) (ledger : List ℕ) (u : ℕ) where
   abbrev pub shown : ℕ → ℕ → Reply
   shown roles permissions = record { number = 0; extra = 0; filled = bytesOf 8 roles ++ bytesOf 32 permissions }
 
-  -- 11, line: this user's line is not sound; for an ask, an obstacle or a clause text under a policy with limits, any line, and the extra
-  -- names the lowest user with one, plus 1, unless that is the asker
+  -- 11, line: this user's line is not sound; for an ask, an obstacle or a clause text under a policy with limits, any
+  -- line, and the extra names the lowest user with one, plus 1, unless that is the asker
   pub data Unsound (asks : Bool) (x : ℕ) : Type 0 where
     own-line : (asks && hasLimits p) ≡ false → ¬ Sound W p u own → x ≡ 0 → Unsound asks x
     some-line : (asks && hasLimits p) ≡ true → (v : ℕ) → LowestUnsound W p ledger v → x ≡ pick (eqb v u) 0 (v + 1) → Unsound asks x

@@ -1,4 +1,5 @@
--- 001's CARD by the sessions themselves: which sessions of all users hold a role once a set is put in, and that there are fewer than t.
+-- 001's CARD by the sessions themselves: which sessions of all users hold a role once a set is put in, and that there
+-- are fewer than t.
 -- Assumes nothing.
 use mathlib.Core.Path.{_≡_}
 use mathlib.Core.Logic.{_↔_}

@@ -1,5 +1,5 @@
--- A word and what it says: each kind's fields, widths and spare bits are said twice, once where a word is read (specs/Image.antt of the
--- model) and once where it is written (specs/Words.antt there), and the two are the same.
+-- A word and what it says: each kind's fields, widths and spare bits are said twice, once where a word is read
+-- (specs/Image.antt of the model) and once where it is written (specs/Words.antt there), and the two are the same.
 -- Assumes nothing.
 use mathlib.Core.Path.{_≡_}
 use mathlib.Core.Logic.{_⊎_, _↔_}
@@ -15,8 +15,8 @@ use Rattle.model.specs.Words.{headWord, assignWord, grantWord, seniorWord, excl
 use Rattle.model.specs.Policy.{kindNumber}
 use Rattle.model.specs.Ranges.{OneTo}
 
--- the fields of an entry fit their widths: 6 bits for a user and a role, 8 for a permission, 7 for n and m, 9 for t; an exclusion word has
--- no member yet
+-- the fields of an entry fit their widths: 6 bits for a user and a role, 8 for a permission, 7 for n and m, 9 for t; an
+-- exclusion word has no member yet
 abbrev pub Fits : Entry → Type 0
 Fits (Assignment u r) = (u .0 < 2 ^ 6) × (r .0 < 2 ^ 6)
 Fits (Grant r p) = (r .0 < 2 ^ 6) × (p .0 < 2 ^ 8)
@@ -27,7 +27,8 @@ Fits (Limit r t) = (r .0 < 2 ^ 6) × (t < 2 ^ 9)
 Fits End = Unit {0}
 Fits Unknown = Unit {0}
 
--- w is the word that is written for the entry; an end word is one for some sum, and the kinds 0, 1 and 8 to 14 say nothing
+-- w is the word that is written for the entry; an end word is one for some sum, and the kinds 0, 1 and 8 to 14 say
+-- nothing
 abbrev pub IsWord : ℕ → Entry → Type 0
 IsWord w (Assignment u r) = w ≡ assignWord (u .0) (r .0)
 IsWord w (Grant r p) = w ≡ grantWord (r .0) (p .0)
@@ -45,8 +46,8 @@ pub record IsHead (w : ℕ) (h : Head) : Type 0 where
   pub permissions : OneTo 256 (h .permissions)
   pub word : w ≡ headWord (h .users) (h .roles) (h .permissions)
 
--- a word is read as an entry without spare bits exactly if it is the one written for the entry, and as a head exactly if it is the one
--- written for the head; whatever it is read as has fields that fit
+-- a word is read as an entry without spare bits exactly if it is the one written for the entry, and as a head exactly
+-- if it is the one written for the head; whatever it is read as has fields that fit
 pub record WordIs (w : ℕ) : Type 0 where
   pub entry : (e : Entry) → Fits e → ((decode w .entry ≡ e) × (decode w .spare ≡ 0)) ↔ IsWord w e
   pub fits : Fits (decode w .entry)

@@ -1,5 +1,5 @@
--- The register's lines 1 to 8 in its own words: what is wrong with a word, by the words that stand before it in the image, and which answer
--- follows. There is no scan here: places are looked back at.
+-- The register's lines 1 to 8 in its own words: what is wrong with a word, by the words that stand before it in the
+-- image, and which answer follows. There is no scan here: places are looked back at.
 -- Assumes nothing.
 use mathlib.Core.Path.{_≡_}
 use mathlib.Core.Logic.{_⊎_, _↔_}
@@ -105,7 +105,8 @@ IsUnknown (Limit r t) = ⊥
 IsUnknown End = ⊥
 IsUnknown Unknown = Unit {0}
 
--- 3, kind: kind 0, 1 or 8 to 14 (specs/Entries.antt); a member not due; no member where due; an end before the end; a last word that is no end
+-- 3, kind: kind 0, 1 or 8 to 14 (specs/Entries.antt); a member not due; no member where due; an end before the end; a
+-- last word that is no end
 pub data WrongKind (e : Entry) (due last : Type 0) : Type 0 where
   no-kind : IsUnknown e → WrongKind e due last
   not-due : IsMember e → ¬ due → WrongKind e due last
@@ -198,7 +199,8 @@ Right s k = (i : ℕ) → 1 ≤ i → i < k → (n : ℕ) → ¬ Fault s i n
 abbrev pub Unbalanced : List ℕ → Type 0
 Unbalanced s = ¬ (sumTo (wordAt s) (words s) % 2 ^ 28 ≡ 0)
 
--- the answer is number n with place k: 1, then 2, then the earliest word with a fault and the lowest fault that it has, then 8
+-- the answer is number n with place k: 1, then 2, then the earliest word with a fault and the lowest fault that it has,
+-- then 8
 pub data Refuses (s : List ℕ) (n k : ℕ) : Type 0 where
   by-length : n ≡ 1 → k ≡ 0 → WrongLength s → Refuses s n k
   by-head : n ≡ 2 → k ≡ 0 → ¬ WrongLength s → WrongHead (wordAt s 0) → Refuses s n k

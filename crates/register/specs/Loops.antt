@@ -1,5 +1,5 @@
--- The register at the loop call, which names no user: 1 to 8 for the image, then 19, then 20. It is there for images that 22 refuses, and so
--- neither 22 nor 23 is among its refusals.
+-- The register at the loop call, which names no user: 1 to 8 for the image, then 19, then 20. It is there for images
+-- that 22 refuses, and so neither 22 nor 23 is among its refusals.
 -- Assumes nothing.
 use mathlib.Core.Path.{_≡_}
 use mathlib.Core.Logic.{_↔_}

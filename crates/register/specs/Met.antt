@@ -1,4 +1,5 @@
--- 001's condition 6 by its members: which roles each kind counts at a session once a set is put in, and when an exclusion is met.
+-- 001's condition 6 by its members: which roles each kind counts at a session once a set is put in, and when an
+-- exclusion is met.
 -- Assumes nothing.
 use mathlib.Core.Path.{_≡_}
 use mathlib.Core.Logic.{_⊎_, _↔_}
@@ -13,8 +14,8 @@ use Rattle.model.specs.Line.{sessionAt}
 use Rattle.model.specs.Conditions.{ActiveElsewhere, countedAfter, MetAfter}
 use Rattle.register.specs.Faults.{Many}
 
--- role r is counted at session j once the set s is put in for session k, in place of what was active there: active in session j; active in
--- any; in session j's history; in the user's
+-- role r is counted at session j once the set s is put in for session k, in place of what was active there: active in
+-- session j; active in any; in session j's history; in the user's
 abbrev pub CountedAfter : Line → ℕ → ℕ → ℕ → Kind → ℕ → Type 0
 CountedAfter l k s j SsDmer r = ((j ≡ k) × (has s r ≡ true)) ⊎ ((¬ (j ≡ k)) × (has (sessionAt l j .active) r ≡ true))
 CountedAfter l k s j MsDmer r = (has s r ≡ true) ⊎ ActiveElsewhere l k r

@@ -1,5 +1,5 @@
--- The register at a move of a ledger from F sessions a user to W, which names no user: as a check, then 9, 19, and the first user whose line
--- cannot go, by 11 or 24.
+-- The register at a move of a ledger from F sessions a user to W, which names no user: as a check, then 9, 19, and the
+-- first user whose line cannot go, by 11 or 24.
 -- Assumes nothing.
 use mathlib.Core.Path.{_≡_}
 use mathlib.Core.Logic.{_↔_}
@@ -36,8 +36,9 @@ module _ (F W : ℕ) (p : Policy) (old : List ℕ) where
     pub below : v < p .head .users
     pub before : (w : ℕ) → w < v → Goes w
 
-  -- 9, ledger: not as many bytes as the lines of F sessions have; 19, room: nor those of W; 11, line: not sound, for the first user
-  -- whose line cannot go; 24, upper sessions: one from W on is open, for the same. The extra of 11 and 24 is that user
+  -- 9, ledger: not as many bytes as the lines of F sessions have; 19, room: nor those of W; 11, line: not sound, for
+  -- the first user whose line cannot go; 24, upper sessions: one from W on is open, for the same. The extra of 11 and
+  -- 24 is that user
   abbrev pub moveCases : List ℕ → List Case
   moveCases new =
       case 9 (¬ (length old ≡ lineSize F * p .head .users)) ∷ case 19 (¬ (length new ≡ lineSize W * p .head .users))

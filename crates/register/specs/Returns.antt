@@ -16,8 +16,8 @@ use Rattle.register.specs.Faults.{Refuses, Accepts}
 abbrev pub Returns : ℕ → ℕ → ℕ → Type 0
 Returns r n x = (r % 256 ≡ n) × (r / 256 ≡ x)
 
--- a check returns 1 to 8 with the place, then 22 with the lowest role on a loop, then 23 with the lowest user who may activate too many
--- roles, and else 0
+-- a check returns 1 to 8 with the place, then 22 with the lowest role on a loop, then 23 with the lowest user who may
+-- activate too many roles, and else 0
 pub record CheckIs (s : List ℕ) : Type 0 where
   pub by-words : (n k : ℕ) → Refuses s n k → Returns (checkNumber (judge s)) n k
   pub by-loop : (h : Head) → Accepts s h → (r : ℕ) → LowestOnLoop (policyOf s) r → Returns (checkNumber (judge s)) 22 r

@@ -23,8 +23,9 @@ Counted W l j MsDmer r = (i : ℕ) × (i < W) × (has (sessionAt l i .active) r 
 Counted W l j SsHmer r = has (sessionAt l j .history) r ≡ true
 Counted W l j MsHmer r = has (l .history) r ≡ true
 
--- a line of W sessions of user u: open bits of these alone; the history below R; a closed session zero; active within the session's
--- history, that within the user's, and active within the roles that the user may activate; of no exclusion are n members counted
+-- a line of W sessions of user u: open bits of these alone; the history below R; a closed session zero; active within
+-- the session's history, that within the user's, and active within the roles that the user may activate; of no
+-- exclusion are n members counted
 pub record Sound (W : ℕ) (p : Policy) (u : ℕ) (l : Line) : Type 0 where
   pub opened : (j : ℕ) → has (l .opened) j ≡ true → j < W
   pub history : (r : ℕ) → has (l .history) r ≡ true → r < p .head .roles

@@ -1,4 +1,5 @@
-// A script's lines answered: the call that a line is made under an image and on a ledger, and its answer written as an output line.
+// A script's lines answered: the call that a line is made under an image and on a ledger, and its answer written as an
+// output line.
 ghost use mathlib.Core.Path.{_≡_};
 ghost use Prim.Native.Nat.{_+_, _≤_, _<_};
 ghost use lib.ListN.{length};

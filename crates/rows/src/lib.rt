@@ -1,5 +1,5 @@
-// An exclusion as a row of two machine words, so that a table of exclusions can go by reference: its kind and its limit in the first word,
-// its members in the second.
+// An exclusion as a row of two machine words, so that a table of exclusions can go by reference: its kind and its limit
+// in the first word, its members in the second.
 ghost use mathlib.Core.Path.{_≡_};
 ghost use Rattle.model.specs.Image.{kindOf};
 ghost use Rattle.model.specs.Policy.{kindNumber};

@@ -1,5 +1,5 @@
--- The independence rule over histories, proved by induction on the runs: a run leaves the same line to a user as the other does, and the
--- next one starts from it.
+-- The independence rule over histories, proved by induction on the runs: a run leaves the same line to a user as the
+-- other does, and the next one starts from it.
 -- Assumes nothing.
 use mathlib.Core.Path.{_≡_, refl, sym, ap, ap₂, _∙_}
 use mathlib.Core.Bool.{Bool, true, false}

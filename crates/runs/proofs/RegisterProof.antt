@@ -1,4 +1,5 @@
--- The stopped call answers as the register says: as a check by the model's judgement, and the set told is the one of its members.
+-- The stopped call answers as the register says: as a check by the model's judgement, and the set told is the one of
+-- its members.
 -- Assumes nothing.
 use mathlib.Core.Path.{_≡_, refl, sym, ap, _∙_, subst}
 use mathlib.Core.Bool.{Bool, true, false, not, true≢false}

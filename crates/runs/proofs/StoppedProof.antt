@@ -1,4 +1,5 @@
--- The stopped call tells whose open is refused by 11: an open of a user with a line is, exactly if the line is not sound.
+-- The stopped call tells whose open is refused by 11: an open of a user with a line is, exactly if the line is not
+-- sound.
 -- Assumes nothing.
 use mathlib.Core.Path.{_≡_, refl, sym, ap, _∙_, subst}
 use mathlib.Core.Bool.{Bool, true, false, not}

@@ -1,4 +1,5 @@
--- The theorems on runs, each one claim. The arguments stand in the files that are cited; docs/PROOFS.md says which demand each one meets.
+-- The theorems on runs, each one claim. The arguments stand in the files that are cited; docs/PROOFS.md says which
+-- demand each one meets.
 -- Assumes nothing.
 use mathlib.Core.Path.{_≡_}
 use mathlib.Core.Bool.{true}
@@ -26,7 +27,8 @@ use Rattle.runs.proofs.Cases
 
 -- ---- one after the other
 
--- the independence rule over changes of the policy: histories that are pairwise the same for a user tell that user the same throughout
+-- the independence rule over changes of the policy: histories that are pairwise the same for a user tell that user the
+-- same throughout
 pub independence-throughout : (W u : ℕ) (h k : History W) → SameThroughout W u h k → IndependentThroughout W u h k
 independence-throughout = HistoriesProof.histories
 
@@ -50,7 +52,8 @@ pub stopped-is : (W : ℕ) (s : List ℕ) (h : Head) → judge s ≡ Accepted h 
     → StoppedIs W s ledger
 stopped-is = StoppedProof.stopped-is
 
--- and that stays so: every later call of such a user is refused by 11, and under a policy without limits none of any other user's
+-- and that stays so: every later call of such a user is refused by 11, and under a policy without limits none of any
+-- other user's
 pub stopped-stays : (W : ℕ) → W ≤ 64 → (r : Run W) → StoppedStays W r
 stopped-stays = StoppedProof.stopped-stays
 

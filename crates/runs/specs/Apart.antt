@@ -1,5 +1,5 @@
--- Two histories of one user that differ in all that others may change, the policy changing while the user has a session open: the order of
--- entries, the other users' assignments, lines and calls, and whom the change stops.
+-- Two histories of one user that differ in all that others may change, the policy changing while the user has a session
+-- open: the order of entries, the other users' assignments, lines and calls, and whom the change stops.
 -- Assumes nothing.
 use mathlib.Core.Path.{_≡_}
 use mathlib.Core.List.{List, [], _∷_, _++_, map}
@@ -42,8 +42,8 @@ oneLedger = replicate 288 0
 unfoldable pub otherLedger : List ℕ
 otherLedger = replicate 144 0 ++ (bytesOf 8 0 ++ (bytesOf 8 2 ++ replicate 128 0))
 
--- The first user opens two sessions, asks in one, which puts in both roles, and closes it; after the change that user opens one again and
--- asks in it. The other users' calls lie between these.
+-- The first user opens two sessions, asks in one, which puts in both roles, and closes it; after the change that user
+-- opens one again and asks in it. The other users' calls lie between these.
 unfoldable pub oneCalls : List Call
 oneCalls = openBy 0 ∷ openBy 0 ∷ asks 0 ∷ closeBy 0 0 ∷ []
 
@@ -56,9 +56,9 @@ otherCalls = openBy 1 ∷ openBy 0 ∷ asks 1 ∷ openBy 0 ∷ asks 0 ∷ closeB
 unfoldable pub otherLater : List Call
 otherLater = openBy 1 ∷ openBy 0 ∷ openBy 2 ∷ asks 2 ∷ asks 0 ∷ []
 
--- These are two histories, pairwise the same for the first user, who is told of both roles, and after the change of role 1 alone. The other
--- users' calls are done, but for the third user's before that one is added, and the second's after the change, which stops that user in
--- the other history.
+-- These are two histories, pairwise the same for the first user, who is told of both roles, and after the change of
+-- role 1 alone. The other users' calls are done, but for the third user's before that one is added, and the second's
+-- after the change, which stops that user in the other history.
 pub record ApartThroughout : Type 0 where
   pub one : History SESSIONS
   pub other : History SESSIONS

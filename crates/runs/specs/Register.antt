@@ -1,4 +1,5 @@
--- The register at the stopped call, which names no user: as a check, then 9, then 19; else it tells the users whose line is not sound.
+-- The register at the stopped call, which names no user: as a check, then 9, then 19; else it tells the users whose
+-- line is not sound.
 -- Assumes nothing.
 use mathlib.Core.Path.{_≡_}
 use mathlib.Core.Logic.{_↔_}

@@ -1,5 +1,5 @@
--- A readable line is short: its words are those of a form, each form bounds each of its words, and the longest form is an ask with both
--- objectives, of at most 173 bytes.
+-- A readable line is short: its words are those of a form, each form bounds each of its words, and the longest form is
+-- an ask with both objectives, of at most 173 bytes.
 -- Assumes nothing.
 use mathlib.Core.Path.{_≡_, refl, sym, ap, _∙_}
 use mathlib.Core.Bool.{Bool, true, false, true≢false}

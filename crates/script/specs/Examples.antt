@@ -1,4 +1,5 @@
--- Scripts with what the program prints for them: 01's six lines, refused images, unreadable lines, and how an input splits into lines.
+-- Scripts with what the program prints for them: 01's six lines, refused images, unreadable lines, and how an input
+-- splits into lines.
 -- Assumes nothing.
 use mathlib.Core.Bool.{Bool}
 use mathlib.Core.List.{List, [], _∷_}
@@ -36,7 +37,8 @@ examples =
     -- the numbers that a line sends on are judged by the call
     ∷ underA "open 1\nopen 999999999\nclose 0 8\nclose 0 0\nopen 0\nask 0 0 20 3f\nask 0 0 3 1f 3 0\n"
     "1 10 0 0 0\n2 10 0 0 0\n3 12 0 0 0\n4 13 0 0 0\n5 0 0 0 0\n6 16 0 0 0\n7 18 0 0 0\n"
-    -- a refused image: the refusal with its place for a readable line, 21 for any other; an image file that can't be read is empty
+    -- a refused image: the refusal with its place for a readable line, 21 for any other; an image file that can't be
+    -- read is empty
     ∷ under [] "open 0\nopen\nshow 7 7\n" "1 1 0 0 0\n2 21 0 0 0\n3 1 0 0 0\n"
     ∷ under (take 48 (imageBytes imageA)) "open 0" "1 3 11 0 0\n"
     -- an input without a line; an empty line; a last line without its newline
@@ -58,7 +60,8 @@ examples =
     ∷ under (imageBytes twoAndBoth) "open 0\nask 0 0 3 3 0 0\nask 0 0 3 3\n" "1 0 0 0 0\n2 0 0 3 3\n3 0 0 4 3\n"
     -- the first ledger has a line for each user
     ∷ under (imageBytes imageOfTwo) "open 1\nopen 2\n" "1 0 0 0 0\n2 10 0 0 0\n"
-    -- the user comes before the session: short asks of user 1 in session 0, and of user 0 in a session 1 that is not open
+    -- the user comes before the session: short asks of user 1 in session 0, and of user 0 in a session 1 that is not
+    -- open
     ∷ under (imageBytes imageOfTwo) "open 1\nask 1 0 3 1f\nask 0 1 3 1f\nask 1 0 10 1f\nshow 1 0\n"
     "1 0 0 0 0\n2 0 0 1 f\n3 13 0 0 0\n4 0 0 2 12\n5 0 0 2 12\n"
     -- call numbers are decimals
@@ -66,8 +69,8 @@ examples =
     "1 21 0 0 0\n2 21 0 0 0\n3 21 0 0 0\n4 21 0 0 0\n5 21 0 0 0\n6 21 0 0 0\n7 21 0 0 0\n8 21 0 0 0\n9 21 0 0 0\n10 21 0 0 0\n"
     ∷ []
 
--- lines of none of the forms: no word, another word, too few or too many, blanks in other places, letters of another size, numerals that
--- are too long or hold another byte
+-- lines of none of the forms: no word, another word, too few or too many, blanks in other places, letters of another
+-- size, numerals that are too long or hold another byte
 unfoldable pub unreadable : List String
 unreadable =
     "" ∷ " " ∷ "open" ∷ "open " ∷ "open 0 " ∷ " open 0" ∷ "open  0" ∷ "open 0 0" ∷ "open\t0" ∷ "open 0\r" ∷ "Open 0" ∷ "OPEN 0" ∷ "opens 0" ∷ "ope 0"

@@ -1,5 +1,5 @@
--- The script of the program: its lines, the call that a line is, the line that is printed for an answer, and all that is printed for an
--- input. In the order of 01's "Ward examples".
+-- The script of the program: its lines, the call that a line is, the line that is printed for an answer, and all that
+-- is printed for an input. In the order of 01's "Ward examples".
 -- Assumes nothing.
 use mathlib.Core.Path.{_≡_, refl}
 use mathlib.Core.Bool.{Bool, true, false, _&&_}
@@ -86,7 +86,8 @@ matches [] (w ∷ ws) = false
 matches (p ∷ ps) [] = false
 matches (p ∷ ps) (w ∷ ws) = suits p w && matches ps ws
 
--- `open` user (01: person); `close` and `show` user session; `ask` user session lower upper, then both objectives (01: aims) or neither
+-- `open` user (01: person); `close` and `show` user session; `ask` user session lower upper, then both objectives (01:
+-- aims) or neither
 unfoldable pub openForm : List Part
 openForm = keyword "open" ∷ decimal ∷ []
 

@@ -1,4 +1,5 @@
--- The theorems on what is printed for a script that comes in chunks, each one claim. The arguments stand in the file that is cited.
+-- The theorems on what is printed for a script that comes in chunks, each one claim. The arguments stand in the file
+-- that is cited.
 -- Assumes nothing.
 use mathlib.Core.Path.{_≡_}
 use mathlib.Core.List.{List, [], _++_}

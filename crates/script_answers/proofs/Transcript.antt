@@ -1,4 +1,5 @@
--- The run by bytes prints the transcript, in whatever chunks the bytes come and however often the text so far is written out.
+-- The run by bytes prints the transcript, in whatever chunks the bytes come and however often the text so far is
+-- written out.
 -- Assumes nothing.
 use mathlib.Core.Path.{_≡_, refl, sym, ap, _∙_}
 use mathlib.Core.List.{List, [], _∷_, _++_, append-nil, append-assoc}
@@ -35,7 +36,8 @@ pub text-apart : (image ledger : List ℕ) (calls : ℕ) (before text : List ℕ
 unfolding outcome
 text-apart image ledger calls before text ls = append-assoc before text (printedFor image ledger (calls + 1) ls)
 
--- What `answer_lines` promises, with the text that was printed before: the buffer is empty before it, and its text is printed behind the other.
+-- What `answer_lines` promises, with the text that was printed before: the buffer is empty before it, and its text is
+-- printed behind the other.
 pub lines-printed : (image chunk line ledger out : List ℕ) (p : Place) (line′ ledger′ out′ : List ℕ) (r : Place) → p .filled ≡ 0
     → AnswersLines image chunk line ledger out p line′ ledger′ out′ r → (text more : List ℕ)
     → outcome image ledger (p .calls) text (linesFrom (take (p .kept) line) (drop (p .next) chunk ++ more))

@@ -9,7 +9,8 @@ use Rattle.script.specs.Script.{printedFor, firstLedger}
 use Rattle.chunks.specs.Kept.{linesFrom}
 use Rattle.script_answers.specs.declared.lines.Place.{Place}
 
--- all that is printed in the end: the text so far, and that for the lines that are left, where so many calls are answered
+-- all that is printed in the end: the text so far, and that for the lines that are left, where so many calls are
+-- answered
 unfoldable pub outcome : List ℕ → List ℕ → ℕ → List ℕ → List (List ℕ) → List ℕ
 outcome image ledger calls text ls = text ++ printedFor image ledger (calls + 1) ls
 
@@ -19,7 +20,8 @@ Ready line chunk out p =
     (length line ≡ 174) × (p .kept ≤ 174) × (p .next < length chunk) × (p .filled + 160 ≤ length out)
     × (p .calls + length chunk ≤ 18446744073709551615 + p .next)
 
--- the lines of a chunk are answered from one place to another: whatever comes behind the chunk, the same is printed in the end
+-- the lines of a chunk are answered from one place to another: whatever comes behind the chunk, the same is printed in
+-- the end
 pub record AnswersLines (image chunk line ledger out : List ℕ) (p : Place) (line′ ledger′ out′ : List ℕ) (r : Place) : Type 0 where
   pub few : r .kept ≤ 174
   pub onward : p .next < r .next
@@ -30,8 +32,8 @@ pub record AnswersLines (image chunk line ledger out : List ℕ) (p : Place) (li
       → outcome image ledger (p .calls) (take (p .filled) out) (linesFrom (take (p .kept) line) (drop (p .next) chunk ++ more))
       ≡ outcome image ledger′ (r .calls) (take (r .filled) out′) (linesFrom (take (r .kept) line′) (drop (r .next) chunk ++ more))
 
--- where the run stands between two chunks: the buffer of the line and how many of its bytes are kept, the ledger, how many calls are
--- answered, and all that is printed so far
+-- where the run stands between two chunks: the buffer of the line and how many of its bytes are kept, the ledger, how
+-- many calls are answered, and all that is printed so far
 pub record Standing : Type 0 where
   pub line : List ℕ
   pub kept : ℕ

@@ -7,8 +7,8 @@ ghost use Rattle.chunks.specs.Kept.{linesFrom};
 ghost use Rattle.script_answers.specs.Buffers.{outcome, Ready, AnswersLines};
 use chunks::lines::gather;
 
-// Where the run stands in a chunk: the place of the next byte, how many bytes of the line are kept, how many calls are answered, and how
-// much of the output buffer is filled.
+// Where the run stands in a chunk: the place of the next byte, how many bytes of the line are kept, how many calls are
+// answered, and how much of the output buffer is filled.
 pub struct Place {
     pub next: usize,
     pub kept: usize,
@@ -57,7 +57,8 @@ pub fn answer_lines(
     }
 }
 
-// Answers a line that is begun at the end of the input, at the start of the output buffer, and returns the length of the answer.
+// Answers a line that is begun at the end of the input, at the start of the output buffer, and returns the length of
+// the answer.
 pub fn answer_last(
     image: &[u8],
     ledger: &mut [u8],

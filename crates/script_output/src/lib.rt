@@ -6,8 +6,8 @@ ghost use Rattle.model.specs.Bytes.{number as numberOf};
 ghost use Rattle.script.specs.Script.{lineOf};
 ghost use Rattle.text.specs.Writing.{Puts};
 
-// Writes the line of call n from `at` on: the number and the extra that the call returned in one, and the 40 bytes that it left in the
-// answer buffer. Returns the place behind it.
+// Writes the line of call n from `at` on: the number and the extra that the call returned in one, and the 40 bytes that
+// it left in the answer buffer. Returns the place behind it.
 pub fn put_returned(out: &mut [u8], at: usize, n: u64, code: u64, answer: &[u8]) -> usize
     requires { ⌜ (at + 160 ≤ length (now out)) × (length (now answer) ≡ 40) ⌝ }
     ensures { λ r. ⌜ (Puts (now (out .entry)) at

@@ -1,7 +1,8 @@
 // A line of the script read as the call that it is.
 pub mod parse;
 
-// The form of a line, with its numbers: user, session, and the objectives of permissions and roles. The bounds of an ask stand beside it.
+// The form of a line, with its numbers: user, session, and the objectives of permissions and roles. The bounds of an
+// ask stand beside it.
 pub enum Form {
     Open(u64),
     Close(u64, u64),

@@ -31,8 +31,8 @@ noBest = record { key = noKey; roles = 0 }
 unfoldable pub answerOf : Best → Choice
 answerOf a = pick (eqb (a .key) noKey) Nothing (Roles (a .roles))
 
--- the roles that the user may activate, what each of them carries, and the sets of them that leave every exclusion met once put in for
--- session k
+-- the roles that the user may activate, what each of them carries, and the sets of them that leave every exclusion met
+-- once put in for session k
 pub record Given (m : Meaning) (l : Line) (k authorized : ℕ) (row : ℕ → ℕ) (room : ℕ → Bool) : Type 0 where
   pub own : m .authorized ≡ authorized
   pub carry : Carry m authorized row

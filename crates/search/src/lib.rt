@@ -36,7 +36,8 @@ fn answer(best: Best) -> Choice
     Choice::Roles(best.roles)
 }
 
-// The best set of free roles, from the empty set, which the exclusions have room for: Procedure 3 unless an objective is the most.
+// The best set of free roles, from the empty set, which the exclusions have room for: Procedure 3 unless an objective
+// is the most.
 fn best_of(rows: &[[u64; 4]; 64], masks: &[u64; 32], rooms: &[u32; 32], job: Job, free: u64) -> Best
     requires { ⌜ (job .count ≤ 32) × (roomy (now masks) (now rooms) (job .count) 0 ≡ true) ⌝ }
     ensures { λ r. ⌜ Found (taskOf (now (rows .entry)) (now (masks .entry)) (now (rooms .entry)) job) 0 free noBest r ⌝ }
@@ -59,8 +60,8 @@ fn best_of(rows: &[[u64; 4]; 64], masks: &[u64; 32], rooms: &[u32; 32], job: Job
     subset_step(rows, &from, masks, rooms, job, free, 0, [0u64; 4], none)
 }
 
-// The best admissible role set, of the roles that the user may activate: at least the lower bound, nothing outside the upper, and
-// room under each exclusion.
+// The best admissible role set, of the roles that the user may activate: at least the lower bound, nothing outside the
+// upper, and room under each exclusion.
 pub fn solve(
     rows: &[[u64; 4]; 64],
     upper: [u64; 4],

@@ -1,4 +1,5 @@
--- What the roles of a set carry: the permissions of its roles and no others, and for a set between no more than the free roles leave.
+-- What the roles of a set carry: the permissions of its roles and no others, and for a set between no more than the
+-- free roles leave.
 -- Assumes nothing.
 use mathlib.Core.Path.{_≡_, refl, sym, ap, _∙_}
 use mathlib.Core.Bool.{Bool, true, false, _||_}

@@ -1,4 +1,5 @@
--- One law for each way in which a step of a search returns: what it hands back is the best of the sets that it stands for.
+-- One law for each way in which a step of a search returns: what it hands back is the best of the sets that it stands
+-- for.
 -- Assumes nothing.
 use mathlib.Core.Path.{_≡_, refl, sym, ap, subst, _∙_}
 use mathlib.Core.Bool.{true, false}

@@ -1,4 +1,5 @@
--- The steps of the searches, in the form of their needs: what a step hands on, and what it hands back, from what its callees ensure.
+-- The steps of the searches, in the form of their needs: what a step hands on, and what it hands back, from what its
+-- callees ensure.
 -- Assumes nothing.
 use mathlib.Core.Path.{_≡_, sym, ap, subst, _∙_}
 use mathlib.Core.Bool.{Bool, true, false, _&&_}

@@ -15,8 +15,8 @@ use Rattle.query_rank.specs.Ranks.{keyBy, rank, rankAt, Between}
 
 -- ---- the task
 
--- what is searched: what each role carries, the lower bound, the role sets that the exclusions have room for, and the objectives for
--- permissions and for roles
+-- what is searched: what each role carries, the lower bound, the role sets that the exclusions have room for, and the
+-- objectives for permissions and for roles
 pub record Task : Type 0 where
   pub row : ℕ → ℕ
   pub lower : ℕ

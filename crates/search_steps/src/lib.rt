@@ -1,5 +1,5 @@
-// The steps of the two searches for a role set. Each is given the roles chosen so far with what they carry, the roles still free, and the
-// best set so far. Which roles carry a wanted permission is read off the turned table.
+// The steps of the two searches for a role set. Each is given the roles chosen so far with what they carry, the roles
+// still free, and the best set so far. Which roles carry a wanted permission is read off the turned table.
 ghost use Rattle.sets.specs.Words.{value};
 ghost use Rattle.query.specs.Carry.{rowsOf, Turned, Sub, Reaches};
 ghost use Rattle.search_steps.specs.Search.{taskOf, Ready, Modest, Found, Tried};
@@ -14,8 +14,8 @@ use query_rank::no_worse;
 use query_rank::settled;
 use query_rooms::rooms::room_for;
 
-// 003's Procedure 3: a permission that is asked for and not carried is taken up, and the roles that carry it are tried. A set that is
-// no better than the best so far is given up, since a larger one is no better than it.
+// 003's Procedure 3: a permission that is asked for and not carried is taken up, and the roles that carry it are tried.
+// A set that is no better than the best so far is given up, since a larger one is no better than it.
 pub fn permission_step(
     rows: &[[u64; 4]; 64],
     masks: &[u64; 32],
@@ -97,8 +97,9 @@ pub fn role_step(
     found
 }
 
-// Every set that has the chosen roles and some of the free ones: with the lowest where the exclusions have room, and then without it. They
-// are given up where none of them can be better than the best so far, by `reach`: what the free roles carry from each role on.
+// Every set that has the chosen roles and some of the free ones: with the lowest where the exclusions have room, and
+// then without it. They are given up where none of them can be better than the best so far, by `reach`: what the free
+// roles carry from each role on.
 pub fn subset_step(
     rows: &[[u64; 4]; 64],
     reach: &[[u64; 4]; 64],

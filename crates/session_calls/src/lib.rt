@@ -1,4 +1,5 @@
-// The calls on a user's session, over byte slices: each reads its image first and is refused as the image is, and then goes by its policy.
+// The calls on a user's session, over byte slices: each reads its image first and is refused as the image is, and then
+// goes by its policy.
 ghost use mathlib.Core.Path.{_≡_};
 ghost use lib.ListN.{length};
 ghost use Rattle.model.specs.Line.{SESSIONS};

@@ -1,4 +1,5 @@
--- A number as d digits of w bits, and the operations on each digit apart: for `[u64; 4]` w is 64 and d is 4, for 32 bytes 8 and 32.
+-- A number as d digits of w bits, and the operations on each digit apart: for `[u64; 4]` w is 64 and d is 4, for 32
+-- bytes 8 and 32.
 -- Assumes nothing.
 use mathlib.Core.Path.{_≡_, refl, sym, ap, ap₂, _∙_, subst}
 use mathlib.Core.Bool.{Bool, true, false, _&&_}

@@ -1,5 +1,5 @@
--- The union of rows over a set: over two sets joined, over one member more, over a union of sets; and a walk that joins the rows of a
--- role set's members one by one.
+-- The union of rows over a set: over two sets joined, over one member more, over a union of sets; and a walk that joins
+-- the rows of a role set's members one by one.
 -- Assumes nothing.
 use mathlib.Core.Path.{_≡_, refl, sym, ap, ap₂, _∙_}
 use mathlib.Core.Bool.{Bool, true, false, _||_}

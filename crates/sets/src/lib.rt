@@ -1,5 +1,5 @@
-// Sets in machine words: role sets in a `u64`, permission sets in a `[u64; 4]` by value. Each function computes what the model's
-// definition of the same name says of the sets that the words hold.
+// Sets in machine words: role sets in a `u64`, permission sets in a `[u64; 4]` by value. Each function computes what
+// the model's definition of the same name says of the sets that the words hold.
 ghost use mathlib.Core.Path.{_≡_};
 ghost use Prim.Native.Nat.{_<_};
 ghost use lib.Dec.{ltb};
@@ -98,8 +98,8 @@ pub struct WideRole(pub u32);
 // A permission's number in 32 bits.
 pub struct WidePermission(pub u32);
 
-// Row r takes in the permission p: of its four words the one that has p is stored, and no other is read. A shift finds the place, and a
-// subtraction the bit: a pass over grants in any order guesses wrong at comparisons.
+// Row r takes in the permission p: of its four words the one that has p is stored, and no other is read. A shift finds
+// the place, and a subtraction the bit: a pass over grants in any order guesses wrong at comparisons.
 pub fn wide_put(rows: &mut [[u64; 4]; 64], r: WideRole, p: WidePermission)
     requires { ⌜ (r .0 < 64) × (p .0 < 256) ⌝ }
     ensures { λ _. ⌜ values (now (rows .exit)) ≡ set (values (now (rows .entry))) (r .0) (withOf (getD (values (now (rows .entry))) (r .0) 0) (p .0)) ⌝ }

@@ -1,5 +1,5 @@
--- What single definitions give on small arguments, by computation. Each fact is false of a wrong definition that must-fail/ tries. The
--- cases from the bytes of whole images are those of StoppedCases.antt.
+-- What single definitions give on small arguments, by computation. Each fact is false of a wrong definition that
+-- must-fail/ tries. The cases from the bytes of whole images are those of StoppedCases.antt.
 -- Assumes nothing.
 use mathlib.Core.Path.{_≡_, refl}
 use mathlib.Core.List.{List, [], _∷_, _++_}

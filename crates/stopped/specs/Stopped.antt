@@ -50,8 +50,8 @@ stoppedCall W image ledger room = stoppedBy W (judge image) (policyOf image) led
 abbrev pub stoppedBits : ℕ → List ℕ → List ℕ → ℕ
 stoppedBits W image ledger = number (stoppedCall W image ledger 8 .filled)
 
--- it is done with 8 bytes, in which a user's bit is set exactly if that user's open on this ledger is refused by 11; the extra is how
--- many users that are; a user with a zero line is never among them
+-- it is done with 8 bytes, in which a user's bit is set exactly if that user's open on this ledger is refused by 11;
+-- the extra is how many users that are; a user with a zero line is never among them
 pub record StoppedIs (W : ℕ) (image ledger : List ℕ) : Type 0 where
   pub done : stoppedCall W image ledger 8 .number ≡ 0
   pub bytes : length (stoppedCall W image ledger 8 .filled) ≡ 8
@@ -59,8 +59,9 @@ pub record StoppedIs (W : ℕ) (image ledger : List ℕ) : Type 0 where
   pub extra : stoppedCall W image ledger 8 .extra ≡ countTo (λ u. eqb (step W image ledger (openBy u) .reply .number) 11) 64
   pub zero : (u : ℕ) → lineAt (lineSize W) u ledger ≡ replicate (lineSize W) 0 → has (stoppedBits W image ledger) u ≡ false
 
--- A user whom the call tells of the ledger that a run starts on is refused by 11 at every call of the run, and the line stays; any other
--- is refused by 11 at none, under a policy without limits; and where the call tells nobody, nobody is, under any policy.
+-- A user whom the call tells of the ledger that a run starts on is refused by 11 at every call of the run, and the line
+-- stays; any other is refused by 11 at none, under a policy without limits; and where the call tells nobody, nobody is,
+-- under any policy.
 pub record StoppedStays (W : ℕ) (r : Run W) : Type 0 where
   pub stopped : (u : ℕ) → has (stoppedBits W (r .image) (r .ledger)) u ≡ true
       → Each (λ e. (e .reply .number ≡ 11) × (e .line ≡ firstLine W u r)) (viewOf W u r)

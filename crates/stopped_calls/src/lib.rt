@@ -31,8 +31,8 @@ fn stopped_set(ledger: &[u8], rules: Rules, authorized: &[u64; 64], xs: &[[u64; 
     found
 }
 
-// Under an accepted policy: 9 where the ledger does not fit, 19 where the buffer has not 8 bytes; else these are the users, and the extra
-// is how many they are.
+// Under an accepted policy: 9 where the ledger does not fit, 19 where the buffer has not 8 bytes; else these are the
+// users, and the extra is how many they are.
 fn tell(
     ledger: &[u8],
     rules: Rules,

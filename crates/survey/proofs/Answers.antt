@@ -1,4 +1,5 @@
--- The transcript is the lines of the list of answers, of which there is one for each line of the input, each with a number below 256.
+-- The transcript is the lines of the list of answers, of which there is one for each line of the input, each with a
+-- number below 256.
 -- Assumes nothing.
 use mathlib.Core.Path.{_≡_, refl, ap}
 use mathlib.Core.Option.{Option, none, some}

@@ -1,5 +1,5 @@
--- The survey of an image and a script: the answers of the script, how many have each number, and all that is printed. In the order of 02's
--- P12.
+-- The survey of an image and a script: the answers of the script, how many have each number, and all that is printed.
+-- In the order of 02's P12.
 -- Assumes nothing.
 use mathlib.Core.Path.{_≡_, refl}
 use mathlib.Core.List.{List, [], _∷_, _++_}
@@ -79,7 +79,8 @@ unfoldable pub surveyBy : Checked → List ℕ → List ℕ → List ℕ
 surveyBy (Refused n place) image input = twoFigures n place
 surveyBy (Accepted h) image input = exclusionLines (policyOf image .exclusions) ++ countLines (countOf (answersOf image input)) 256
 
--- numbers ascend, in whatever order the answers have them: under no image an unreadable line is answered 21, and a readable one 1
+-- numbers ascend, in whatever order the answers have them: under no image an unreadable line is answered 21, and a
+-- readable one 1
 pub counts-ascend : surveyBy (Accepted (record { users = 1; roles = 1; permissions = 1 })) [] (ascii "\nopen 0\n") ≡ ascii "1 1\n21 1\n"
 unfolding scripting answersFor answersOf countOf twoFigures exclusionLines countLine countLines surveyBy
 counts-ascend = refl

@@ -23,7 +23,8 @@ tally image ledger counts (l ∷ ls) = let e = answerTo image ledger l in tally 
 abbrev pub Most : List ℕ → ℕ → Type 0
 Most counts n = (k : ℕ) → getD counts k 0 ≤ n
 
--- the lines that end in a chunk are answered and counted: whatever comes behind the chunk, the counts in the end are the same
+-- the lines that end in a chunk are answered and counted: whatever comes behind the chunk, the counts in the end are
+-- the same
 pub record CountsChunk (image chunk line : List ℕ) (kept : ℕ) (ledger counts : List ℕ) (calls : ℕ) (line′ ledger′ counts′ : List ℕ) (r : Counted) : Type 0 where
   pub few : r .kept ≤ 174
   pub counted : r .calls ≤ calls + length chunk
@@ -32,7 +33,8 @@ pub record CountsChunk (image chunk line : List ℕ) (kept : ℕ) (ledger counts
   pub same : (more : List ℕ) → tally image ledger counts (linesFrom (take kept line) (chunk ++ more))
       ≡ tally image ledger′ counts′ (linesFrom (take (r .kept) line′) more)
 
--- where the counting stands between two chunks: the buffer of the line and how many of its bytes are kept, the ledger and the counts
+-- where the counting stands between two chunks: the buffer of the line and how many of its bytes are kept, the ledger
+-- and the counts
 pub record Standing : Type 0 where
   pub line : List ℕ
   pub kept : ℕ
@@ -45,6 +47,7 @@ pub record Begins (image : List ℕ) (a : Standing) : Type 0 where
   pub ledger : a .ledger ≡ firstLedger (judge image)
   pub counts : a .counts ≡ replicate 256 0
 
--- the counts in the end, where so many bytes are left (`CountsChunk .same` says of a chunk that it takes one standing to another)
+-- the counts in the end, where so many bytes are left (`CountsChunk .same` says of a chunk that it takes one standing
+-- to another)
 unfoldable pub countsFrom : List ℕ → Standing → List ℕ → List ℕ
 countsFrom image a input = tally image (a .ledger) (a .counts) (linesFrom (take (a .kept) (a .line)) input)

@@ -1,4 +1,5 @@
--- The figures of an accepted image's exclusions fit 64 bits, and the last of them counts the sets that an exclusion allows.
+-- The figures of an accepted image's exclusions fit 64 bits, and the last of them counts the sets that an exclusion
+-- allows.
 -- Assumes nothing.
 use mathlib.Core.Path.{_≡_}
 use mathlib.Core.List.{List, [], _∷_}

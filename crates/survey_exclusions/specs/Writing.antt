@@ -12,7 +12,8 @@ use Rattle.survey.specs.Survey.{allowed}
 use Rattle.survey.specs.Parts.{openingOf, isAccepted}
 use Rattle.survey_exclusions.specs.declared.exclusions.Opening.{Opening}
 
--- the limit is at most the number of members, of which there are at most 64, and the number of allowed sets fits 64 bits
+-- the limit is at most the number of members, of which there are at most 64, and the number of allowed sets fits 64
+-- bits
 pub record Fitting (x : Exclusion) : Type 0 where
   pub limit : x .limit ≤ count 64 (x .members)
   pub size : count 64 (x .members) ≤ 64

@@ -43,7 +43,8 @@ fn put_rows(out: &mut [u8], at: usize, rows: &[[u64; 2]; 32], count: usize) -> u
     next
 }
 
-// Writes the lines of an accepted image's exclusions, or the number and the extra of a refused one, at the start of the buffer.
+// Writes the lines of an accepted image's exclusions, or the number and the extra of a refused one, at the start of the
+// buffer.
 pub fn put_opening(image: &[u8], out: &mut [u8]) -> Opening
     requires { ⌜ 2688 ≤ length (now out) ⌝ }
     ensures { λ r. ⌜ Opens (now (image .entry)) (now (out .exit)) r ⌝ }

@@ -1,4 +1,5 @@
--- Counting line after line gives the counts of the list of answers, in whatever chunks the bytes come, and the survey is printed.
+-- Counting line after line gives the counts of the list of answers, in whatever chunks the bytes come, and the survey
+-- is printed.
 -- Assumes nothing.
 use mathlib.Core.Path.{_≡_, refl, sym, ap, _∙_}
 use mathlib.Core.Bool.{Bool, true, false}
@@ -109,8 +110,8 @@ begins-as : (image input : List ℕ) (a : Standing) → Begins image a
 unfolding countsFrom
 begins-as image input a b = rw (b .kept, b .ledger, b .counts)
 
--- In whatever chunks the script comes: what is written before it, and the lines of the counts that they leave, are the survey of the chunks
--- joined.
+-- In whatever chunks the script comes: what is written before it, and the lines of the counts that they leave, are the
+-- survey of the chunks joined.
 pub chunks-print : (image : List ℕ) (cs : List (List ℕ)) (a z : Standing) → Begins image a → TakesAll Standing (List ℕ) (countsFrom image) cs a z
     → openingOf (judge image) image ++ closingOf (judge image) (λ n. getD (countsFrom image z []) n 0) ≡ survey image (joined cs)
 chunks-print image cs a z b h =

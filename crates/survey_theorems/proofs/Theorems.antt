@@ -32,7 +32,8 @@ use Rattle.survey_theorems.proofs.OrderProof
 
 -- ---- the exclusions
 
--- the last figure of an exclusion is the number of role sets within its members that it allows alone, by the session rules' own test
+-- the last figure of an exclusion is the number of role sets within its members that it allows alone, by the session
+-- rules' own test
 pub allowed-counts : (x : Exclusion) → countTo (allowsAlone x) (2 ^ 64) ≡ allowed x
 allowed-counts = Fit.allowed-counts
 
@@ -60,8 +61,8 @@ count-fits = AddUp.count-fits
 
 -- ---- what the program prints
 
--- in whatever chunks the script comes: what is written before it, and the lines of the counts that they leave, are the survey of the chunks
--- joined
+-- in whatever chunks the script comes: what is written before it, and the lines of the counts that they leave, are the
+-- survey of the chunks joined
 pub chunks-print : (image : List ℕ) (cs : List (List ℕ)) (a z : Standing) → Begins image a → TakesAll Standing (List ℕ) (countsFrom image) cs a z
     → openingOf (judge image) image ++ closingOf (judge image) (λ n. getD (countsFrom image z []) n 0) ≡ survey image (joined cs)
 chunks-print = RunProof.chunks-print

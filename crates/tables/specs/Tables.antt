@@ -13,8 +13,8 @@ use Rattle.model.specs.Image.{assigning, scan, emptyRows}
 use Rattle.model.specs.Policy.{Policy, entryAt, entriesFrom, fold, granting, ordering, limiting, exclusionsOf, belowTable, authorized}
 use Rattle.rows.specs.Rows.{exclusionOf}
 
--- the last word judged, where so many members are due, and the sum of all words, `sum` that of the words before: what the scan says of
--- them, and that the word is the end where they are accepted
+-- the last word judged, where so many members are due, and the sum of all words, `sum` that of the words before: what
+-- the scan says of them, and that the word is the end where they are accepted
 pub record Closing (s : List ℕ) (h : Head) (words due sum : ℕ) (r : Checked) : Type 0 where
   pub scanned : (rows : List ℕ) (t : Scan) → t .due ≡ due → r ≡ scan s h (words - (words - 1)) (words - 1) rows t sum
   pub ended : (g : Head) → r ≡ Accepted g → entryAt s (words - 1) ≡ End
@@ -48,7 +48,8 @@ pub record Read (p : Policy) (assigned granted juniors limits : List ℕ) (rows 
   pub few : count ≤ 32
   pub full : length rows ≡ 32
 
--- the same with the roles that each user may activate in place of those assigned, and with the closed table, of the roles below each role
+-- the same with the roles that each user may activate in place of those assigned, and with the closed table, of the
+-- roles below each role
 pub record Tables (p : Policy) (own granted below limits : List ℕ) (rows : List (List ℕ)) (count : ℕ) : Type 0 where
   pub own-is : (u : ℕ) → u < p .head .users → getD own u 0 ≡ authorized p u
   pub granted-is : granted ≡ p .granted

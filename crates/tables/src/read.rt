@@ -119,8 +119,8 @@ fn read_words(
     Reading { checked, count }
 }
 
-// Judges an image by its words and, where they pass, leaves in the tables the roles assigned to each user, the permissions granted to each
-// role, the direct juniors of each role, the limit of each role and the exclusions.
+// Judges an image by its words and, where they pass, leaves in the tables the roles assigned to each user, the
+// permissions granted to each role, the direct juniors of each role, the limit of each role and the exclusions.
 fn gather(
     image: &[u8],
     assigned: &mut [u64; 64],
@@ -162,8 +162,8 @@ fn gather(
     refused(2, 0)
 }
 
-// Judges an image and, where it is accepted, leaves in the tables the roles that each user may activate, the permissions granted to each
-// role, the roles below each role, the limit of each role and the exclusions.
+// Judges an image and, where it is accepted, leaves in the tables the roles that each user may activate, the
+// permissions granted to each role, the roles below each role, the limit of each role and the exclusions.
 pub fn read(
     image: &[u8],
     authorized: &mut [u64; 64],
@@ -187,8 +187,8 @@ pub fn read(
     }
 }
 
-// Judges an image and, where it is accepted, leaves in the tables what its words say: the roles assigned to each user, the permissions
-// granted to each role, the direct juniors of each role, the limit of each role and the exclusions.
+// Judges an image and, where it is accepted, leaves in the tables what its words say: the roles assigned to each user,
+// the permissions granted to each role, the direct juniors of each role, the limit of each role and the exclusions.
 pub fn read_direct(
     image: &[u8],
     assigned: &mut [u64; 64],

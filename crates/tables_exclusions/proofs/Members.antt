@@ -1,4 +1,5 @@
--- The members of an exclusion: named by the m words behind its word, or by those up to the last; and the rows of the exclusions read.
+-- The members of an exclusion: named by the m words behind its word, or by those up to the last; and the rows of the
+-- exclusions read.
 -- Assumes nothing.
 use mathlib.Core.Path.{_≡_, refl, sym, ap, ap₂, _∙_}
 use mathlib.Core.List.{List, [], _∷_, _++_, map, map-append}

@@ -1,4 +1,5 @@
--- What roles carry, by the table of grants and the closed table of juniors: all of them, or those of a set with empty rows elsewhere.
+-- What roles carry, by the table of grants and the closed table of juniors: all of them, or those of a set with empty
+-- rows elsewhere.
 -- Assumes nothing.
 use mathlib.Core.List.{List, map}
 use Prim.Native.Nat.{ℕ}

@@ -21,8 +21,8 @@ pub fn carried(granted: &[[u64; 4]; 64], below: &[u64; 64], wanted: u64) -> [[u6
     out
 }
 
-// What the roles of a set carry, by the closed table: the grants of all that they reach, joined. A permission is in it exactly if a role of
-// the set has a granting role of it (the model's `shown-named`).
+// What the roles of a set carry, by the closed table: the grants of all that they reach, joined. A permission is in it
+// exactly if a role of the set has a granting role of it (the model's `shown-named`).
 pub fn carried_by(granted: &[[u64; 4]; 64], below: &[u64; 64], set: u64) -> [u64; 4]
     ensures { λ s. ⌜ value s ≡ unionAt (carriedOf (values (now (granted .entry))) (now (below .entry))) set ⌝ }
 {

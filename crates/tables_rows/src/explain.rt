@@ -25,7 +25,8 @@ fn two_roles(r: Role, n: Named) -> u64
     }
 }
 
-// What is returned of the lowest role of a set that carries a permission, by the closed table and the roles that hold its grant.
+// What is returned of the lowest role of a set that carries a permission, by the closed table and the roles that hold
+// its grant.
 fn first_carrier(below: &[u64; 64], holding: u64, set: u64) -> u64
     ensures { λ x. ⌜ x ≡ told (explanation (granterBy (withSelves (now (below .entry))) (has holding)) set) ⌝ }
 {
@@ -41,8 +42,8 @@ fn first_carrier(below: &[u64; 64], holding: u64, set: u64) -> u64
     20
 }
 
-// Through which roles a set carries the permission p, by the closed table: 256 times 64 times the lowest that carries it plus its granting
-// role, 20 where none carries it.
+// Through which roles a set carries the permission p, by the closed table: 256 times 64 times the lowest that carries
+// it plus its granting role, 20 where none carries it.
 pub fn explain(granted: &[[u64; 4]; 64], below: &[u64; 64], set: u64, p: Permission) -> u64
     ensures { λ x. ⌜ x ≡ told (explanation (granterBy (withSelves (now (below .entry))) (λ g. has (getD (values (now (granted .entry))) g 0) (p .0))) set) ⌝ }
 {

@@ -12,8 +12,8 @@ use tidy_order::sort::sort;
 use tidy_words::image::count_words;
 use tidy_words::image::put_image;
 
-// The tidy image of the policy that a head, three tables, the first `count` exclusions and the limits make: 256 times the number of its
-// words, which stand at the front of the buffer; 19 for a buffer that is too small for them.
+// The tidy image of the policy that a head, three tables, the first `count` exclusions and the limits make: 256 times
+// the number of its words, which stand at the front of the buffer; 19 for a buffer that is too small for them.
 pub fn tidy(
     h: Head,
     assigned: &[u64; 64],

@@ -1,4 +1,5 @@
--- The listed images are accepted, refused and answered as listed, by computation; what moves are none follows from the theorem.
+-- The listed images are accepted, refused and answered as listed, by computation; what moves are none follows from the
+-- theorem.
 -- Assumes nothing.
 use mathlib.Core.Path.{_≡_, refl, sym, ap, _∙_}
 use mathlib.Core.Bool.{Bool, true, false, true≢false}

@@ -1,4 +1,5 @@
--- Entries moved about leave an accepted image accepted, its policy and its tidy image the same, and every call's answer.
+-- Entries moved about leave an accepted image accepted, its policy and its tidy image the same, and every call's
+-- answer.
 -- Assumes nothing.
 use mathlib.Core.Path.{_≡_, refl, sym, ap, ap₂, _∙_, subst}
 use mathlib.Core.Logic.{_↔_}

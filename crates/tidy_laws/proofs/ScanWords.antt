@@ -1,4 +1,5 @@
--- The scan of an image as a condition on its words: it accepts exactly if every word is without fault and the sum balances.
+-- The scan of an image as a condition on its words: it accepts exactly if every word is without fault and the sum
+-- balances.
 -- Assumes nothing.
 use mathlib.Core.Path.{_≡_, refl, sym, ap, _∙_, subst}
 use mathlib.Core.Bool.{Bool, true, false, not, true≢false}

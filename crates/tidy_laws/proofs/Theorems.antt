@@ -33,21 +33,21 @@ use Rattle.tidy_laws.proofs.OrderCasesProof
 
 -- ---- acceptance without order
 
--- an image is accepted with the head h exactly if its words are whole groups between that head and an end word, each right by itself, and
--- the policy's limits and the sum are kept: order has no part in it
+-- an image is accepted with the head h exactly if its words are whole groups between that head and an end word, each
+-- right by itself, and the policy's limits and the sum are kept: order has no part in it
 pub acceptable-is : (s : List ℕ) (h : Head) → (judge s ≡ Accepted h) ↔ Acceptable s h
 acceptable-is = AcceptableProof.acceptable-is
 
--- policies of accepted images are the same exactly if these have the same head, sets of assignments, grants, senior pairs and exclusions, and
--- smallest limits
+-- policies of accepted images are the same exactly if these have the same head, sets of assignments, grants, senior
+-- pairs and exclusions, and smallest limits
 pub same-policies : (s t : List ℕ) (h k : Head) → judge s ≡ Accepted h → judge t ≡ Accepted k → SamePolicy (policyOf s) (policyOf t) ↔ SameSets s t
 same-policies s t h k a b = (SameSetsProof.policy-sets s t h k a b, SameSetsProof.sets-policy s t h k a b)
 
 -- ---- order of entries
 
--- entries of an accepted image moved about between head and end, an exclusion together with its members, and the members of an exclusion
--- among themselves: the image is accepted with the same head, and has the same end word, policy and tidy image, and every call but the
--- clause text answers alike on every ledger, and so do whole runs
+-- entries of an accepted image moved about between head and end, an exclusion together with its members, and the
+-- members of an exclusion among themselves: the image is accepted with the same head, and has the same end word, policy
+-- and tidy image, and every call but the clause text answers alike on every ledger, and so do whole runs
 pub order-free : (s t : List ℕ) (h : Head) → judge s ≡ Accepted h → Reordered s t → OrderFree s t h
 order-free = OrderProof.order-free
 
@@ -77,7 +77,8 @@ shared = TidyProof.shared
 pub tidy-again : (s : List ℕ) (h : Head) → judge s ≡ Accepted h → tidyOf (tidyOf s) ≡ tidyOf s
 tidy-again = TidyProof.tidy-again
 
--- check, open, close, ask, short ask, show, explain and obstacle answer alike on the image and on its tidy one, and so do whole runs
+-- check, open, close, ask, short ask, show, explain and obstacle answer alike on the image and on its tidy one, and so
+-- do whole runs
 pub tidy-alike : (s : List ℕ) (h : Head) → judge s ≡ Accepted h → Alike s (tidyOf s)
 tidy-alike = TidyProof.tidy-alike
 
@@ -89,7 +90,8 @@ tidy-short = TidyImage.tidy-short
 pub tidy-order : (p : Policy) → TidyOrder p
 tidy-order = TidyOrderProof.tidy-order
 
--- its whole entries are arranged: each comes before all behind it, by sort and then by its fields, and the members of each by role
+-- its whole entries are arranged: each comes before all behind it, by sort and then by its fields, and the members of
+-- each by role
 pub tidy-arranged : (s : List ℕ) (h : Head) → judge s ≡ Accepted h → TidyArranged s h
 tidy-arranged = TidyArrangedProof.tidy-arranged
 
@@ -103,7 +105,8 @@ tidy-is = ArrangedProof.tidy-is
 pub tidy-words : (p : Policy) → TidyWords p
 tidy-words = TidyImage.tidy-words
 
--- a refused call changes no byte of the buffer, and a call that is done none beyond the tidy image; its extra counts the words
+-- a refused call changes no byte of the buffer, and a call that is done none beyond the tidy image; its extra counts
+-- the words
 pub tidy-frame : (s out : List ℕ) → TidyFrame s out
 tidy-frame = TidyFrameProof.tidy-frame
 

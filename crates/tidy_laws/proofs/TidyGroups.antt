@@ -1,4 +1,5 @@
--- The groups of the tidy image of a policy that is in range: each right by itself and backed by the policy, and their exclusions.
+-- The groups of the tidy image of a policy that is in range: each right by itself and backed by the policy, and their
+-- exclusions.
 -- Assumes nothing.
 use mathlib.Core.Path.{_≡_, refl, sym, ap, _∙_, subst}
 use mathlib.Core.Bool.{true, false}

@@ -1,4 +1,5 @@
--- Words written one behind another: a word's four stores, the rest of a list written behind its start, and what the bytes then are.
+-- Words written one behind another: a word's four stores, the rest of a list written behind its start, and what the
+-- bytes then are.
 -- Assumes nothing.
 use mathlib.Core.Path.{_≡_, refl, sym, ap, _∙_}
 use mathlib.Core.List.{List, [], _∷_, _++_, append-assoc}

@@ -29,6 +29,7 @@ puts s (w ∷ ws) = puts (putWord s w) ws
 abbrev pub Room : List ℕ → Cursor → List ℕ → Type 0
 Room bytes c ws = c .at + 4 * length ws ≤ length bytes
 
--- a word for each member of a set of numbers below 64, ascending: the first word and so many units as the member's number says
+-- a word for each member of a set of numbers below 64, ascending: the first word and so many units as the member's
+-- number says
 unfoldable pub setWords : ℕ → ℕ → ℕ → List ℕ
 setWords first unit s = map (λ j. first + j * unit) (membersTo 64 s)

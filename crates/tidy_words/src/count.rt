@@ -1,4 +1,5 @@
-// How many words the tables and the exclusions have, by the sizes of their sets. The bounds keep sums of these numbers in a machine word.
+// How many words the tables and the exclusions have, by the sizes of their sets. The bounds keep sums of these numbers
+// in a machine word.
 ghost use mathlib.Core.Path.{_≡_};
 ghost use mathlib.Core.Bool.{not};
 ghost use mathlib.Core.List.{map};

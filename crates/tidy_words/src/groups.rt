@@ -1,4 +1,5 @@
-// The words of a policy's tables and exclusions: a word for each bit of a table, and for each exclusion its word and its members.
+// The words of a policy's tables and exclusions: a word for each bit of a table, and for each exclusion its word and
+// its members.
 ghost use mathlib.Core.Path.{_≡_};
 ghost use mathlib.Core.List.{map};
 ghost use Prim.Native.Nat.{_≤_, _<_};

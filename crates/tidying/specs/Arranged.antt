@@ -1,5 +1,5 @@
--- The order of whole entries in a tidy image: by sort, then by fields; an exclusion by its kind, its limit and the number of its member set,
--- and its member words by role.
+-- The order of whole entries in a tidy image: by sort, then by fields; an exclusion by its kind, its limit and the
+-- number of its member set, and its member words by role.
 -- Assumes nothing.
 use mathlib.Core.Path.{_≡_, refl}
 use mathlib.Core.Logic.{_⊎_, inl, inr, _↔_}
@@ -39,8 +39,8 @@ By a b rest = (a < b) ⊎ ((a ≡ b) × rest)
 abbrev pub Precedes : Standing → Standing → Type 0
 Precedes x y = By (x .sort) (y .sort) (By (x .first) (y .first) (By (x .second) (y .second) (x .third < y .third)))
 
--- assignments by user and role, grants by role and permission, seniors by both roles, exclusions by kind, limit and member set, limits by
--- role alone, since a role has one
+-- assignments by user and role, grants by role and permission, seniors by both roles, exclusions by kind, limit and
+-- member set, limits by role alone, since a role has one
 unfoldable pub standingOf : Entry → ℕ → Standing
 standingOf (Assignment u r) s = standing 2 (u .0) (r .0) 0
 standingOf (Grant r p) s = standing 3 (r .0) (p .0) 0
@@ -70,7 +70,8 @@ standingIn g = standingOf (entryOf (g .word)) (memberSet (g .members))
 abbrev pub Comes : Group → Group → Type 0
 Comes g k = Precedes (standingIn g) (standingIn k)
 
--- the whole entries of an acceptable image, each before all that stand behind it, and so none twice; the members of each ascending
+-- the whole entries of an acceptable image, each before all that stand behind it, and so none twice; the members of
+-- each ascending
 pub record Arranged (s : List ℕ) (h : Head) (a : Acceptable s h) : Type 0 where
   pub entries : Ascending Comes (a .parts .groups)
   pub members : Each (λ g. Ascending _<_ (map memberRole (g .members))) (a .parts .groups)

@@ -1,4 +1,5 @@
--- Acceptance without order: the words behind the head as groups, and what is asked of each group alone, of the policy and of the sum.
+-- Acceptance without order: the words behind the head as groups, and what is asked of each group alone, of the policy
+-- and of the sum.
 -- Assumes nothing.
 use mathlib.Core.Path.{_≡_}
 use mathlib.Core.Bool.{Bool, true, false}
@@ -31,7 +32,8 @@ memberRole w = field w 22 6
 
 -- ---- groups
 
--- a whole entry: an assignment, a grant, a senior or a limit word alone, or an exclusion word with the member words behind it
+-- a whole entry: an assignment, a grant, a senior or a limit word alone, or an exclusion word with the member words
+-- behind it
 pub record Group : Type 0 where
   pub word : ℕ
   pub members : List ℕ
@@ -97,8 +99,8 @@ pub record Parted (s : List ℕ) : Type 0 where
   pub last : ℕ
   pub words : wordsBehind s ≡ spread groups ++ (last ∷ [])
 
--- what is asked of the policy as a whole: at most 16 roles assigned to a user, at most 32 exclusions, no loop, and at most 16 roles that
--- a user may activate
+-- what is asked of the policy as a whole: at most 16 roles assigned to a user, at most 32 exclusions, no loop, and at
+-- most 16 roles that a user may activate
 pub record Limits (p : Policy) : Type 0 where
   pub few-roles : (u : ℕ) → count 64 (getD (p .assigned) u 0) ≤ 16
   pub few-exclusions : length (p .exclusions) ≤ 32

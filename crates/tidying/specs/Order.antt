@@ -17,7 +17,8 @@ use Rattle.tidying.specs.Tidy.{tidyOf}
 
 -- ---- lists moved about
 
--- the second list has the members of the first, each once for each time, in any order; R says what counts as the same member
+-- the second list has the members of the first, each once for each time, in any order; R says what counts as the same
+-- member
 pub data Rearranged (A : Type 0) (R : A → A → Type 0) : List A → List A → Type 0 where
   none-moved : Rearranged A R [] []
   one-kept : {x y : A} {xs ys : List A} → R x y → Rearranged A R xs ys → Rearranged A R (x ∷ xs) (y ∷ ys)
@@ -35,8 +36,8 @@ pub record SameGroup (g k : Group) : Type 0 where
 
 -- ---- images
 
--- whole groups of the image s are moved about between head and end, each exclusion together with its members, and the members of an
--- exclusion among themselves: that gives the image t
+-- whole groups of the image s are moved about between head and end, each exclusion together with its members, and the
+-- members of an exclusion among themselves: that gives the image t
 pub record Reordered (s t : List ℕ) : Type 0 where
   pub size : length s ≡ length t
   pub head : wordAt s 0 ≡ wordAt t 0
@@ -52,8 +53,9 @@ endOf s = wordAt s (behindHead s)
 
 -- ---- the claims
 
--- order has no say: t is accepted with the head that s is accepted with, has its end word, its policy and its tidy image, and check, open,
--- close, ask, short ask, show, explain and obstacle, and whole runs of them, answer alike under both
+-- order has no say: t is accepted with the head that s is accepted with, has its end word, its policy and its tidy
+-- image, and check, open, close, ask, short ask, show, explain and obstacle, and whole runs of them, answer alike under
+-- both
 pub record OrderFree (s t : List ℕ) (h : Head) : Type 0 where
   pub accepted : judge t ≡ Accepted h
   pub end : endOf s ≡ endOf t

@@ -16,8 +16,8 @@ use Rattle.tidying.specs.Order.{Reordered}
 
 -- ---- images
 
--- one user, four roles, all of them hers, and two permissions; role 0 is granted permission 0, role 2 permission 1; the roles 0 and 1
--- exclude each other in all her open sessions, 2 and 3 in each one; two limits on role 0
+-- one user, four roles, all of them hers, and two permissions; role 0 is granted permission 0, role 2 permission 1; the
+-- roles 0 and 1 exclude each other in all her open sessions, 2 and 3 in each one; two limits on role 0
 unfoldable pub plain : List ℕ
 plain =
     0x10210040 ∷ 0x20000000 ∷ 0x20010000 ∷ 0x20020000 ∷ 0x20030000 ∷ 0x30000000 ∷ 0x30804000 ∷ 0x54102000 ∷ 0x60000000 ∷ 0x60400000

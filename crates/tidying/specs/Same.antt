@@ -1,4 +1,5 @@
--- Images that say the same and policies that are the same, order and repeats of entries aside, and images under which calls answer alike.
+-- Images that say the same and policies that are the same, order and repeats of entries aside, and images under which
+-- calls answer alike.
 -- Assumes nothing.
 use mathlib.Core.Path.{_≡_, refl}
 use mathlib.Core.Bool.{Bool, true, false}
@@ -15,8 +16,8 @@ use Rattle.model.specs.Session.{isText}
 use Rattle.model.specs.Run.{Call, clausesBy, step, run}
 use Rattle.model.specs.Read.{Said, Excluded, Smallest}
 
--- the images have the same head, the same sets of assignments, grants, senior pairs and exclusions, and the same smallest limit of each
--- role
+-- the images have the same head, the same sets of assignments, grants, senior pairs and exclusions, and the same
+-- smallest limit of each role
 pub record SameSets (s t : List ℕ) : Type 0 where
   pub heads : headOf (wordAt s 0) ≡ headOf (wordAt t 0)
   pub assignments : (u r : ℕ) → Said s (Assignment (user u) (role r)) ↔ Said t (Assignment (user u) (role r))
@@ -42,8 +43,9 @@ pub texts-ask : (user session room : ℕ) → asksText (clausesBy user session [
 unfolding asksText isText clausesBy
 texts-ask user session room = refl
 
--- calls answer alike under two images: a check, and for every number of sessions and every ledger every call (open, close, ask, short
--- ask, show, explain, obstacle) and every list of them, with the same number, extra, filled bytes and ledger
+-- calls answer alike under two images: a check, and for every number of sessions and every ledger every call (open,
+-- close, ask, short ask, show, explain, obstacle) and every list of them, with the same number, extra, filled bytes and
+-- ledger
 pub record Alike (s t : List ℕ) : Type 0 where
   pub checks : judge s ≡ judge t
   pub steps : (W : ℕ) (ledger : List ℕ) (c : Call) → asksText c ≡ false → step W s ledger c ≡ step W t ledger c

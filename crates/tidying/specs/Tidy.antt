@@ -1,5 +1,5 @@
--- The tidy image of a policy: head, assignments, grants, seniors, exclusions, limits, each sort ascending by its fields and
--- without repeats, a limit for each role that has one.
+-- The tidy image of a policy: head, assignments, grants, seniors, exclusions, limits, each sort ascending by its fields
+-- and without repeats, a limit for each role that has one.
 -- Assumes nothing.
 use mathlib.Core.Path.{_≡_, refl}
 use mathlib.Core.Logic.{_↔_}
@@ -71,7 +71,8 @@ tidyGroups p =
     ++ (tableGroups grantWord 256 0 (p .granted)
     ++ (tableGroups seniorWord 64 0 (p .juniors) ++ (map exclusionGroup (sorted (p .exclusions)) ++ limitGroups (p .limits))))
 
--- one user with role 1, a grant of each of two roles, role 1 over role 0, two exclusions of the two and a limit on role 1
+-- one user with role 1, a grant of each of two roles, role 1 over role 0, two exclusions of the two and a limit on role
+-- 1
 abbrev pub twoRoles : Policy
 twoRoles =
     record {
@@ -120,8 +121,8 @@ pub record Written : Type 0 where
   pub extra : ℕ
   pub out : List ℕ
 
--- a refused image ends the call there; 19 for a buffer smaller than the tidy image; else the image in front of what was there, and the
--- number of words written
+-- a refused image ends the call there; 19 for a buffer smaller than the tidy image; else the image in front of what was
+-- there, and the number of words written
 unfoldable pub tidyBy : Checked → Policy → List ℕ → Written
 tidyBy (Refused n place) p out = record { number = n; extra = place; out = out }
 tidyBy (Accepted h) p out =
@@ -147,8 +148,8 @@ loop-refused = refl
 abbrev pub TidyWords : Policy → Type 0
 TidyWords p = length (tidy p) ≡ 4 * (2 + length (spread (tidyGroups p)))
 
--- ascending, and so nothing repeated: words of one kind as numbers, which is by their fields; exclusions by kind, limit and member set;
--- the member words of each exclusion; limit words in range
+-- ascending, and so nothing repeated: words of one kind as numbers, which is by their fields; exclusions by kind, limit
+-- and member set; the member words of each exclusion; limit words in range
 pub record TidyOrder (p : Policy) : Type 0 where
   pub assignments : Ascending _<_ (spread (tableGroups assignWord 64 0 (p .assigned)))
   pub grants : Ascending _<_ (spread (tableGroups grantWord 256 0 (p .granted)))
@@ -157,8 +158,8 @@ pub record TidyOrder (p : Policy) : Type 0 where
   pub members : (x : Exclusion) → Ascending _<_ (exclusionGroup x .members)
   pub limits : LimitsInRange (p .head .roles) (p .limits) → Ascending _<_ (spread (limitGroups (p .limits)))
 
--- two accepted images share their tidy image exactly if head, sets of assignments, grants, senior pairs and exclusions, and smallest
--- limits are the same
+-- two accepted images share their tidy image exactly if head, sets of assignments, grants, senior pairs and exclusions,
+-- and smallest limits are the same
 abbrev pub Shared : List ℕ → List ℕ → Type 0
 Shared s t = (tidyOf s ≡ tidyOf t) ↔ SameSets s t
 
@@ -171,8 +172,9 @@ pub record TidyFrame (s out : List ℕ) : Type 0 where
   pub front : tidyCall s out .number ≡ 0 → take (length (tidyOf s)) (tidyCall s out .out) ≡ tidyOf s
   pub counted : tidyCall s out .number ≡ 0 → 4 * tidyCall s out .extra ≡ length (tidyOf s)
 
--- how the call is answered, beside the register: it refuses as a check does, whatever the buffer; then by 19 with extra 0 exactly if the
--- buffer is smaller than the tidy image; it is done exactly if neither is so; and a call that is not done leaves every byte of the buffer
+-- how the call is answered, beside the register: it refuses as a check does, whatever the buffer; then by 19 with extra
+-- 0 exactly if the buffer is smaller than the tidy image; it is done exactly if neither is so; and a call that is not
+-- done leaves every byte of the buffer
 pub record TidyRefuses (s out : List ℕ) : Type 0 where
   pub check : RefusesAsCheck s (tidyCall s out .number) (tidyCall s out .extra)
   pub room : (tidyCall s out .number ≡ 19) ↔ (Passes s × (length out < length (tidyOf s)))

@@ -1,5 +1,5 @@
--- Two images of one policy with their entries in disorder and some twice, their tidy image, and what the call leaves of a buffer; images that
--- are refused.
+-- Two images of one policy with their entries in disorder and some twice, their tidy image, and what the call leaves of
+-- a buffer; images that are refused.
 -- Assumes nothing.
 use mathlib.Core.Path.{_≡_}
 use mathlib.Core.List.{List, [], _∷_, _++_}
@@ -11,7 +11,8 @@ use Rattle.model.specs.Judgement.{judge}
 use Rattle.model_cases.specs.Refusals.{overOthers}
 use Rattle.tidying.specs.Tidy.{tidyOf, Written, tidyCall}
 
--- two users, four roles, four permissions; an assignment, a grant and an exclusion stand twice, and role 1 has two limits
+-- two users, four roles, four permissions; an assignment, a grant and an exclusion stand twice, and role 1 has two
+-- limits
 unfoldable pub jumbled : List ℕ
 jumbled =
     0x10410080 ∷ 0x70406000 ∷ 0x40420000 ∷ 0x30400000 ∷ 0x54183000 ∷ 0x60800000 ∷ 0x60000000 ∷ 0x60400000 ∷ 0x20400000 ∷ 0x3000C000
@@ -26,8 +27,9 @@ shuffled =
     ∷ 0x60400000 ∷ 0x54103000 ∷ 0x60800000 ∷ 0x60400000 ∷ 0x60000000 ∷ 0x40030000 ∷ 0x40420000 ∷ 0x30400000 ∷ 0x3000C000 ∷ 0x54102000
     ∷ 0x60C00000 ∷ 0x60400000 ∷ 0x54183000 ∷ 0x60000000 ∷ 0x60400000 ∷ 0x60800000 ∷ 0x70200000 ∷ 0x70406000 ∷ 0xF936CF80 ∷ []
 
--- assignments by user, grants by role, seniors, then exclusions: one of kind 0, though its limit is 3; of kind 1 with limit 2 the members
--- 0, 1, 2 (set 7) before 1, 3 (set 10), though they are more; with limit 3 the set 7 again; then the limits, 256 of role 0 and 2 of role 1
+-- assignments by user, grants by role, seniors, then exclusions: one of kind 0, though its limit is 3; of kind 1 with
+-- limit 2 the members 0, 1, 2 (set 7) before 1, 3 (set 10), though they are more; with limit 3 the set 7 again; then
+-- the limits, 256 of role 0 and 2 of role 1
 unfoldable pub neat : List ℕ
 neat =
     0x10410080 ∷ 0x20010000 ∷ 0x20400000 ∷ 0x3000C000 ∷ 0x30400000 ∷ 0x40030000 ∷ 0x40420000 ∷ 0x50183000 ∷ 0x60000000 ∷ 0x60800000

@@ -1,5 +1,5 @@
--- Moves that are none, each a fact that is false of a definition by which entries move too freely: a member stays in its group, the head
--- and the end word stay, an exclusion keeps its members.
+-- Moves that are none, each a fact that is false of a definition by which entries move too freely: a member stays in
+-- its group, the head and the end word stay, an exclusion keeps its members.
 -- Assumes nothing.
 use mathlib.Core.Path.{_≡_, refl, sym, ap, ap₂, _∙_}
 use mathlib.Core.List.{List, [], _∷_, _++_}

@@ -31,8 +31,8 @@ pub record RoundTrips (bs : List ℕ) : Type 0 where
   pub turned-back : unturnCall (turnCall bs 2048 .filled) 2048 ≡ filling bs
   pub unturned-back : turnCall (unturnCall bs 2048 .filled) 2048 ≡ filling bs
 
--- how a call that turns a source by f is answered for a buffer: by 19 with extra 0, the buffer left as it was, exactly if source or buffer
--- has not 2,048 bytes, and else it is done
+-- how a call that turns a source by f is answered for a buffer: by 19 with extra 0, the buffer left as it was, exactly
+-- if source or buffer has not 2,048 bytes, and else it is done
 pub record TurnRefuses (call : List ℕ → ℕ → Reply) (f : List ℕ → List ℕ) (source buffer : List ℕ) : Type 0 where
   pub room : (call source (length buffer) ≡ refuse 19 0) ↔ ((¬ (length source ≡ 2048)) ⊎ (¬ (length buffer ≡ 2048)))
   pub done : (call source (length buffer) ≡ filling (f source)) ↔ ((length source ≡ 2048) × (length buffer ≡ 2048))

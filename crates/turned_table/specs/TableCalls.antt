@@ -32,9 +32,9 @@ tableCall image room = tableBy (judge image) (policyOf image) room
 
 -- ---- claims
 
--- how the table call is answered for a buffer, beside the register: it refuses as a check does, whatever the buffer; then by 19 with extra 0
--- exactly if the buffer has not 2,048 bytes; it is done, with the table, exactly if neither is so; and a call that is not done leaves the
--- buffer as it was
+-- how the table call is answered for a buffer, beside the register: it refuses as a check does, whatever the buffer;
+-- then by 19 with extra 0 exactly if the buffer has not 2,048 bytes; it is done, with the table, exactly if neither is
+-- so; and a call that is not done leaves the buffer as it was
 pub record TableRefuses (s buffer : List ℕ) : Type 0 where
   pub check : RefusesAsCheck s (tableCall s (length buffer) .number) (tableCall s (length buffer) .extra)
   pub room : (tableCall s (length buffer) ≡ refuse 19 0) ↔ (Passes s × ¬ (length buffer ≡ 2048))

@@ -171,7 +171,8 @@ pub fn ask(rng: &mut Rng, policy: &Policy, ledger: &[u8]) -> Call {
     Call::Ask { user, session, lower, upper, objectives: (objective(rng), objective(rng)), room }
 }
 
-/// A clause text of an ask, mostly on a session that is open in this ledger; its buffer is long enough for small policies, mostly.
+/// A clause text of an ask, mostly on a session that is open in this ledger; its buffer is long enough for small
+/// policies, mostly.
 pub fn clauses(rng: &mut Rng, policy: &Policy, ledger: &[u8]) -> Call {
     let user = user(rng, policy);
     let known = if user < policy.users as u64 { user as usize } else { 0 };

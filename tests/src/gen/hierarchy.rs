@@ -1,5 +1,5 @@
-//! Hierarchies for the loops: none, one and several, apart and with shared roles, roles above them, many shortest chains. Hierarchies
-//! without a loop in which users reach about 16 roles, in several ways.
+//! Hierarchies for the loops: none, one and several, apart and with shared roles, roles above them, many shortest
+//! chains. Hierarchies without a loop in which users reach about 16 roles, in several ways.
 
 use super::policy::Draft;
 use super::Rng;
@@ -55,7 +55,8 @@ fn either_way(rng: &mut Rng, draft: &mut Draft, most: u64) {
     }
 }
 
-/// A role over a layer of roles, each of them over each of the next layer, and so on; the last layer stands over the role.
+/// A role over a layer of roles, each of them over each of the next layer, and so on; the last layer stands over the
+/// role.
 fn layers(rng: &mut Rng, draft: &mut Draft) {
     let count = draft.roles as usize;
     let roles = draft.some_roles(rng, count);
@@ -92,8 +93,8 @@ pub fn reaching(rng: &mut Rng) -> Draft {
     draft
 }
 
-/// The user reaches at least these roles, a senior one before its juniors: all of them assigned, one over the others, a chain, chains that
-/// overlap, or some assigned with the others below any of those before them.
+/// The user reaches at least these roles, a senior one before its juniors: all of them assigned, one over the others, a
+/// chain, chains that overlap, or some assigned with the others below any of those before them.
 fn route(rng: &mut Rng, draft: &mut Draft, user: u32, roles: &[u32]) {
     let over = |senior: usize, junior: usize| vec![words::senior(roles[senior], roles[junior])];
     let assigned = match rng.below(5) {

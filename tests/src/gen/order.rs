@@ -1,5 +1,5 @@
-//! Entries moved about between head and end: an image, and one of the same entries in another order, the members of an exclusion in
-//! another order too. Nothing is added and nothing left out.
+//! Entries moved about between head and end: an image, and one of the same entries in another order, the members of an
+//! exclusion in another order too. Nothing is added and nothing left out.
 
 use super::policy::Draft;
 use super::Rng;

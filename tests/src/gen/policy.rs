@@ -1,5 +1,5 @@
-//! Images that say something in good order: policies of all sizes, entries in any order, repeats, hierarchies without a loop in which
-//! no user reaches more than 16 roles.
+//! Images that say something in good order: policies of all sizes, entries in any order, repeats, hierarchies without a
+//! loop in which no user reaches more than 16 roles.
 
 use super::Rng;
 use crate::words;
@@ -134,7 +134,8 @@ impl Draft {
         }
     }
 
-    /// An exclusion of any kind, where there are two roles: mostly of few members and a limit of 2, at times of all roles.
+    /// An exclusion of any kind, where there are two roles: mostly of few members and a limit of 2, at times of all
+    /// roles.
     pub fn exclude(&mut self, rng: &mut Rng) {
         if self.roles < 2 {
             return;
@@ -250,7 +251,8 @@ pub fn limits(rng: &mut Rng) -> Draft {
     draft
 }
 
-/// A user 0 of 16 roles, with none below them but themselves, under `exclusions` exclusions over them, permissions spread over the roles.
+/// A user 0 of 16 roles, with none below them but themselves, under `exclusions` exclusions over them, permissions
+/// spread over the roles.
 pub fn crowded(rng: &mut Rng, exclusions: u64) -> Draft {
     let mut draft = Draft::blank(rng.from_to(1, 3) as u32, rng.from_to(16, 64) as u32, rng.from_to(8, 256) as u32);
     let own = draft.some_roles(rng, 16);

@@ -29,8 +29,8 @@ fn decimal(rng: &mut Rng, number: u64) -> String {
     number.to_string()
 }
 
-/// A call as a line, readable unless a number has more digits than a line may give it; the program has no line for an explain, a
-/// clause text or an obstacle.
+/// A call as a line, readable unless a number has more digits than a line may give it; the program has no line for an
+/// explain, a clause text or an obstacle.
 fn text(rng: &mut Rng, call: &Call) -> String {
     match call {
         Call::Open { user } => format!("open {}", decimal(rng, *user)),
@@ -106,7 +106,8 @@ pub const UNREADABLE: [&[u8]; 47] = [
     b"open 0 # one",
 ];
 
-/// An unreadable line: one of the list, a hex number of 65 digits, or a readable line with a byte changed, put in or taken out.
+/// An unreadable line: one of the list, a hex number of 65 digits, or a readable line with a byte changed, put in or
+/// taken out.
 fn unreadable(rng: &mut Rng, readable: &str) -> Vec<u8> {
     let mut line = readable.as_bytes().to_vec();
     let at = rng.place(line.len());

@@ -80,7 +80,8 @@ impl Call {
         }
     }
 
-    /// An ask, of either form, a clause text or an obstacle: the calls that look at other users' lines under a policy with limits.
+    /// An ask, of either form, a clause text or an obstacle: the calls that look at other users' lines under a policy
+    /// with limits.
     pub fn is_ask(&self) -> bool {
         matches!(self, Call::Ask { .. } | Call::ShortAsk { .. } | Call::Clauses { .. } | Call::Obstacle { .. })
     }
@@ -274,7 +275,8 @@ fn request<'a>(
     Ok(Request { policy, user, line, session, barred, lower, upper, objectives })
 }
 
-/// The session's active roles are replaced by the best admissible set: what is answered and the line after it, or 19 or 20.
+/// The session's active roles are replaced by the best admissible set: what is answered and the line after it, or 19 or
+/// 20.
 fn ask(request: &Request, room: usize) -> Result<(Reply, Line), u64> {
     if room != ANSWER {
         return Err(19);

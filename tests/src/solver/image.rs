@@ -1,9 +1,10 @@
-//! The judgement of a policy image: refusals 1 to 8 with their place, 22 with a role, 23 with a user, or the policy that it says.
+//! The judgement of a policy image: refusals 1 to 8 with their place, 22 with a role, 23 with a user, or the policy
+//! that it says.
 
 use super::policy::{Exclusion, Kind, Policy, Roles};
 
-/// Why an image is refused; the extra is the place of the refused word, for 22 the lowest role on a loop, for 23 the lowest user who
-/// may activate more than 16 roles.
+/// Why an image is refused; the extra is the place of the refused word, for 22 the lowest role on a loop, for 23 the
+/// lowest user who may activate more than 16 roles.
 #[derive(Clone, Copy, Debug, PartialEq, Eq)]
 pub struct Refused {
     pub number: u64,

@@ -58,7 +58,8 @@ pub fn role_bytes(flags: &RoleFlags) -> [u8; 8] {
 }
 
 impl Line {
-    /// Reads the bytes of a line, its first eight by their open bits alone; how many there are says how many sessions it has.
+    /// Reads the bytes of a line, its first eight by their open bits alone; how many there are says how many sessions
+    /// it has.
     pub fn read(bytes: &[u8]) -> Line {
         let mut sessions = vec![Session { open: false, active: [false; 64], history: [false; 64] }; sessions_in(bytes.len())];
         for (number, session) in sessions.iter_mut().enumerate() {

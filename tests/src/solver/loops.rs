@@ -46,10 +46,11 @@ pub fn find(image: &[u8], room: usize) -> Found {
     Found { number: 0, extra: roles.len() as u64, chain: Some(chain) }
 }
 
-/// The lowest, role by role, of the shortest chains from a role on a loop down and back to it; the first role is left out.
+/// The lowest, role by role, of the shortest chains from a role on a loop down and back to it; the first role is left
+/// out.
 ///
-/// Chains grow by one role at a time. Of those of one length that end in the same role the lowest is kept, and only in roles in which
-/// no shorter chain ends.
+/// Chains grow by one role at a time. Of those of one length that end in the same role the lowest is kept, and only in
+/// roles in which no shorter chain ends.
 fn lowest_shortest(policy: &Policy, role: usize) -> Vec<usize> {
     let mut ended = vec![false; policy.roles];
     let mut chains = BTreeMap::from([(role, Vec::new())]);

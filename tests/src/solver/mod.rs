@@ -1,7 +1,7 @@
-//! A separate solver of the session kit, written from the papers (01, 02 and what was added to them) alone in plain sets and loops, its
-//! clause text from docs/CLAUSES.md.
-//! The tests hold the kit against it: the answer, the extra, every byte of ledger, answer, chain, text, a move's target, tidy image,
-//! table and set of users.
+//! A separate solver of the session kit, written from the papers (01, 02 and what was added to them) alone in plain
+//! sets and loops, its clause text from docs/CLAUSES.md.
+//! The tests hold the kit against it: the answer, the extra, every byte of ledger, answer, chain, text, a move's
+//! target, tidy image, table and set of users.
 
 pub mod calls;
 pub mod choice;

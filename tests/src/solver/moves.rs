@@ -88,7 +88,8 @@ pub fn carry(way: Move, image: &Judged, old: &[u8], room: usize) -> Carried {
     Carried { number: 0, extra: 0, target: Some(target) }
 }
 
-/// The bytes of a line's history and of its sessions under their numbers, in a line of so many sessions, those that it lacks closed.
+/// The bytes of a line's history and of its sessions under their numbers, in a line of so many sessions, those that it
+/// lacks closed.
 fn line_of(line: &Line, sessions: usize) -> Vec<u8> {
     let mut bytes = vec![0u8; line_bytes(sessions)];
     let mut other = Line::read(&bytes);

@@ -1,4 +1,5 @@
-//! What an accepted image means: who is assigned what and may activate what, what roles carry, what excludes what, what is limited.
+//! What an accepted image means: who is assigned what and may activate what, what roles carry, what excludes what, what
+//! is limited.
 
 use std::collections::{BTreeMap, BTreeSet};
 
@@ -42,7 +43,8 @@ pub struct Policy {
     /// The roles that each role is said to be senior over.
     pub juniors: Vec<Roles>,
     pub exclusions: Vec<Exclusion>,
-    /// For each limited role its t, the smallest that a word gives it: fewer than t sessions, over all users, may hold it (001: CARD).
+    /// For each limited role its t, the smallest that a word gives it: fewer than t sessions, over all users, may hold
+    /// it (001: CARD).
     pub limits: BTreeMap<usize, usize>,
 }
 

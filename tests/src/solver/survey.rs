@@ -22,7 +22,8 @@ pub fn survey(image: Option<&[u8]>, script: &[u8]) -> Vec<u8> {
     printed.into_bytes()
 }
 
-/// How many sets of an exclusion's members have fewer than its limit: taking the members in one by one, so many sets of each size.
+/// How many sets of an exclusion's members have fewer than its limit: taking the members in one by one, so many sets of
+/// each size.
 pub fn allowed(exclusion: &Exclusion) -> u128 {
     let mut sets = vec![1u128];
     for _ in &exclusion.members {

@@ -4,7 +4,8 @@ use super::image::judge;
 use super::policy::{Exclusion, Policy};
 use std::collections::BTreeMap;
 
-/// What the tidy call answers: the number, the extra and the bytes that stand in front of the buffer, if any are written.
+/// What the tidy call answers: the number, the extra and the bytes that stand in front of the buffer, if any are
+/// written.
 #[derive(Clone, Debug, PartialEq, Eq)]
 pub struct Written {
     pub number: u64,

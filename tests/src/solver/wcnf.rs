@@ -1,4 +1,5 @@
-//! A text of weighted clauses read back, and what satisfies it: a small PMaxSAT program that knows nothing of roles and permissions.
+//! A text of weighted clauses read back, and what satisfies it: a small PMaxSAT program that knows nothing of roles and
+//! permissions.
 
 /// A text by its head line and its clauses.
 pub struct Text {
@@ -27,8 +28,8 @@ fn literal(word: &str, variables: usize) -> Result<i64, String> {
     }
 }
 
-/// Reads a text and holds it to its form: the head line, as many clauses as it says, variables among those that it counts, the hard
-/// clauses first, the top weight one more than all soft weights together.
+/// Reads a text and holds it to its form: the head line, as many clauses as it says, variables among those that it
+/// counts, the hard clauses first, the top weight one more than all soft weights together.
 pub fn read(text: &[u8]) -> Result<Text, String> {
     let text = std::str::from_utf8(text).map_err(|_| "no ASCII".to_string())?;
     let body = text.strip_suffix('\n').ok_or("no newline at the end")?;
@@ -77,7 +78,8 @@ impl Text {
         self.violated_by(&values)
     }
 
-    /// Every assignment of the first `first` variables that extends to one of all variables under which the hard clauses hold.
+    /// Every assignment of the first `first` variables that extends to one of all variables under which the hard
+    /// clauses hold.
     pub fn models(&self, first: usize) -> Vec<Vec<bool>> {
         let mut found = Vec::new();
         if let Some(mut search) = Search::start(self) {
@@ -86,7 +88,8 @@ impl Text {
         found
     }
 
-    /// The least weight that an assignment violates under which the hard clauses hold, with such an assignment; none where there is none.
+    /// The least weight that an assignment violates under which the hard clauses hold, with such an assignment; none
+    /// where there is none.
     pub fn least(&self) -> Option<(u64, Vec<bool>)> {
         let mut best = None;
         Search::start(self)?.improve(1, &mut best);
@@ -94,7 +97,8 @@ impl Text {
     }
 }
 
-/// An assignment under trial: the values so far, in the order in which they were given, and in which hard clauses a literal stands.
+/// An assignment under trial: the values so far, in the order in which they were given, and in which hard clauses a
+/// literal stands.
 struct Search<'a> {
     text: &'a Text,
     values: Vec<Option<bool>>,

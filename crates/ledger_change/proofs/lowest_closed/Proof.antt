@@ -1,4 +1,5 @@
--- `ledger_change::lowest_closed` meets its contract. The loop's invariant: the lowest closed one from session k on is the lowest of all.
+-- `ledger_change::lowest_closed` meets its contract. The loop's invariant: the lowest closed one from session k on is
+-- the lowest of all.
 -- Assumes nothing.
 use mathlib.Core.Path.{_≡_, refl, _∙_}
 use Prim.Native.Nat.{_-_, _≤_}

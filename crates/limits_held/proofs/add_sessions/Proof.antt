@@ -1,4 +1,5 @@
--- `limits_held::add_sessions` meets its contract. The invariant: what is counted and what the sessions from k on hold make the whole.
+-- `limits_held::add_sessions` meets its contract. The invariant: what is counted and what the sessions from k on hold
+-- make the whole.
 -- Assumes nothing.
 use mathlib.Core.Path.{_≡_, refl}
 use Prim.Native.Nat.{ℕ, _+_, _-_, _≤_}

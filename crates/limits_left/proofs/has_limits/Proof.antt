@@ -1,4 +1,5 @@
--- `limits_left::has_limits` meets its contract. The invariant: some role has a limit where one before r has, or one from r on.
+-- `limits_left::has_limits` meets its contract. The invariant: some role has a limit where one before r has, or one
+-- from r on.
 -- Assumes nothing.
 use mathlib.Core.Bool.{_||_}
 use mathlib.Core.Path.{_≡_, refl, _∙_}

@@ -1,4 +1,5 @@
--- `moves_line::put_zeros` meets its contract. The loop's invariant: the first j zeros are in place, and `s` is as long as it was.
+-- `moves_line::put_zeros` meets its contract. The loop's invariant: the first j zeros are in place, and `s` is as long
+-- as it was.
 -- Assumes nothing.
 use mathlib.Core.Path.{_≡_, refl, sym, ap, ap₂, _∙_}
 use mathlib.Core.List.{List}

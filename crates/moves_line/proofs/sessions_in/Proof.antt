@@ -1,4 +1,5 @@
--- `moves_line::sessions_in` meets its contract. The loop's invariant: the first k sessions are read, and those behind them are empty.
+-- `moves_line::sessions_in` meets its contract. The loop's invariant: the first k sessions are read, and those behind
+-- them are empty.
 -- Assumes nothing.
 use mathlib.Core.Path.{_≡_, refl, ap, _∙_}
 use Prim.Native.Nat.{ℕ, _-_, _≤_}

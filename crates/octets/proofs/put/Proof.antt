@@ -1,4 +1,5 @@
--- `octets::put` meets its contract. The loop's invariant: the first j bytes of `bytes` are in place, and `s` is as long as it was.
+-- `octets::put` meets its contract. The loop's invariant: the first j bytes of `bytes` are in place, and `s` is as long
+-- as it was.
 --
 use mathlib.Core.Path.{_≡_, refl, ap, _∙_}
 use mathlib.Core.List.{List}

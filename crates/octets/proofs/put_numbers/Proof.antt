@@ -1,4 +1,5 @@
--- `octets::put_numbers` meets its contract. The loop's invariant: the first k numbers are in place, and `s` is as long as it was.
+-- `octets::put_numbers` meets its contract. The loop's invariant: the first k numbers are in place, and `s` is as long
+-- as it was.
 -- Assumes nothing.
 use mathlib.Core.Path.{_≡_, refl, sym, ap, _∙_}
 use mathlib.Core.List.{List}

@@ -1,9 +1,9 @@
--- `reader::entry_after` meets its contract: a walk of its MIR, by hand. A `Reader` is made in a local of the slice and the
--- number, and passed to `moved`; what that returns is held in a local and passed to `next`. All that the proof knows of
--- `moved` and of `next` is that each meets its contract.
--- The machine value that `moved` returns is stored and passed on as it is. In a local of a body MIR erases the lifetime of
--- the struct's type, so the value is shown to have the type at `erased`: what the struct owns does not say the lifetime's
--- name.
+-- `reader::entry_after` meets its contract: a walk of its MIR, by hand. A `Reader` is made in a local of the slice and
+-- the number, and passed to `moved`; what that returns is held in a local and passed to `next`. All that the proof
+-- knows of `moved` and of `next` is that each meets its contract.
+-- The machine value that `moved` returns is stored and passed on as it is. In a local of a body MIR erases the lifetime
+-- of the struct's type, so the value is shown to have the type at `erased`: what the struct owns does not say the
+-- lifetime's name.
 -- Assumes nothing.
 use mathlib.Core.Path.{_≡_, refl, ap, _∙_}
 use Prim.Native.Nat.{ℕ, _+_, _<_, _^_}

@@ -1,9 +1,9 @@
--- `reader::moved` meets its contract: a walk of its MIR, by hand. The struct is taken apart, `place_after` is called on the
--- slice and the number, and a struct is made anew of the slice and the number that it returned. All that the proof knows
--- of `place_after` is that it meets its contract.
--- Of one copy of what the struct owns what image owns goes to the callee, beside the lifetime's token, which comes back.
--- At exit one copy is kept whole, and another, with the facts of the new number in the place of at's, is what the result
--- owns.
+-- `reader::moved` meets its contract: a walk of its MIR, by hand. The struct is taken apart, `place_after` is called on
+-- the slice and the number, and a struct is made anew of the slice and the number that it returned. All that the proof
+-- knows of `place_after` is that it meets its contract.
+-- Of one copy of what the struct owns what image owns goes to the callee, beside the lifetime's token, which comes
+-- back. At exit one copy is kept whole, and another, with the facts of the new number in the place of at's, is what the
+-- result owns.
 -- Assumes nothing.
 use mathlib.Core.Path.{_≡_, refl, ap}
 use Prim.Native.Nat.{ℕ, _<_, _^_}

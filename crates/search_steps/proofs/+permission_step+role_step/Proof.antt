@@ -1,5 +1,5 @@
--- `search_steps::permission_step` and `role_step` meet their contracts. What falls counts the permissions still wanted and, twice, the
--- roles still free; a permission step stands one above the role step that it makes.
+-- `search_steps::permission_step` and `role_step` meet their contracts. What falls counts the permissions still wanted
+-- and, twice, the roles still free; a permission step stands one above the role step that it makes.
 -- Assumes nothing.
 use Prim.Native.Nat.{ℕ, _+_, _*_, _<_}
 use native.Mathlib.Omega.{arith}

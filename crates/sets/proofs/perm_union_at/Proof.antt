@@ -1,4 +1,5 @@
--- `sets::perm_union_at` meets its contract. The loop's invariant: the rows so far are joined, those of the roles to come are not.
+-- `sets::perm_union_at` meets its contract. The loop's invariant: the rows so far are joined, those of the roles to
+-- come are not.
 -- Assumes nothing.
 use mathlib.Core.Path.{refl, ap, sym, _∙_}
 use lib.ListN.{getD}

@@ -1,4 +1,5 @@
--- `stopped_calls::stopped_set` meets its contract. The invariant: the set so far has those of the users so far who are stopped.
+-- `stopped_calls::stopped_set` meets its contract. The invariant: the set so far has those of the users so far who are
+-- stopped.
 -- Assumes nothing.
 use mathlib.Core.Path.{_≡_, sym, ap, _∙_}
 use Prim.Native.Nat.{_≤_, _-_}

@@ -1,4 +1,5 @@
--- `stopped_calls::tell_stopped` meets its contract: a refused image ends it, and under an accepted one it goes by the policy.
+-- `stopped_calls::tell_stopped` meets its contract: a refused image ends it, and under an accepted one it goes by the
+-- policy.
 -- Assumes nothing.
 use borrow.Author.Needs.{needs}
 use Rattle.image_calls.proofs.Images.{held}

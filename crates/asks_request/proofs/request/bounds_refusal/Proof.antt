@@ -1,4 +1,5 @@
--- `asks_request::request::bounds_refusal` meets its contract: each return is answered by the law of the tests that led there.
+-- `asks_request::request::bounds_refusal` meets its contract: each return is answered by the law of the tests that led
+-- there.
 -- Assumes nothing.
 use borrow.Author.Needs.{needs}
 use Rattle.asks_request.proofs.Requests.{bounds16-lower, bounds16-upper, bounds17, bounds18-first, bounds18-second, bounds19, bounds0}

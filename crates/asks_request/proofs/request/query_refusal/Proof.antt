@@ -1,4 +1,5 @@
--- `asks_request::request::query_refusal` meets its contract: each return is answered by the law of the tests that led there.
+-- `asks_request::request::query_refusal` meets its contract: each return is answered by the law of the tests that led
+-- there.
 -- Assumes nothing.
 use borrow.Author.Needs.{needs}
 use Rattle.asks_request.proofs.Requests.{query15-lower, query15-upper, query-bounds}

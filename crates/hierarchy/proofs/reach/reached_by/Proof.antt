@@ -1,4 +1,5 @@
--- `hierarchy::reach::reached_by` meets its contract. The loop's invariant: the roles so far are joined, those of the members to come are not.
+-- `hierarchy::reach::reached_by` meets its contract. The loop's invariant: the roles so far are joined, those of the
+-- members to come are not.
 -- Assumes nothing.
 use mathlib.Core.Path.{refl, ap, _∙_}
 use lib.ListN.{getD}

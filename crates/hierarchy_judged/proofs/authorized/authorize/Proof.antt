@@ -1,5 +1,5 @@
--- `hierarchy_judged::authorized::authorize` meets its contract. The invariant: the rows of the users so far have what they reach, at most 16
--- roles each.
+-- `hierarchy_judged::authorized::authorize` meets its contract. The invariant: the rows of the users so far have what
+-- they reach, at most 16 roles each.
 -- Assumes nothing.
 use Prim.Native.Nat.{_-_}
 use borrow.Author.Needs.{needs}

@@ -1,4 +1,5 @@
--- `hierarchy_judged::authorized::seniors_in` meets its contract. The invariant: the set so far is made by the test of the roles so far.
+-- `hierarchy_judged::authorized::seniors_in` meets its contract. The invariant: the set so far is made by the test of
+-- the roles so far.
 -- Assumes nothing.
 use mathlib.Core.Path.{_≡_, ap, _∙_}
 use Prim.Native.Nat.{_≤_, _-_}

@@ -1,5 +1,5 @@
--- `hierarchy_loop::chain::fill_levels_among` meets its contract. The invariant: the levels so far are stored, and the role is in none of them but
--- the first.
+-- `hierarchy_loop::chain::fill_levels_among` meets its contract. The invariant: the levels so far are stored, and the
+-- role is in none of them but the first.
 -- Assumes nothing.
 use mathlib.Core.Path.{_≡_, refl, sym, ap, _∙_}
 use Prim.Native.Nat.{ℕ, _+_, _≤_, _-_}

@@ -1,4 +1,5 @@
--- `hierarchy_loop::chain::put_chain` meets its contract. The invariant: so many bytes of the chain are written, and zeros stand behind.
+-- `hierarchy_loop::chain::put_chain` meets its contract. The invariant: so many bytes of the chain are written, and
+-- zeros stand behind.
 -- Assumes nothing.
 use mathlib.Core.Path.{sym, ap, _∙_}
 use Prim.Native.Nat.{_≤_, _-_}

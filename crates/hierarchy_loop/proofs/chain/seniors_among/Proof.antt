@@ -1,4 +1,5 @@
--- `hierarchy_loop::chain::seniors_among` meets its contract. The invariant: the set so far is made by the test of the roles so far.
+-- `hierarchy_loop::chain::seniors_among` meets its contract. The invariant: the set so far is made by the test of the
+-- roles so far.
 -- Assumes nothing.
 use mathlib.Core.Path.{_≡_, sym, _∙_}
 use Prim.Native.Nat.{_≤_, _-_}

@@ -1,5 +1,5 @@
--- `image::check_words` meets its contract. The invariant: the scan of the rest from this state is the scan of the whole, and so are the
--- folds of the two tables.
+-- `image::check_words` meets its contract. The invariant: the scan of the rest from this state is the scan of the
+-- whole, and so are the folds of the two tables.
 -- Assumes nothing.
 use mathlib.Core.Path.{_≡_, refl, _∙_}
 use Prim.Native.Nat.{_≤_, _-_}

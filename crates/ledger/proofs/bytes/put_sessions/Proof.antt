@@ -1,4 +1,5 @@
--- `ledger::bytes::put_sessions` meets its contract. The loop's invariant: the first k sessions are in place, and `s` is as long as it was.
+-- `ledger::bytes::put_sessions` meets its contract. The loop's invariant: the first k sessions are in place, and `s` is
+-- as long as it was.
 -- Assumes nothing.
 use mathlib.Core.Path.{_≡_, refl, sym, ap, _∙_}
 use mathlib.Core.List.{List}

@@ -1,4 +1,5 @@
--- `ledger::sound::active_in` meets its contract. The loop's invariant: `roles` are those active in the sessions from k on.
+-- `ledger::sound::active_in` meets its contract. The loop's invariant: `roles` are those active in the sessions from k
+-- on.
 -- Assumes nothing.
 use mathlib.Core.Path.{_≡_, ap, _∙_}
 use Prim.Native.Nat.{ℕ, _-_, _≤_}

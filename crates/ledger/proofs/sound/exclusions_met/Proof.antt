@@ -1,4 +1,5 @@
--- `ledger::sound::exclusions_met` meets its contract. The loop's invariant: all exclusions are met where those from i on are.
+-- `ledger::sound::exclusions_met` meets its contract. The loop's invariant: all exclusions are met where those from i
+-- on are.
 -- Assumes nothing.
 use mathlib.Core.Path.{_≡_, sym, ap, _∙_}
 use mathlib.Core.List.{[], map}

@@ -1,4 +1,5 @@
--- `ledger::sound::met_at_each` meets its contract. The loop's invariant: it is met at all sessions where it is at those from k on.
+-- `ledger::sound::met_at_each` meets its contract. The loop's invariant: it is met at all sessions where it is at those
+-- from k on.
 -- Assumes nothing.
 use mathlib.Core.Path.{_≡_, refl, sym, _∙_}
 use Prim.Native.Nat.{_-_, _≤_}

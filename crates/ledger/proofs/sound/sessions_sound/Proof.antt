@@ -1,4 +1,5 @@
--- `ledger::sound::sessions_sound` meets its contract. The loop's invariant: all sessions are sound where those from k on are.
+-- `ledger::sound::sessions_sound` meets its contract. The loop's invariant: all sessions are sound where those from k
+-- on are.
 -- Assumes nothing.
 use mathlib.Core.Path.{_≡_, refl, sym, _∙_}
 use Prim.Native.Nat.{_-_, _≤_}

@@ -1,4 +1,5 @@
--- `moves::lines::first_fault` meets its contract. The loop's invariant: the answer from user u on is that from user 0 on.
+-- `moves::lines::first_fault` meets its contract. The loop's invariant: the answer from user u on is that from user 0
+-- on.
 -- Assumes nothing.
 use mathlib.Core.Path.{_≡_, sym, ap, _∙_}
 use Prim.Native.Nat.{ℕ, _+_, _-_, _*_, _≤_}

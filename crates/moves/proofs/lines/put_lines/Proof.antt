@@ -1,4 +1,5 @@
--- `moves::lines::put_lines` meets its contract. The loop's invariant: the first u lines are in place, and `new` is as long as it was.
+-- `moves::lines::put_lines` meets its contract. The loop's invariant: the first u lines are in place, and `new` is as
+-- long as it was.
 -- Assumes nothing.
 use mathlib.Core.Path.{_≡_, refl, sym, ap, _∙_}
 use Prim.Native.Nat.{ℕ, _-_, _≤_}

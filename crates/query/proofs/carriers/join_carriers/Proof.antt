@@ -1,4 +1,5 @@
--- `query::carriers::join_carriers` meets its contract. The loop's invariant: the roles before those to come have joined.
+-- `query::carriers::join_carriers` meets its contract. The loop's invariant: the roles before those to come have
+-- joined.
 -- Assumes nothing.
 use mathlib.Core.Path.{refl, sym, subst}
 use borrow.Author.Needs.{needs}

@@ -1,4 +1,5 @@
--- `query::carriers::mark_word` meets its contract. The loop's invariant: role r has joined at the bits before those to come.
+-- `query::carriers::mark_word` meets its contract. The loop's invariant: role r has joined at the bits before those to
+-- come.
 -- Assumes nothing.
 use mathlib.Core.Path.{refl}
 use borrow.Author.Needs.{needs}

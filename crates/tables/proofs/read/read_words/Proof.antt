@@ -1,5 +1,5 @@
--- `tables::read::read_words` meets its contract. The loop's invariant: the scan, and each table's fold, of the rest from
--- this state is that of the whole, and the places so far with those of the rest are those of the whole.
+-- `tables::read::read_words` meets its contract. The loop's invariant: the scan, and each table's fold, of the rest
+-- from this state is that of the whole, and the places so far with those of the rest are those of the whole.
 -- Assumes nothing.
 use mathlib.Core.Path.{_≡_, refl, sym, ap, subst, _∙_}
 use mathlib.Core.List.{List, _++_, map}

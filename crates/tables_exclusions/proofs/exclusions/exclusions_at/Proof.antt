@@ -1,5 +1,5 @@
--- `tables_exclusions::exclusions::exclusions_at` meets its contract. The loop's invariant: the exclusions of the rows so far
--- are those at the places so far.
+-- `tables_exclusions::exclusions::exclusions_at` meets its contract. The loop's invariant: the exclusions of the rows
+-- so far are those at the places so far.
 -- Assumes nothing.
 use mathlib.Core.Path.{_≡_, refl, sym, ap, _∙_}
 use mathlib.Core.List.{map}

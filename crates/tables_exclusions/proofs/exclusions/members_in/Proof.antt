@@ -1,5 +1,5 @@
--- `tables_exclusions::exclusions::members_in` meets its contract. The loop's invariant: the members of the rest, joined to
--- those so far, are those of the whole.
+-- `tables_exclusions::exclusions::members_in` meets its contract. The loop's invariant: the members of the rest, joined
+-- to those so far, are those of the whole.
 -- Assumes nothing.
 use mathlib.Core.Path.{_≡_, refl}
 use Prim.Native.Nat.{_≤_, _-_}

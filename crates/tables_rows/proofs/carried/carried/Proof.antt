@@ -1,4 +1,5 @@
--- `tables_rows::carried::carried` meets its contract. The loop's invariant: the rows of the roles before those to come are made.
+-- `tables_rows::carried::carried` meets its contract. The loop's invariant: the rows of the roles before those to come
+-- are made.
 -- Assumes nothing.
 use mathlib.Core.Path.{ap, _∙_}
 use borrow.Author.Needs.{needs}

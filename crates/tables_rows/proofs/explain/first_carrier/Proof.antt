@@ -1,4 +1,5 @@
--- `tables_rows::explain::first_carrier` meets its contract. The loop's invariant: no role before those to come has a granting role.
+-- `tables_rows::explain::first_carrier` meets its contract. The loop's invariant: no role before those to come has a
+-- granting role.
 -- Assumes nothing.
 use mathlib.Core.Path.{ap, _∙_}
 use mathlib.Core.Option.{Option}

@@ -1,4 +1,5 @@
--- `tables_rows::holding::holders` meets its contract. The invariant: the set so far is made by the test of the roles so far.
+-- `tables_rows::holding::holders` meets its contract. The invariant: the set so far is made by the test of the roles so
+-- far.
 -- Assumes nothing.
 use mathlib.Core.Path.{_≡_, sym, ap, _∙_}
 use mathlib.Core.Bool.{Bool}

@@ -1,4 +1,5 @@
--- `tidy_words::count::count_exclusions` meets its contract. The invariant: the words of the exclusions so far and of those to come are all.
+-- `tidy_words::count::count_exclusions` meets its contract. The invariant: the words of the exclusions so far and of
+-- those to come are all.
 -- Assumes nothing.
 use mathlib.Core.Path.{_≡_, ap}
 use Prim.Native.Nat.{_+_, _*_, _-_, _≤_}

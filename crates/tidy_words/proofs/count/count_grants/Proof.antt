@@ -1,4 +1,5 @@
--- `tidy_words::count::count_grants` meets its contract. The invariant: the words of the rows so far and of the rows to come are all.
+-- `tidy_words::count::count_grants` meets its contract. The invariant: the words of the rows so far and of the rows to
+-- come are all.
 -- Assumes nothing.
 use mathlib.Core.Path.{_≡_, ap}
 use Prim.Native.Nat.{ℕ, _+_, _*_, _-_, _≤_}

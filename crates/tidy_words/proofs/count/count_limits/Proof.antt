@@ -1,4 +1,5 @@
--- `tidy_words::count::count_limits` meets its contract. The invariant: the words of the roles so far and of the roles to come are all.
+-- `tidy_words::count::count_limits` meets its contract. The invariant: the words of the roles so far and of the roles
+-- to come are all.
 -- Assumes nothing.
 use mathlib.Core.Path.{_≡_, ap}
 use Prim.Native.Nat.{_+_, _-_, _≤_}

@@ -1,4 +1,5 @@
--- `tidy_words::groups::put_row` meets its contract. The words of a row are four runs, one for each of its machine words.
+-- `tidy_words::groups::put_row` meets its contract. The words of a row are four runs, one for each of its machine
+-- words.
 -- Assumes nothing.
 use mathlib.Core.Path.{refl}
 use native.Mathlib.Omega.{arith}

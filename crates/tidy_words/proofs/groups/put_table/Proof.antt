@@ -1,4 +1,5 @@
--- `tidy_words::groups::put_table` meets its contract. The invariant: the rows to come, written behind those so far, make the whole.
+-- `tidy_words::groups::put_table` meets its contract. The invariant: the rows to come, written behind those so far,
+-- make the whole.
 -- Assumes nothing.
 use Prim.Native.Nat.{_≤_, _-_}
 use native.Mathlib.Omega.{arith}

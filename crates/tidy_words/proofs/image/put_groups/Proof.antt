@@ -1,4 +1,5 @@
--- `tidy_words::image::put_groups` meets its contract. The words are four runs: three tables, and the exclusions with the limits.
+-- `tidy_words::image::put_groups` meets its contract. The words are four runs: three tables, and the exclusions with
+-- the limits.
 -- Assumes nothing.
 use native.Mathlib.Omega.{arith}
 use borrow.Author.Needs.{needs}

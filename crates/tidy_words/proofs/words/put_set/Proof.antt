@@ -1,4 +1,5 @@
--- `tidy_words::words::put_set` meets its contract. The invariant: the members left, written behind those so far, make the whole.
+-- `tidy_words::words::put_set` meets its contract. The invariant: the members left, written behind those so far, make
+-- the whole.
 -- Assumes nothing.
 use mathlib.Core.Path.{refl}
 use Prim.Native.Nat.{_^_, _<_}
