@@ -35,10 +35,9 @@ documents := $(wildcard docs/*.md) CHANGELOG.md
 open := (
 calls := $(shell sed -nE 's/^uint64_t (nutrameza_[a-z_]+)[$(open)].*/\1/p' include/nutrameza.h)
 
-# An archive from elsewhere comes without the means to make programs.
+# An archive from elsewhere may come without the means to make programs: then those that are there are taken.
+ifeq ($(NUTRAMEZA_LIB),target/staticlib)
 programs := $(program) $(surveyor)
-ifneq ($(NUTRAMEZA_LIB),target/staticlib)
-programs := $(wildcard $(programs))
 endif
 
 # What an install has, below the prefix: files, links, and the folders that are its own.
@@ -88,7 +87,7 @@ install: $(library) $(shared) $(programs) man
 	@$(call filled,cmake/nutrameza-config.cmake.in,lib/cmake/nutrameza/nutrameza-config.cmake)
 	@$(call filled,cmake/nutrameza-config-version.cmake.in,lib/cmake/nutrameza/nutrameza-config-version.cmake)
 	install -m 755 tools/policy '$(to)/bin/nutrameza-policy'
-	@for p in $(programs); do install -m 755 $$p '$(to)/bin/' || exit 1; done
+	@for p in $(program) $(surveyor); do [ ! -x $$p ] || install -m 755 $$p '$(to)/bin/' || exit 1; done
 	@install -m 644 target/man/*.3 '$(to)/share/man/man3/'
 	@install -m 644 target/man/*.7 '$(to)/share/man/man7/'
 	@install -m 644 $(wildcard docs/*.md) '$(to)/share/doc/nutrameza/docs/'
