@@ -63,7 +63,7 @@ uninstalled() {
 
 # A source that is newer than the archive or a program has it made again.
 stale() {
-  make -n -C "$root" -W crates/nutrameza/src/lib.rt target/staticlib/libnutrameza.a | grep -q 'rt staticlib nutrameza' &&
+  export -n NUTRAMEZA_LIB && make -n -C "$root" -W crates/nutrameza/src/lib.rt target/staticlib/libnutrameza.a | grep -q 'rt staticlib nutrameza' &&
     make -n -C "$root" -W crates/nutrameza/src/lib.rt install "PREFIX=$prefix" | grep -q 'rt check nutrameza_survey'
 }
 
