@@ -1,9 +1,9 @@
 /* The session kit: policy image, ledger and role choice, for hosts in C99 and later or C++.
  *
- * Each call takes any numbers and any buffers and either does what it is for or answers one refusal by number.
- * A refused call changes no byte of any buffer. A buffer is its pointer, then its length in bytes; the
- * pointer may be NULL where the length is 0. docs/START.md is where to begin, docs/REFERENCE.md has the calls one by
- * one, as have the man pages (nutrameza(7), nutrameza_open(3) and so on), and docs/OPERATIONS.md says what a host
+ * Each call takes any numbers and any buffers, and either does its work or answers with one refusal, by number. A
+ * refused call changes no byte of any buffer. A buffer is a pointer, then its length in bytes; the pointer may be NULL
+ * where the length is 0. docs/START.md is where to begin, docs/REFERENCE.md has the calls one by one, as have the man
+ * pages (nutrameza(7), nutrameza_open(3) and so on), and docs/OPERATIONS.md says what a host
  * persists and when.
  *
  * Results. A call returns its number and its extra in one uint64_t. Don't take it for true or false, nor compare it
