@@ -77,25 +77,26 @@ filled = sed -e 's|@PREFIX@|$(prefix)|' -e 's|@VERSION@|$(VERSION)|' -e 's|@MAJO
 
 install: $(library) $(shared) $(programs) man
 	@install -d $(patsubst %,'$(to)/%',$(sort $(dir $(files))))
-	install -m 644 $(library) '$(to)/lib/libnutrameza.a'
-	install -m 755 $(shared) '$(to)/lib/$(notdir $(shared))'
-	ln -sf $(notdir $(shared)) '$(to)/lib/$(soname)'
-	ln -sf $(soname) '$(to)/lib/libnutrameza.so'
-	install -m 644 include/nutrameza.h '$(to)/include/nutrameza.h'
+	@install -m 644 $(library) '$(to)/lib/libnutrameza.a'
+	@install -m 755 $(shared) '$(to)/lib/$(notdir $(shared))'
+	@ln -sf $(notdir $(shared)) '$(to)/lib/$(soname)'
+	@ln -sf $(soname) '$(to)/lib/libnutrameza.so'
+	@install -m 644 include/nutrameza.h '$(to)/include/nutrameza.h'
 	@$(call filled,nutrameza.pc.in,lib/pkgconfig/nutrameza.pc)
 	@$(call filled,nutrameza-static.pc.in,lib/pkgconfig/nutrameza-static.pc)
 	@$(call filled,cmake/nutrameza-config.cmake.in,lib/cmake/nutrameza/nutrameza-config.cmake)
 	@$(call filled,cmake/nutrameza-config-version.cmake.in,lib/cmake/nutrameza/nutrameza-config-version.cmake)
-	install -m 755 tools/policy '$(to)/bin/nutrameza-policy'
+	@install -m 755 tools/policy '$(to)/bin/nutrameza-policy'
 	@for p in $(program) $(surveyor); do [ ! -x $$p ] || install -m 755 $$p '$(to)/bin/' || exit 1; done
 	@install -m 644 target/man/*.3 '$(to)/share/man/man3/'
 	@install -m 644 target/man/*.7 '$(to)/share/man/man7/'
 	@install -m 644 $(wildcard docs/*.md) '$(to)/share/doc/nutrameza/docs/'
 	@install -m 644 CHANGELOG.md '$(to)/share/doc/nutrameza/'
 	@install -m 644 examples/* '$(to)/share/doc/nutrameza/examples/'
+	@echo 'nutrameza $(VERSION) is installed below $(to)'
 
 uninstall:
-	rm -f $(patsubst %,'$(to)/%',$(files))
+	@rm -f $(patsubst %,'$(to)/%',$(files))
 	@for f in $(folders); do [ ! -d '$(to)'/$$f ] || rmdir --ignore-fail-on-non-empty '$(to)'/$$f; done
 
 # The commit's time on every file, so that a tarball has the commit's bytes and no day of its own.
