@@ -3,8 +3,7 @@
  * Each call takes any numbers and any buffers, and either does its work or answers with one refusal, by number. A
  * refused call changes no byte of any buffer. A buffer is a pointer, then its length in bytes; the pointer may be NULL
  * where the length is 0. docs/START.md is where to begin, docs/REFERENCE.md has the calls one by one, as have the man
- * pages (nutrameza(7), nutrameza_open(3) and so on), and docs/OPERATIONS.md says what a host
- * persists and when.
+ * pages (nutrameza(7), nutrameza_open(3) and so on), and docs/OPERATIONS.md says what a host persists and when.
  *
  * Results. A call returns its number and its extra in one uint64_t. Don't take it for true or false, nor compare it
  *   with 0: a done open of session 1 returns 256. nutrameza_is_done() tells whether a call did what it is for.
@@ -152,8 +151,8 @@ enum nutrameza_obstacle_kind {
  *
  *   call            number   extra
  *   any             1 to 8   the place of the refused word; the head is place 0
- *   any             22       the lowest role on a loop
- *   any             23       the lowest user who may activate more than 16 roles
+ *   any but loop    22       the lowest role on a loop
+ *   any but loop    23       the lowest user who may activate more than 16 roles
  *   loop            done     the length of the chain
  *   tidy            done     how many words it wrote
  *   open            done     the session that it took, 0 to 7
