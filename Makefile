@@ -47,6 +47,7 @@ files := lib/libnutrameza.a lib/$(notdir $(shared)) $(links) include/nutrameza.h
   lib/cmake/nutrameza/nutrameza-config.cmake lib/cmake/nutrameza/nutrameza-config-version.cmake \
   bin/nutrameza-policy bin/nutrameza_script bin/nutrameza_survey \
   share/man/man7/nutrameza.7 $(calls:%=share/man/man3/%.3) \
+  $(patsubst %,share/man/man1/%.1,nutrameza-policy nutrameza_script nutrameza_survey) \
   $(documents:%=share/doc/nutrameza/%) $(patsubst %,share/doc/nutrameza/%,$(wildcard examples/*))
 folders := share/doc/nutrameza/docs share/doc/nutrameza/examples share/doc/nutrameza lib/cmake/nutrameza
 
@@ -88,6 +89,7 @@ install: $(library) $(shared) $(programs) man
 	@$(call filled,cmake/nutrameza-config-version.cmake.in,lib/cmake/nutrameza/nutrameza-config-version.cmake)
 	@install -m 755 tools/policy '$(to)/bin/nutrameza-policy'
 	@for p in $(program) $(surveyor); do [ ! -x $$p ] || install -m 755 $$p '$(to)/bin/' || exit 1; done
+	@install -m 644 target/man/*.1 '$(to)/share/man/man1/'
 	@install -m 644 target/man/*.3 '$(to)/share/man/man3/'
 	@install -m 644 target/man/*.7 '$(to)/share/man/man7/'
 	@install -m 644 $(wildcard docs/*.md) '$(to)/share/doc/nutrameza/docs/'

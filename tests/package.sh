@@ -163,7 +163,8 @@ man_pages() {
 
 man_page() {
   MANPATH=$prefix/share/man MANWIDTH=80 man 3 nutrameza_short_ask > "$work/page" && grep -q 'nutrameza_short_ask - ' "$work/page" &&
-    grep -q 'uint8_t \*restrict ledger, size_t ledger_len,$' "$work/page" && MANPATH=$prefix/share/man man 7 nutrameza | grep -q 'nutrameza-policy build'
+    grep -q 'uint8_t \*restrict ledger, size_t ledger_len,$' "$work/page" && MANPATH=$prefix/share/man man 7 nutrameza | grep -q 'nutrameza-policy build' &&
+    MANPATH=$prefix/share/man man 1 nutrameza-policy | grep -q '^ *nutrameza-policy build FILE' && MANPATH=$prefix/share/man man 1 nutrameza_script > /dev/null
 }
 
 # dist FOLDER: the tarballs of the commit, made in a clone there, with the programs that are built
