@@ -346,7 +346,7 @@ static inline void nutrameza_write_words(uint8_t *image, const uint32_t *words, 
         nutrameza_write_word(image + NUTRAMEZA_WORD_BYTES * place, words[place]);
 }
 
-/* What the head of an image says, and the bytes of a ledger under it. These read and judge nothing: of an image that
+/* What the head of an image says, and the bytes of a ledger under it. These read bytes and judge none: of an image that
  * the check accepts they are its users, roles and permissions, of other bytes whatever stands there; 0 for fewer than
  * four bytes. */
 static inline uint32_t nutrameza_image_head(const uint8_t *image, size_t image_len)
