@@ -1,58 +1,51 @@
 /* A ledger is carried from four windows a user to eight, or back (docs/OPERATIONS.md).
  *
  *     cc -std=c99 -Wall -Wextra -Werror -Iinclude examples/carry.c target/staticlib/libnutrameza.a -o carry
- *     ./carry over OLD NEW
- *     ./carry back OLD NEW
+ *     ./carry over FOLDER OLD NEW
+ *     ./carry back FOLDER OLD NEW
  *
- * It carries the ledger in the file OLD, under policy.img, and writes NEW, a file in the folder that it is run in; OLD
- * stays as it is. No window lives while it runs, so it closes those above 3 itself; a host that is up asks its users
- * first. The exit status is 0 if NEW is written, 1 if the move is refused or NEW can't be written, 2 for wrong usage.
+ * The policy, policy.img, and the ledgers OLD and NEW are files of FOLDER; OLD stays as it is. No window lives while it
+ * runs, so it closes those above 3 itself; a host that is up asks its users first. The exit status is 0 if NEW is
+ * written, 1 if the move is refused or NEW can't be written, 2 for wrong usage.
  */
 #define _POSIX_C_SOURCE 200809L
+#include <nutrameza.h>
+
 #include <fcntl.h>
 #include <inttypes.h>
 #include <stdio.h>
 #include <string.h>
 #include <unistd.h>
 
-#include <nutrameza.h>
-
 /* One byte more than fits, so that a file that is too long is refused. */
 enum { MOST = NUTRAMEZA_MAX_USERS * NUTRAMEZA_LINE_BYTES + 1 };
 
+static int folder;
 static uint8_t image[NUTRAMEZA_MAX_IMAGE_BYTES + 1], old_ledger[MOST], new_ledger[2 * MOST];
 static size_t image_len, old_len, new_len;
 
-/* The bytes of a file; none where it can't be read, and the calls refuse that. */
-static size_t load(const char *path, uint8_t *bytes, size_t most)
+/* The bytes of a file of the folder; none where it can't be read, and the calls refuse that. */
+static size_t load(const char *name, uint8_t *bytes, size_t most)
 {
-    FILE *file = fopen(path, "rb");
-    if (file == NULL)
+    int file = openat(folder, name, O_RDONLY);
+    if (file < 0)
         return 0;
-    size_t length = fread(bytes, 1, most, file);
-    fclose(file);
-    return length;
+    size_t length = 0;
+    ssize_t got;
+    while ((got = read(file, bytes + length, most - length)) > 0)
+        length += (size_t)got;
+    return close(file) == 0 && got == 0 ? length : 0;
 }
 
-/* Puts the folder on disk, without which a crash could undo the rename; 1 if it is there. */
-static int sync_folder(void)
+/* Puts the new ledger on disk under a name that nothing has, and has the name on disk too; 1 if it is there whole. */
+static int save(const char *name)
 {
-    int folder = open(".", O_RDONLY);
-    if (folder < 0)
+    int file = openat(folder, "ledger.part", O_WRONLY | O_CREAT | O_TRUNC, 0600);
+    if (file < 0)
         return 0;
-    int good = fsync(folder) == 0;
-    return close(folder) == 0 && good;
-}
-
-/* Puts the new ledger on disk, whole or not at all; 1 if it is there. */
-static int save(const char *path)
-{
-    FILE *file = fopen("ledger.part", "wb");
-    if (file == NULL)
-        return 0;
-    int good = fwrite(new_ledger, 1, new_len, file) == new_len && fflush(file) == 0 && fsync(fileno(file)) == 0;
-    good = fclose(file) == 0 && good;
-    return good && rename("ledger.part", path) == 0 && sync_folder();
+    int good = write(file, new_ledger, new_len) == (ssize_t)new_len && fsync(file) == 0;
+    good = close(file) == 0 && good;
+    return good && renameat(folder, "ledger.part", folder, name) == 0 && fsync(folder) == 0;
 }
 
 /* Makes the move, and says how it went. */
@@ -61,11 +54,10 @@ static uint64_t carry(const char *way, int over)
     uint64_t returned = over ? nutrameza_widen(image, image_len, old_ledger, old_len, new_ledger, new_len)
                              : nutrameza_narrow(image, image_len, old_ledger, old_len, new_ledger, new_len);
     unsigned number = nutrameza_number_of(returned);
-    if (number == NUTRAMEZA_DONE)
+    if (nutrameza_is_done(returned))
         printf("%s: done, %zu bytes\n", way, new_len);
     else
-        printf("%s: refused, %u %s (%" PRIu64 ")\n", way, number, nutrameza_word_of(number),
-               nutrameza_extra_of(returned));
+        printf("%s: refused, %u %s (%" PRIu64 ")\n", way, number, nutrameza_word_of(number), nutrameza_extra_of(returned));
     return returned;
 }
 
@@ -73,24 +65,26 @@ static uint64_t carry(const char *way, int over)
 static void close_upper(uint64_t user)
 {
     for (uint64_t session = NUTRAMEZA_OLD_SESSIONS; session < NUTRAMEZA_SESSIONS; session++)
-        if (nutrameza_close(image, image_len, old_ledger, old_len, user, session) == NUTRAMEZA_DONE)
+        if (nutrameza_is_done(nutrameza_close(image, image_len, old_ledger, old_len, user, session)))
             printf("user %" PRIu64 ": window %" PRIu64 " closed\n", user, session);
 }
 
-int main(int count, char **arguments)
+int main(int count, char **words)
 {
-    if (count != 4 || (strcmp(arguments[1], "over") != 0 && strcmp(arguments[1], "back") != 0))
+    int over = count == 5 && strcmp(words[1], "over") == 0;
+    folder = count == 5 ? open(words[2], O_RDONLY | O_DIRECTORY) : -1;
+    if (folder < 0 || (!over && strcmp(words[1], "back") != 0)) {
+        fprintf(stderr, "carry over|back FOLDER OLD NEW\n");
         return 2;
-    int over = strcmp(arguments[1], "over") == 0;
-    size_t from = over ? NUTRAMEZA_OLD_LINE_BYTES : NUTRAMEZA_LINE_BYTES;
-    size_t to = over ? NUTRAMEZA_LINE_BYTES : NUTRAMEZA_OLD_LINE_BYTES;
-    image_len = load("policy.img", image, sizeof image);
-    old_len = load(arguments[2], old_ledger, sizeof old_ledger);
-    new_len = old_len / from * to;
-    uint64_t returned = carry(arguments[1], over);
-    while (nutrameza_number_of(returned) == NUTRAMEZA_UPPER_SESSIONS) {
-        close_upper(nutrameza_extra_of(returned));
-        returned = carry(arguments[1], over);
     }
-    return nutrameza_number_of(returned) != NUTRAMEZA_DONE || !save(arguments[3]);
+    image_len = load("policy.img", image, sizeof image);
+    old_len = load(words[3], old_ledger, sizeof old_ledger);
+    new_len = old_len / (over ? NUTRAMEZA_OLD_LINE_BYTES : NUTRAMEZA_LINE_BYTES) *
+              (over ? NUTRAMEZA_LINE_BYTES : NUTRAMEZA_OLD_LINE_BYTES);
+    uint64_t returned = carry(words[1], over);
+    while (nutrameza_number_of(returned) == NUTRAMEZA_REFUSED_UPPER_SESSIONS) {
+        close_upper(nutrameza_extra_of(returned));
+        returned = carry(words[1], over);
+    }
+    return !nutrameza_is_done(returned) || !save(words[4]);
 }

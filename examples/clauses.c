@@ -43,12 +43,14 @@ static size_t read_bound(const char *digits, uint8_t *set)
     return NUTRAMEZA_SET_BYTES;
 }
 
-/* A ledger of zeros in which a user opens a session. The number of users is the top seven bits of the head's 28. */
+/* A ledger of zeros in which a user opens a session: its bytes. Where the open is refused, the clause text is too. */
 static size_t new_ledger(size_t image_len, uint64_t user)
 {
-    unsigned users = (image[3] % 16u) * 8u + image[2] / 32u;
-    nutrameza_open(image, image_len, ledger, users * NUTRAMEZA_LINE_BYTES, user);
-    return users * NUTRAMEZA_LINE_BYTES;
+    size_t ledger_len = nutrameza_ledger_bytes(image, image_len);
+    uint64_t opened = nutrameza_open(image, image_len, ledger, ledger_len, user);
+    if (!nutrameza_is_done(opened))
+        fprintf(stderr, "clauses: the open is refused, %s\n", nutrameza_word_of(nutrameza_number_of(opened)));
+    return ledger_len;
 }
 
 int main(int count, char **words)
@@ -71,7 +73,7 @@ int main(int count, char **words)
                                           strtoull(words[7], NULL, 10), strtoull(words[8], NULL, 10), text,
                                           NUTRAMEZA_MAX_CLAUSES_BYTES);
     unsigned number = nutrameza_number_of(returned);
-    int good = number == NUTRAMEZA_DONE;
+    int good = nutrameza_is_done(returned);
     if (good)
         good = fwrite(text, 1, nutrameza_extra_of(returned), stdout) == nutrameza_extra_of(returned) && fflush(stdout) == 0;
     else

@@ -62,7 +62,7 @@ static int answered(const char *what, uint64_t returned, unsigned number, uint64
         printf("    the paper answers %u (%" PRIu64 ")\n", number, extra);
         wrong = 1;
     }
-    return seen == NUTRAMEZA_DONE;
+    return nutrameza_is_done(returned);
 }
 
 /* Prints an answer's roles and permissions by name, and holds them to the paper's. */
@@ -127,7 +127,7 @@ static void day(void)
     answered("open a second window", nutrameza_open(image, sizeof image, ledger, NUTRAMEZA_LINE_BYTES, USER), NUTRAMEZA_DONE, 1);
 
     memcpy(before, answer, sizeof before);
-    answered("  send health records from there", ask(1, READ_HEALTH_RECORDS | SEND_DATA, answer), NUTRAMEZA_NONE, 0);
+    answered("  send health records from there", ask(1, READ_HEALTH_RECORDS | SEND_DATA, answer), NUTRAMEZA_REFUSED_NONE, 0);
     if (memcmp(before, answer, sizeof before) != 0) {
         printf("    the refused ask touched the answer\n");
         wrong = 1;
@@ -146,18 +146,18 @@ static void day(void)
 
     answered("close the first window", nutrameza_close(image, sizeof image, ledger, NUTRAMEZA_LINE_BYTES, USER, 0),
              NUTRAMEZA_DONE, 0);
-    answered("  what stands in the way now", obstacle(1, READ_HEALTH_RECORDS | SEND_DATA, roles), NUTRAMEZA_NONE, 0);
+    answered("  what stands in the way now", obstacle(1, READ_HEALTH_RECORDS | SEND_DATA, roles), NUTRAMEZA_REFUSED_NONE, 0);
     if (answered("  send health records from the second", ask(1, READ_HEALTH_RECORDS | SEND_DATA, answer), NUTRAMEZA_DONE, 0))
         shown(answer, 2, 0x12);
     uint64_t told = explain(1, 4);
     if (answered("  why may data be sent there", told, NUTRAMEZA_DONE, 64 * DATA_MANAGER + DATA_MANAGER))
         printf("    through %s, granted to %s\n", role_names[nutrameza_explained_role(told)],
                role_names[nutrameza_granting_role(told)]);
-    answered("  why may drugs be prescribed there", explain(1, 2), NUTRAMEZA_NONE, 0);
-    answered("show the window that is closed", show(0, answer, sizeof answer), NUTRAMEZA_CLOSED, 0);
-    answered("show into a buffer that is too small", show(1, answer, 39), NUTRAMEZA_ROOM, 0);
+    answered("  why may drugs be prescribed there", explain(1, 2), NUTRAMEZA_REFUSED_NONE, 0);
+    answered("show the window that is closed", show(0, answer, sizeof answer), NUTRAMEZA_REFUSED_CLOSED, 0);
+    answered("show into a buffer that is too small", show(1, answer, 39), NUTRAMEZA_REFUSED_ROOM, 0);
     answered("open for a person beyond the policy",
-             nutrameza_open(image, sizeof image, ledger, NUTRAMEZA_LINE_BYTES, UINT64_MAX), NUTRAMEZA_PERSON, 0);
+             nutrameza_open(image, sizeof image, ledger, NUTRAMEZA_LINE_BYTES, UINT64_MAX), NUTRAMEZA_REFUSED_PERSON, 0);
 }
 
 static uint64_t narrow(uint8_t *old_ledger)
@@ -174,8 +174,8 @@ static void moving(void)
     for (unsigned place = 0; place < sizeof next / sizeof next[0]; place++)
         answered("open one more window", nutrameza_open(image, sizeof image, ledger, NUTRAMEZA_LINE_BYTES, USER), NUTRAMEZA_DONE,
                  next[place]);
-    answered("open a ninth window", nutrameza_open(image, sizeof image, ledger, NUTRAMEZA_LINE_BYTES, USER), NUTRAMEZA_FULL, 0);
-    answered("carry the ledger back to four windows", narrow(old_ledger), NUTRAMEZA_UPPER_SESSIONS, USER);
+    answered("open a ninth window", nutrameza_open(image, sizeof image, ledger, NUTRAMEZA_LINE_BYTES, USER), NUTRAMEZA_REFUSED_FULL, 0);
+    answered("carry the ledger back to four windows", narrow(old_ledger), NUTRAMEZA_REFUSED_UPPER_SESSIONS, USER);
     for (uint64_t session = NUTRAMEZA_OLD_SESSIONS; session < NUTRAMEZA_SESSIONS; session++)
         answered("  close a window above the fourth",
                  nutrameza_close(image, sizeof image, ledger, NUTRAMEZA_LINE_BYTES, USER, session), NUTRAMEZA_DONE, 0);
@@ -187,9 +187,9 @@ static void moving(void)
         wrong = 1;
     }
     answered("carry it over into a buffer of the old size",
-             nutrameza_widen(image, sizeof image, old_ledger, sizeof old_ledger, again, NUTRAMEZA_OLD_LINE_BYTES), NUTRAMEZA_ROOM, 0);
+             nutrameza_widen(image, sizeof image, old_ledger, sizeof old_ledger, again, NUTRAMEZA_OLD_LINE_BYTES), NUTRAMEZA_REFUSED_ROOM, 0);
     answered("carry over what is no old ledger",
-             nutrameza_widen(image, sizeof image, ledger, NUTRAMEZA_LINE_BYTES, again, sizeof again), NUTRAMEZA_LEDGER, 0);
+             nutrameza_widen(image, sizeof image, ledger, NUTRAMEZA_LINE_BYTES, again, sizeof again), NUTRAMEZA_REFUSED_LEDGER, 0);
 }
 
 /* Refusals that a host meets when it loads a policy. */
@@ -201,9 +201,9 @@ static void loading(void)
     damaged[4 * 9 + 3] ^= 0x04; /* an exclusion over one window, and the balance is off */
     barring[4 * 9 + 2] ^= 0x18; /* n becomes 1, which would bar both roles from everyone */
     answered("check the policy", nutrameza_check(image, sizeof image), NUTRAMEZA_DONE, 0);
-    answered("check a policy with its exclusion changed", nutrameza_check(damaged, sizeof damaged), NUTRAMEZA_BALANCE, 12);
-    answered("check a policy with an exclusion of one", nutrameza_check(barring, sizeof barring), NUTRAMEZA_RANGE, 9);
-    answered("check no policy at all", nutrameza_check(NULL, 0), NUTRAMEZA_LENGTH, 0);
+    answered("check a policy with its exclusion changed", nutrameza_check(damaged, sizeof damaged), NUTRAMEZA_REFUSED_BALANCE, 12);
+    answered("check a policy with an exclusion of one", nutrameza_check(barring, sizeof barring), NUTRAMEZA_REFUSED_RANGE, 9);
+    answered("check no policy at all", nutrameza_check(NULL, 0), NUTRAMEZA_REFUSED_LENGTH, 0);
 }
 
 /* The policy as another editor saved it, entries in the other order and one of them twice: other bytes, and the same
@@ -223,7 +223,7 @@ static void comparing(void)
         printf("    the tidy images differ\n");
         wrong = 1;
     }
-    answered("tidy it into a buffer that is too small", nutrameza_tidy(saved, sizeof saved, tidy, sizeof tidy - 1), NUTRAMEZA_ROOM, 0);
+    answered("tidy it into a buffer that is too small", nutrameza_tidy(saved, sizeof saved, tidy, sizeof tidy - 1), NUTRAMEZA_REFUSED_ROOM, 0);
 }
 
 /* A review of who carries what: the table by roles, and turned by permissions. */
@@ -247,7 +247,7 @@ static void reviewing(void)
         printf("    the table is not the paper's\n");
         wrong = 1;
     }
-    answered("turn a table that is cut", nutrameza_turn(table, sizeof table - 1, turned, sizeof turned), NUTRAMEZA_ROOM, 0);
+    answered("turn a table that is cut", nutrameza_turn(table, sizeof table - 1, turned, sizeof turned), NUTRAMEZA_REFUSED_ROOM, 0);
 }
 
 int main(void)

@@ -42,7 +42,7 @@ static void say_windows(uint64_t user, uint64_t session, uint64_t counted)
     uint8_t answer[NUTRAMEZA_ANSWER_BYTES];
     for (uint64_t other = 0; other < NUTRAMEZA_SESSIONS; other++) {
         uint64_t shown = nutrameza_show(image, image_len, ledger, sizeof ledger, user, other, answer, sizeof answer);
-        uint64_t held = nutrameza_number_of(shown) == NUTRAMEZA_DONE ? nutrameza_answer_roles(answer) & counted : 0;
+        uint64_t held = nutrameza_is_done(shown) ? nutrameza_answer_roles(answer) & counted : 0;
         if (other != session && held != 0) {
             printf(" Close window %" PRIu64 ", which holds ", other);
             say_roles(held, " and ");
@@ -75,7 +75,7 @@ static void why_not(uint64_t user, uint64_t session, const uint8_t *lower, const
     uint8_t roles[NUTRAMEZA_OBSTACLE_BYTES];
     uint64_t told = nutrameza_obstacle(image, image_len, ledger, sizeof ledger, user, session, lower, NUTRAMEZA_SET_BYTES, upper,
                                        NUTRAMEZA_SET_BYTES, roles, sizeof roles);
-    if (nutrameza_number_of(told) != NUTRAMEZA_DONE) {
+    if (!nutrameza_is_done(told)) {
         printf("try again (%s)\n", nutrameza_word_of(nutrameza_number_of(told)));
         return;
     }
@@ -111,10 +111,10 @@ static void press(const char *button, uint64_t user, uint64_t session, unsigned 
     uint64_t returned = nutrameza_short_ask(image, image_len, ledger, sizeof ledger, user, session, lower, sizeof lower, upper,
                                             sizeof upper, answer, sizeof answer);
     printf("%s, window %" PRIu64 ", %s: ", users[user], session, button);
-    if (nutrameza_number_of(returned) == NUTRAMEZA_DONE) {
+    if (nutrameza_is_done(returned)) {
         say_roles(nutrameza_answer_roles(answer), " and ");
         printf("\n");
-    } else if (nutrameza_number_of(returned) == NUTRAMEZA_NONE) {
+    } else if (nutrameza_number_of(returned) == NUTRAMEZA_REFUSED_NONE) {
         why_not(user, session, lower, upper);
     } else {
         printf("refused, %s\n", nutrameza_word_of(nutrameza_number_of(returned)));
@@ -124,13 +124,14 @@ static void press(const char *button, uint64_t user, uint64_t session, unsigned 
 static void open_window(uint64_t user)
 {
     uint64_t returned = nutrameza_open(image, image_len, ledger, sizeof ledger, user);
-    printf("%s opens window %" PRIu64 "\n", users[user], nutrameza_extra_of(returned));
+    if (nutrameza_is_done(returned))
+        printf("%s opens window %" PRIu64 "\n", users[user], nutrameza_extra_of(returned));
 }
 
 static void close_window(uint64_t user, uint64_t session)
 {
-    nutrameza_close(image, image_len, ledger, sizeof ledger, user, session);
-    printf("%s closes window %" PRIu64 "\n", users[user], session);
+    if (nutrameza_is_done(nutrameza_close(image, image_len, ledger, sizeof ledger, user, session)))
+        printf("%s closes window %" PRIu64 "\n", users[user], session);
 }
 
 static void day(void)
@@ -161,7 +162,7 @@ int main(int count, char **words)
     }
     image_len = fread(image, 1, sizeof image, file);
     fclose(file);
-    if (nutrameza_check(image, image_len) != NUTRAMEZA_DONE) {
+    if (!nutrameza_is_done(nutrameza_check(image, image_len))) {
         fprintf(stderr, "%s is refused\n", words[1]);
         return 1;
     }

@@ -8,18 +8,20 @@ lib=$(cd "$root" && realpath -m "${NUTRAMEZA_LIB:-target/staticlib}")
 prefix=$work/prefix
 strict='-O2 -Wall -Wextra -Werror -pedantic'
 
-# flags OPTION..: what pkg-config says of the installed kit; where the tool is missing, the .pc file is read here
+# flags OPTION..: what pkg-config says of the installed kit, its archive; where the tool is missing, the .pc file is
+# read here
 flags() {
   if command -v pkg-config > /dev/null; then
-    PKG_CONFIG_LIBDIR=$prefix/lib/pkgconfig PKG_CONFIG_PATH= pkg-config "$@" nutrameza
+    PKG_CONFIG_LIBDIR=$prefix/lib/pkgconfig PKG_CONFIG_PATH= pkg-config "$@" nutrameza-static
   else
-    read_pc "$@"
+    read_pc nutrameza-static "$@"
   fi
 }
 
-# read_pc OPTION..: Cflags and Libs of the .pc file, with its variables put in
+# read_pc MODULE OPTION..: Cflags and Libs of the .pc file, with its variables put in
 read_pc() {
-  local pc=$prefix/lib/pkgconfig/nutrameza.pc line field out=''
+  local pc=$prefix/lib/pkgconfig/$1.pc line field out=''
+  shift
   local -A variable=()
   while IFS= read -r line; do
     while [[ $line =~ \$\{([a-z_]+)\} ]]; do line=${line//"${BASH_REMATCH[0]}"/${variable[${BASH_REMATCH[1]}]-}}; done
@@ -78,8 +80,10 @@ staged() {
 }
 
 same_flags() {
-  [ "$(read_pc --cflags --libs)" = "-I$prefix/include -L$prefix/lib -lnutrameza" ] &&
-    [ "$(flags --cflags --libs | xargs)" = "$(read_pc --cflags --libs)" ] && [ "$(flags --modversion)" = "$(read_pc --modversion)" ]
+  [ "$(read_pc nutrameza --cflags --libs)" = "-I$prefix/include -L$prefix/lib -lnutrameza" ] &&
+    [ "$(read_pc nutrameza-static --cflags --libs)" = "-I$prefix/include -L$prefix/lib -l:libnutrameza.a" ] &&
+    [ "$(flags --cflags --libs | xargs)" = "$(read_pc nutrameza-static --cflags --libs)" ] &&
+    [ "$(flags --modversion)" = "$(cat "$root/VERSION")" ] && [ "$(read_pc nutrameza --modversion)" = "$(cat "$root/VERSION")" ]
 }
 
 # host NAME SOURCE FLAG..: a host built in its own folder with nothing of the kit but what pkg-config says
@@ -113,21 +117,55 @@ first_host() {
     shown START.md 'text policy' 1 examples/ward.policy
 }
 
+# Every piece of C that a page shows under a name stands in the example of that name, and there are as many as now.
+shown_everywhere() {
+  local page block count=0
+  cd "$root/docs" && for page in *.md; do
+    for block in $(sed -nE 's/^```c ([a-z_]+)$/\1/p' "$page" | sort -u); do
+      for number in $(seq "$(grep -c "^\`\`\`c $block\$" "$page")"); do
+        (cd "$work" && shown "$page" "c $block" "$number" "$root/examples/$block.c") || { echo "$page: $block $number"; return 1; }
+        count=$((count + 1))
+      done
+    done
+  done && [ "$count" -ge 7 ]
+}
+
+# The pieces of the reference, run.
+pieces() {
+  host pieces "$root/examples/pieces.c" && ./host > said && head -3 said | diff - <(printf '%s\n' '32 bytes, tidy 28' \
+    'Head may prescribe: 1; roles that may: 3' 'through Head, granted to Doctor') && sed -n 4p said | grep -q '^p wcnf '
+}
+
 # After it the ledger has the second window open and both roles in the user's history.
 first_ledger() {
-  [ "$(od -An -v -tx8 "$work/first/ledger" | xargs)" = "$(printf '%016x ' 2 3 0 0 2 2 0 0 0 0 0 0 0 0 0 0 0 0 | xargs)" ]
+  [ "$(od -An -v -tx8 "$work/first/site/ledger" | xargs)" = "$(printf '%016x ' 2 3 0 0 2 2 0 0 0 0 0 0 0 0 0 0 0 0 | xargs)" ]
 }
 
 # It is strict C99 and a C++ program too, and prints the same.
 first_strict() {
-  host first_c "$root/examples/first.c" && cp "$work/first/policy.img" . && ./host > c.out &&
+  host first_c "$root/examples/first.c" && cp "$work/first/site/policy.img" . && ./host > c.out && rm ledger &&
     g++ -x c++ -std=c++17 $strict $(flags --cflags) "$root/examples/first.c" $(flags --libs) -o cxx && ./cxx > cxx.out &&
-    diff c.out cxx.out && sed '1,/^\$ .*\/first$/d' "$work/first/page" | diff - c.out
+    diff c.out cxx.out && sed '1,/^\$ .*\/first site$/d' "$work/first/page" | diff - c.out
+}
+
+# Started again it takes up the ledger and closes the window that was left open; with a ledger of another length it says
+# so and leaves it.
+first_again() {
+  cd "$work/first_c" && ./host > again.out && diff <(echo 'close: window 1' && cat c.out) again.out &&
+    head -c 143 ledger > cut && cp cut ledger && ! ./host > cut.out && grep -q '^ledger: ' cut.out && cmp cut ledger
 }
 
 # Without an image it is told so.
 first_without_image() {
   mkdir -p "$work/bare" && cd "$work/bare" && ! "$work/first/first" > said && grep -qx 'policy: refused, 1 length (0)' said
+}
+
+# The ledger's file and then its folder are on disk before the program says that roles go live, and no name is put in
+# place elsewhere.
+first_synced() {
+  mkdir -p "$work/traced" && cd "$work/traced" && cp "$work/first/site/policy.img" . &&
+    strace -e trace=openat,renameat,renameat2,rename,fsync,write -o trace "$work/first_c/host" . > said &&
+    [ "$(grep -c '^fsync' trace)" = $((2 * $(grep -c '^rename' trace))) ] && [ "$(grep -c '^rename' trace)" -gt 4 ] && ! grep -q '^rename(' trace
 }
 
 # Each kind of obstacle, told by the example under the policy beside it; what the page shows of it stands in it.
@@ -179,21 +217,21 @@ surveyed() {
 # A ledger of four windows, and one of eight with window 4 open beside window 1.
 carrying() {
   block OPERATIONS.md 'text carry' 1 > "$work/carry.out" && test -s "$work/carry.out" &&
-    host carry "$root/examples/carry.c" && mv host carry && cp "$work/ward.img" policy.img &&
-    numbers 2 3 0 0 2 2 0 0 0 0 > ledger.4 && numbers 18 3 0 0 2 2 0 0 0 0 0 0 0 0 0 0 0 0 > busy.8 &&
+    host carry "$root/examples/carry.c" && mv host carry && mkdir site && cp "$work/ward.img" site/policy.img &&
+    numbers 2 3 0 0 2 2 0 0 0 0 > site/ledger.4 && numbers 18 3 0 0 2 2 0 0 0 0 0 0 0 0 0 0 0 0 > site/busy.8 &&
     replayed < "$work/carry.out" > said && diff said "$work/carry.out"
 }
 
 # The ledger over and back is the old one byte for byte, and so is the busy one once its window 4 is closed; the files
 # carried stay.
 carried() {
-  cd "$work/carry" && numbers 2 3 0 0 2 2 0 0 0 0 | cmp - ledger.4 && cmp ledger.4 ledger.back && cmp ledger.4 busy.4 &&
+  cd "$work/carry/site" && numbers 2 3 0 0 2 2 0 0 0 0 | cmp - ledger.4 && cmp ledger.4 ledger.back && cmp ledger.4 busy.4 &&
     numbers 2 3 0 0 2 2 0 0 0 0 0 0 0 0 0 0 0 0 | cmp - ledger.8 && numbers 18 3 0 0 2 2 0 0 0 0 0 0 0 0 0 0 0 0 | cmp - busy.8
 }
 
 carrying_cxx() {
   g++ -x c++ -std=c++17 $strict $(flags --cflags) "$root/examples/carry.c" $(flags --libs) -o "$work/carry_cxx" &&
-    cd "$work/carry" && "$work/carry_cxx" over ledger.4 ledger.cxx && cmp ledger.8 ledger.cxx
+    cd "$work/carry" && "$work/carry_cxx" over site ledger.4 ledger.cxx && cmp site/ledger.8 site/ledger.cxx
 }
 
 # A policy put in place while the user has a window open with a role that is taken away.
@@ -287,9 +325,17 @@ it 'make install puts each program there exactly if it is built' programs_instal
 it 'make install with DESTDIR keeps the prefix in nutrameza.pc' staged
 it 'pkg-config says where the header and the library are' same_flags
 it 'the commands of docs/START.md build a host from pkg-config alone and print what is written there' first_host
+it 'the C that the pages show is that of the examples' shown_everywhere
+it 'the pieces of docs/REFERENCE.md do what is written there' pieces
 it 'the first host leaves the ledger on disk' first_ledger
 it 'the first host is strict C99 and a C++ program' first_strict
+it 'the first host takes up its ledger, and refuses one that is cut' first_again
 it 'the first host without an image says so' first_without_image
+if strace -o /dev/null true 2> /dev/null; then
+  it 'the first host has the ledger and its folder on disk each time' first_synced
+else
+  echo 'not installed, or not permitted: strace'
+fi
 it 'the example of obstacles tells of each kind what docs/OPERATIONS.md writes, and the page shows a part of it' why_not
 it 'the example of obstacles is a C++ program too' why_not_cxx
 it 'the example of obstacles runs with sanitizers' why_not_sanitized

@@ -58,7 +58,7 @@ static void make_image(uint32_t last_n) {
 static int write_clauses(uint64_t session, const uint8_t *lower, const uint8_t *upper, uint64_t first, uint64_t second) {
     uint64_t returned = nutrameza_clauses(image, image_len, ledger, sizeof ledger, LAST, session, lower, NUTRAMEZA_SET_BYTES, upper,
                                           NUTRAMEZA_SET_BYTES, first, second, text, NUTRAMEZA_MAX_CLAUSES_BYTES);
-    return nutrameza_number_of(returned) == NUTRAMEZA_DONE && text[nutrameza_extra_of(returned) - 1] == '\n';
+    return nutrameza_is_done(returned) && text[nutrameza_extra_of(returned) - 1] == '\n';
 }
 
 /* What stands in the way of such an ask; 1 if that is something exactly if the ask is told that there is no set. */
@@ -66,7 +66,7 @@ static int obstructed(uint64_t session, const uint8_t *lower, const uint8_t *upp
     uint8_t roles[NUTRAMEZA_OBSTACLE_BYTES];
     uint64_t returned = nutrameza_obstacle(image, image_len, ledger, sizeof ledger, LAST, session, lower, NUTRAMEZA_SET_BYTES, upper,
                                            NUTRAMEZA_SET_BYTES, roles, sizeof roles);
-    return nutrameza_number_of(returned) == (asked == NUTRAMEZA_DONE ? NUTRAMEZA_NONE : NUTRAMEZA_DONE);
+    return nutrameza_number_of(returned) == (asked == NUTRAMEZA_DONE ? NUTRAMEZA_REFUSED_NONE : NUTRAMEZA_DONE);
 }
 
 /* An ask of the last user for the permissions below `needed` with these aims, and its clause text; 1 if its number is
@@ -102,12 +102,12 @@ static int ask(uint32_t needed, uint32_t allowed, uint64_t first, uint64_t secon
  * as it should be. */
 static int moves(void) {
     uint64_t refused = nutrameza_narrow(image, image_len, ledger, sizeof ledger, old_ledger, sizeof old_ledger);
-    int good = refused == NUTRAMEZA_UPPER_SESSIONS + 256 * LAST;
+    int good = refused == NUTRAMEZA_REFUSED_UPPER_SESSIONS + 256 * LAST;
     for (uint64_t session = NUTRAMEZA_OLD_SESSIONS; session < NUTRAMEZA_SESSIONS; session++) {
-        good &= nutrameza_close(image, image_len, ledger, sizeof ledger, LAST, session) == NUTRAMEZA_DONE;
+        good &= nutrameza_is_done(nutrameza_close(image, image_len, ledger, sizeof ledger, LAST, session));
     }
-    good &= nutrameza_narrow(image, image_len, ledger, sizeof ledger, old_ledger, sizeof old_ledger) == NUTRAMEZA_DONE;
-    good &= nutrameza_widen(image, image_len, old_ledger, sizeof old_ledger, again, sizeof again) == NUTRAMEZA_DONE;
+    good &= nutrameza_is_done(nutrameza_narrow(image, image_len, ledger, sizeof ledger, old_ledger, sizeof old_ledger));
+    good &= nutrameza_is_done(nutrameza_widen(image, image_len, old_ledger, sizeof old_ledger, again, sizeof again));
     return good && memcmp(ledger, again, sizeof ledger) == 0;
 }
 
@@ -117,15 +117,15 @@ static int tidied(void) {
     uint64_t first = nutrameza_tidy(image, image_len, tidy, sizeof tidy);
     size_t length = (size_t)nutrameza_extra_of(first) * NUTRAMEZA_WORD_BYTES;
     uint64_t second = nutrameza_tidy(tidy, length, twice, length);
-    return nutrameza_number_of(first) == NUTRAMEZA_DONE && length < image_len && second == first && memcmp(tidy, twice, length) == 0;
+    return nutrameza_is_done(first) && length < image_len && second == first && memcmp(tidy, twice, length) == 0;
 }
 
 /* The grant table of the image, turned and turned back; 1 if it is the same. */
 static int turned(void) {
     static uint8_t table[NUTRAMEZA_TABLE_BYTES], by_permission[NUTRAMEZA_TABLE_BYTES], back[NUTRAMEZA_TABLE_BYTES];
-    int done = nutrameza_table(image, image_len, table, sizeof table) == NUTRAMEZA_DONE &&
-               nutrameza_turn(table, sizeof table, by_permission, sizeof by_permission) == NUTRAMEZA_DONE &&
-               nutrameza_unturn(by_permission, sizeof by_permission, back, sizeof back) == NUTRAMEZA_DONE;
+    int done = nutrameza_is_done(nutrameza_table(image, image_len, table, sizeof table)) &&
+               nutrameza_is_done(nutrameza_turn(table, sizeof table, by_permission, sizeof by_permission)) &&
+               nutrameza_is_done(nutrameza_unturn(by_permission, sizeof by_permission, back, sizeof back));
     return done && memcmp(table, back, sizeof table) == 0 && nutrameza_table_has(table, 0, 3) && nutrameza_turned_roles(by_permission, 3) == 15;
 }
 
@@ -141,11 +141,11 @@ static int hindered(void) {
     for (uint32_t chain = 0; chain < 4; chain++) {
         nutrameza_add_permission(four, 4 * chain + 3);
     }
-    good &= nutrameza_open(image, image_len, fresh, sizeof fresh, LAST) == NUTRAMEZA_DONE;
+    good &= nutrameza_is_done(nutrameza_open(image, image_len, fresh, sizeof fresh, LAST));
     for (int narrow = 0; narrow < 2; narrow++) {
         uint64_t returned = nutrameza_obstacle(image, image_len, fresh, sizeof fresh, LAST, 0, narrow ? four : all, sizeof all, all,
                                                sizeof all, roles, sizeof roles);
-        good &= nutrameza_number_of(returned) == NUTRAMEZA_DONE && nutrameza_obstacle_kind_of(returned) == NUTRAMEZA_OBSTACLE_EXCLUSION;
+        good &= nutrameza_is_done(returned) && nutrameza_obstacle_kind_of(returned) == NUTRAMEZA_OBSTACLE_EXCLUSION;
         good &= nutrameza_obstacle_which(returned) == NUTRAMEZA_MS_HMER && nutrameza_obstacle_n(returned) == 4;
         good &= nutrameza_obstacle_first(roles) == 0 && nutrameza_obstacle_second(roles) == UINT64_MAX;
     }
@@ -162,7 +162,7 @@ static void *work(void *unused) {
         answered &= ask(0, 256, aims / 3, aims % 3, NUTRAMEZA_DONE);
         answered &= ask(8, 256, aims / 3, aims % 3, NUTRAMEZA_DONE);
         answered &= ask(256, 256, aims / 3, aims % 3, NUTRAMEZA_DONE);
-        answered &= ask(255, 255, aims / 3, aims % 3, NUTRAMEZA_NONE);
+        answered &= ask(255, 255, aims / 3, aims % 3, NUTRAMEZA_REFUSED_NONE);
     }
     answered &= moves();
     answered &= tidied();

@@ -29,7 +29,7 @@ int main(int count, char **arguments) {
         fclose(file);
         uint64_t returned = nutrameza_tidy(image, length, out, sizeof out);
         size_t tidy = (size_t)nutrameza_extra_of(returned) * NUTRAMEZA_WORD_BYTES;
-        if (nutrameza_number_of(returned) == NUTRAMEZA_DONE && write_to(arguments[1], arguments[k], out, tidy) != 0) {
+        if (nutrameza_is_done(returned) && write_to(arguments[1], arguments[k], out, tidy) != 0) {
             return 1;
         }
     }

@@ -47,9 +47,15 @@ static void test_words(void) {
 }
 
 static void test_returned_values(void) {
-    same("number", nutrameza_number_of(5u + 256u * 3u), NUTRAMEZA_RANGE);
+    same("number", nutrameza_number_of(5u + 256u * 3u), NUTRAMEZA_REFUSED_RANGE);
     same("extra", nutrameza_extra_of(5u + 256u * 3u), 3);
     same("number of done", nutrameza_number_of(256u * 2u), NUTRAMEZA_DONE);
+    same("done", (uint64_t)nutrameza_is_done(0), 1);
+    same("done with an extra", (uint64_t)nutrameza_is_done(256u * 7u), 1);
+    same("done with the largest extra", (uint64_t)nutrameza_is_done(UINT64_MAX - 255u), 1);
+    same("refused", (uint64_t)nutrameza_is_done(1), 0);
+    same("refused with an extra", (uint64_t)nutrameza_is_done(20u + 256u), 0);
+    same("refused by the largest number", (uint64_t)nutrameza_is_done(UINT64_MAX), 0);
     same("largest extra", nutrameza_extra_of(8u + 256u * 4095u), 4095);
     same("explained role", nutrameza_explained_role(256u * (64u * 5u + 9u)), 5);
     same("granting role", nutrameza_granting_role(256u * (64u * 5u + 9u)), 9);
@@ -64,15 +70,15 @@ static void test_returned_values(void) {
     same("obstacle's which, largest", nutrameza_obstacle_which(256u * (4u + 8u * (3u + 4u * 64u))), NUTRAMEZA_MS_HMER);
     same("obstacle's n, largest", nutrameza_obstacle_n(256u * (4u + 8u * (3u + 4u * 64u))), 64);
     same("word of 0", (uint64_t)strcmp(nutrameza_word_of(NUTRAMEZA_DONE), "done"), 0);
-    same("word of 8", (uint64_t)strcmp(nutrameza_word_of(NUTRAMEZA_BALANCE), "balance"), 0);
-    same("word of 14", (uint64_t)strcmp(nutrameza_word_of(NUTRAMEZA_FULL), "full"), 0);
-    same("word of 20", (uint64_t)strcmp(nutrameza_word_of(NUTRAMEZA_NONE), "none"), 0);
-    same("word of 21", (uint64_t)strcmp(nutrameza_word_of(NUTRAMEZA_SCRIPT), "script"), 0);
-    same("word of 22", (uint64_t)strcmp(nutrameza_word_of(NUTRAMEZA_LOOP), "loop"), 0);
-    same("word of 23", (uint64_t)strcmp(nutrameza_word_of(NUTRAMEZA_REACH), "reach"), 0);
-    same("word of 24", (uint64_t)strcmp(nutrameza_word_of(NUTRAMEZA_UPPER_SESSIONS), "upper sessions"), 0);
+    same("word of 8", (uint64_t)strcmp(nutrameza_word_of(NUTRAMEZA_REFUSED_BALANCE), "balance"), 0);
+    same("word of 14", (uint64_t)strcmp(nutrameza_word_of(NUTRAMEZA_REFUSED_FULL), "full"), 0);
+    same("word of 20", (uint64_t)strcmp(nutrameza_word_of(NUTRAMEZA_REFUSED_NONE), "none"), 0);
+    same("word of 21", (uint64_t)strcmp(nutrameza_word_of(NUTRAMEZA_REFUSED_SCRIPT), "script"), 0);
+    same("word of 22", (uint64_t)strcmp(nutrameza_word_of(NUTRAMEZA_REFUSED_LOOP), "loop"), 0);
+    same("word of 23", (uint64_t)strcmp(nutrameza_word_of(NUTRAMEZA_REFUSED_REACH), "reach"), 0);
+    same("word of 24", (uint64_t)strcmp(nutrameza_word_of(NUTRAMEZA_REFUSED_UPPER_SESSIONS), "upper sessions"), 0);
     same("word of 25", (uint64_t)strcmp(nutrameza_word_of(25), "unknown"), 0);
-    same("number of a move's refusal", nutrameza_number_of(24u + 256u * 63u), NUTRAMEZA_UPPER_SESSIONS);
+    same("number of a move's refusal", nutrameza_number_of(24u + 256u * 63u), NUTRAMEZA_REFUSED_UPPER_SESSIONS);
     same("user of a move's refusal", nutrameza_extra_of(24u + 256u * 63u), 63);
     same("unsound line of the asker", nutrameza_unsound_user(11u, 5), 5);
     same("unsound line of the first user", nutrameza_unsound_user(11u + 256u, 5), 0);
@@ -85,6 +91,62 @@ static void test_lines(void) {
     same("bytes of a line", NUTRAMEZA_LINE_BYTES, 16 + 16 * NUTRAMEZA_SESSIONS);
     same("sessions of earlier versions", NUTRAMEZA_OLD_SESSIONS, 4);
     same("bytes of a line of earlier versions", NUTRAMEZA_OLD_LINE_BYTES, 16 + 16 * NUTRAMEZA_OLD_SESSIONS);
+}
+
+/* What the head of an image says; fields full, and too few bytes. */
+static void test_heads(void) {
+    uint8_t image[5];
+    memset(image, 0xFF, sizeof image);
+    nutrameza_write_word(image, nutrameza_head_word(1, 2, 5));
+    same("users", nutrameza_image_users(image, sizeof image), 1);
+    same("roles", nutrameza_image_roles(image, sizeof image), 2);
+    same("permissions", nutrameza_image_permissions(image, sizeof image), 5);
+    same("bytes of a ledger", nutrameza_ledger_bytes(image, 4), 144);
+    nutrameza_write_word(image, nutrameza_head_word(64, 63, 256));
+    same("users, largest", nutrameza_image_users(image, 4), 64);
+    same("roles, one less", nutrameza_image_roles(image, 4), 63);
+    same("permissions, largest", nutrameza_image_permissions(image, 4), 256);
+    same("bytes of the largest ledger", nutrameza_ledger_bytes(image, 4), 9216);
+    memset(image, 0xFF, sizeof image);
+    same("users, field full", nutrameza_image_users(image, 4), 127);
+    same("roles, field full", nutrameza_image_roles(image, 4), 127);
+    same("permissions, field full", nutrameza_image_permissions(image, 4), 511);
+    same("users of three bytes", nutrameza_image_users(image, 3), 0);
+    same("roles of nothing", nutrameza_image_roles(NULL, 0), 0);
+    same("permissions of nothing", nutrameza_image_permissions(NULL, 0), 0);
+    same("bytes of a ledger under nothing", nutrameza_ledger_bytes(NULL, 0), 0);
+}
+
+/* The open sessions of the second of two lines, and none where there is no line. */
+static void test_open_sessions(void) {
+    uint8_t ledger[2 * NUTRAMEZA_LINE_BYTES] = {0};
+    uint64_t session;
+    ledger[NUTRAMEZA_LINE_BYTES] = 0x85;
+    ledger[NUTRAMEZA_LINE_BYTES + 1] = 0xFF;
+    same("line", (uint64_t)(nutrameza_line(ledger, sizeof ledger, 1) - ledger), NUTRAMEZA_LINE_BYTES);
+    same("line beyond", nutrameza_line(ledger, sizeof ledger, 2) == NULL, 1);
+    same("line far beyond", nutrameza_line(ledger, sizeof ledger, UINT64_MAX) == NULL, 1);
+    same("line that is cut", nutrameza_line(ledger, sizeof ledger - 1, 1) == NULL, 1);
+    same("line of nothing", nutrameza_line(NULL, 0, 0) == NULL, 1);
+    same("open sessions, none", nutrameza_open_sessions(ledger, sizeof ledger, 0), 0);
+    same("open sessions", nutrameza_open_sessions(ledger, sizeof ledger, 1), 0x85);
+    same("open sessions beyond", nutrameza_open_sessions(ledger, sizeof ledger, 2), 0);
+    for (session = 0; session < 70; session++) {
+        same("open", (uint64_t)nutrameza_is_open(ledger, sizeof ledger, 1, session), session == 0 || session == 2 || session == 7);
+        same("open, other line", (uint64_t)nutrameza_is_open(ledger, sizeof ledger, 0, session), 0);
+        same("open, no line", (uint64_t)nutrameza_is_open(ledger, sizeof ledger, 2, session), 0);
+    }
+    same("open, largest numbers", (uint64_t)nutrameza_is_open(ledger, sizeof ledger, UINT64_MAX, UINT64_MAX), 0);
+}
+
+/* Versions compare as numbers. */
+static void test_version(void) {
+    char text[64];
+    snprintf(text, sizeof text, "%d.%d.%d", NUTRAMEZA_VERSION_MAJOR, NUTRAMEZA_VERSION_MINOR, NUTRAMEZA_VERSION_PATCH);
+    same("version", (uint64_t)strcmp(text, NUTRAMEZA_VERSION_STRING), 0);
+    same("version as a number", nutrameza_version(), NUTRAMEZA_VERSION);
+    same("1.2.3", NUTRAMEZA_VERSION_OF(1, 2, 3), 1002003);
+    same("1.2.3 before 1.3.0", NUTRAMEZA_VERSION_OF(1, 2, 3) < NUTRAMEZA_VERSION_OF(1, 3, 0), 1);
 }
 
 static void test_sets(void) {
@@ -171,6 +233,9 @@ int main(int count, char **arguments) {
     test_words();
     test_returned_values();
     test_lines();
+    test_heads();
+    test_open_sessions();
+    test_version();
     test_sets();
     test_obstacle_sets();
     test_tables();

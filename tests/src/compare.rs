@@ -15,14 +15,58 @@ use crate::solver::stopped::{self, USERS};
 use crate::solver::tidy;
 use crate::solver::turned::{self, Way};
 use crate::words;
+use std::cell::Cell;
 use std::collections::BTreeMap;
 use std::io::Write;
+use std::sync::OnceLock;
+use std::time::UNIX_EPOCH;
 
-/// The seed of a run: NUTRAMEZA_SEED, else always the same.
+/// The seed that every run has, where NUTRAMEZA_SEED names no other.
+const USUAL: u64 = 20_120_309;
+
+thread_local! {
+    /// The seed of the case that this thread is at.
+    static CURRENT: Cell<Option<u64>> = const { Cell::new(None) };
+}
+
+/// The seed that NUTRAMEZA_SEED names, if it is set.
+fn named() -> Option<u64> {
+    let text = std::env::var("NUTRAMEZA_SEED").ok()?;
+    Some(text.parse().expect("NUTRAMEZA_SEED is a number"))
+}
+
+/// The day's seed: how many days there are since 1970. It is the same for the whole run.
+fn of_the_day() -> u64 {
+    static DAY: OnceLock<u64> = OnceLock::new();
+    *DAY.get_or_init(|| UNIX_EPOCH.elapsed().expect("the clock is behind 1970").as_secs() / 86_400)
+}
+
+/// The seed of the case that is played, else of the run.
 pub fn seed() -> u64 {
-    match std::env::var("NUTRAMEZA_SEED") {
-        Ok(text) => text.parse().expect("NUTRAMEZA_SEED is a number"),
-        Err(_) => 20_120_309,
+    CURRENT.get().or_else(named).unwrap_or(USUAL)
+}
+
+/// The seeds of so many cases, each with how many it has: the one that is named, else the usual one and, for an eighth
+/// more, the day's. A failure names its seed; NUTRAMEZA_SEED then plays its cases again.
+fn seeds(cases: u64) -> Vec<(u64, u64)> {
+    match named() {
+        Some(seed) => vec![(seed, cases)],
+        None => vec![(USUAL, cases), (of_the_day(), cases.div_ceil(8))],
+    }
+}
+
+/// A case while it is played: where it panics, it says how to play it again.
+struct Playing<'a> {
+    name: &'a str,
+    seed: u64,
+    case: u64,
+}
+
+impl Drop for Playing<'_> {
+    fn drop(&mut self) {
+        if std::thread::panicking() {
+            say(&format!("{}: case {} of NUTRAMEZA_SEED={} failed", self.name, self.case, self.seed));
+        }
     }
 }
 
@@ -75,16 +119,21 @@ pub fn say(text: &str) {
 
 /// Runs the cases of a test on all cores, each with its own sequence, and says what was seen.
 pub fn spread(name: &str, cases: u64, case: impl Fn(&mut Rng, &mut Tally) + Sync) -> Tally {
-    let seed = seed();
+    let seeds = seeds(cases);
     let from = std::time::Instant::now();
     let threads = std::thread::available_parallelism().map_or(1, |cores| cores.get()) as u64;
     let mut whole = Tally::default();
     std::thread::scope(|scope| {
-        let case = &case;
+        let (case, seeds) = (&case, &seeds);
         let run = move |thread: u64| {
             let mut tally = Tally::default();
-            for number in (thread..cases).step_by(threads as usize) {
-                case(&mut Rng::of_case(seed, number), &mut tally);
+            for (seed, cases) in seeds {
+                CURRENT.set(Some(*seed));
+                for number in (thread..*cases).step_by(threads as usize) {
+                    let playing = Playing { name, seed: *seed, case: number };
+                    case(&mut Rng::of_case(*seed, number), &mut tally);
+                    drop(playing);
+                }
             }
             tally
         };
@@ -97,7 +146,8 @@ pub fn spread(name: &str, cases: u64, case: impl Fn(&mut Rng, &mut Tally) + Sync
         }
     });
     let seen: Vec<String> = whole.0.iter().map(|(what, count)| format!("{what}: {count}")).collect();
-    say(&format!("{name}: seed {seed}, {cases} cases, {:.1} s; {}", from.elapsed().as_secs_f64(), seen.join(", ")));
+    let seeds: Vec<String> = seeds.iter().map(|(seed, cases)| format!("seed {seed}, {cases} cases")).collect();
+    say(&format!("{name}: {}, {:.1} s; {}", seeds.join("; "), from.elapsed().as_secs_f64(), seen.join(", ")));
     whole
 }
 

@@ -202,6 +202,23 @@ fn see_why(tally: &mut Tally, call: &Call, played: &Played) {
     }
 }
 
+/// Sees the first call of a run, if it is a short ask, by the kit alone: it has no aim to be refused for. Where the
+/// same ask with an aim of 3 is told 18, it is told what comes behind that; else both are told the same.
+fn see_aimless(tally: &mut Tally, run: &Run) {
+    let short = &run.calls[0];
+    if !matches!(short, Call::ShortAsk { .. }) {
+        return;
+    }
+    let (told, aimed) = (made(&run.image, &run.ledger, short).0, made(&run.image, &run.ledger, &full_ask(short, (3, 1))).0);
+    if aimed == 18 {
+        assert!([0, 19, 20].contains(&told), "{short:?} is told {told}");
+        tally.see("short asks where an aim of 3 is told 18");
+    } else {
+        assert_eq!(told, aimed, "{short:?}");
+        tally.see("short asks refused before that");
+    }
+}
+
 #[test]
 fn answers_a_hundred_thousand_asks_as_the_solver_does() {
     let tally = spread("asks", 40_000, |rng, tally| {
@@ -223,17 +240,18 @@ fn answers_a_hundred_thousand_asks_as_the_solver_does() {
         }
         let calls: Vec<Call> = (0..6).map(|_| call::any(rng, &policy, &ledger)).collect();
         let run = Run { image, ledger, calls, empty: rng.pick(&[Empty::Null, Empty::Somewhere]) };
+        see_aimless(tally, &run);
         for (call, played) in run.calls.iter().zip(play(&run)) {
             if matches!(call, Call::Ask { .. } | Call::ShortAsk { .. }) {
                 tally.see_number(played.reply.number);
             }
             see_why(tally, call, &played);
-            assert!(played.reply.number != 18 || !matches!(call, Call::ShortAsk { .. }));
             if (call.user() as usize) < policy.users {
                 see_search(tally, &policy, call, &played);
             }
         }
     });
+    tally.expect(1_000, &["short asks where an aim of 3 is told 18", "short asks refused before that"]);
     tally.expect(100_000, &["asks"]);
     tally.expect(5_000, &["0", "20", "ties", "empty lower bounds", "roles cut", "several roles"]);
     tally.expect(1_000, &["empty upper bounds", "limits of 2"]);

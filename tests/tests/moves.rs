@@ -234,15 +234,16 @@ fn an_unsound_line_is_11_with_its_user_and_of_several_the_lowest() {
 
 #[test]
 fn in_one_line_11_comes_before_24() {
-    for mut both in unsound_lines(SESSIONS) {
+    // the damage of a closed session, the third of these lines, is none in an open one
+    let numbers = [11, 11, 24, 11, 11, 11, 11, 11];
+    assert_eq!(unsound_lines(SESSIONS).len(), numbers.len());
+    for (mut both, number) in unsound_lines(SESSIONS).into_iter().zip(numbers) {
         for session in 4..8 {
             both[0] |= 1 << session;
         }
-        // the damage of a closed session is none in an open one
-        let sound = sound(&judge(&image(1)).expect("it is accepted"), 0, &both);
-        assert_eq!(answer(Move::Narrow, &image(1), &both), (if sound { 24 } else { 11 }, 0));
+        assert_eq!(answer(Move::Narrow, &image(1), &both), (number, 0), "{both:02x?}");
         let old = [line(8, 1, &[(0, 1, 1)]), both.clone(), line(8, 0, &[(7, 0, 0)])].concat();
-        assert_eq!(answer(Move::Narrow, &image(3), &old), (if sound { 24 } else { 11 }, 1), "{both:02x?}");
+        assert_eq!(answer(Move::Narrow, &image(3), &old), (number, 1), "{both:02x?}");
     }
 }
 
