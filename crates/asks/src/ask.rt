@@ -12,7 +12,7 @@ ghost use Rattle.sets.specs.Words.{value, values};
 ghost use Rattle.query.specs.Carry.{rowsOf};
 ghost use Rattle.search.specs.Answer.{answered};
 ghost use Rattle.sessions.specs.Calls.{Known};
-ghost use Rattle.exclusions.specs.Rows.{exclusionsIn};
+ghost use Rattle.exclusion_rows.specs.Rows.{exclusionsIn};
 ghost use Rattle.asks_request.specs.Refusals.{Bounded};
 ghost use Rattle.asks.specs.Asks.{leftTo, Asked, Searched, askedOn, Answers};
 use asks_request::request::Request;

@@ -12,7 +12,7 @@ ghost use Rattle.model.specs.Line.{SESSIONS, lineSize};
 ghost use Rattle.model.specs.Dimacs.{textOf};
 ghost use Rattle.model.specs.Run.{stepOn, clausesBy, lineOf};
 ghost use Rattle.model.specs.Ranges.{InRange};
-ghost use Rattle.exclusions.specs.Rows.{exclusionsIn};
+ghost use Rattle.exclusion_rows.specs.Rows.{exclusionsIn};
 ghost use Rattle.sets.specs.Words.{value, values};
 ghost use Rattle.sessions.specs.Calls.{Known};
 ghost use Rattle.asks_request.specs.Refusals.{Bounded};

@@ -17,7 +17,7 @@ use Rattle.model.specs.Obstacle.{Obstacle, obstacleOf}
 use Rattle.model.specs.Session.{refuse, tell, obstructed}
 use Rattle.model.specs.Run.{lineOf, returned, filledWith, answered}
 use Rattle.octets.specs.Splice.{splice, bytesOfAll}
-use Rattle.exclusions.specs.Rows.{exclusionOf, exclusionsIn}
+use Rattle.exclusion_rows.specs.Rows.{exclusionOf, exclusionsIn}
 use Rattle.sessions.specs.Calls.{Known}
 use Rattle.asks.specs.Asks.{leftTo, Searched}
 use Rattle.obstacles_lacks.specs.declared.found.Found.{Found}

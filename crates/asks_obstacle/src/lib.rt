@@ -11,7 +11,7 @@ ghost use Rattle.model.specs.Line.{SESSIONS, lineSize};
 ghost use Rattle.model.specs.Obstacle.{obstacleOf};
 ghost use Rattle.model.specs.Run.{stepOn, obstacleBy, lineOf};
 ghost use Rattle.sets.specs.Words.{value, values};
-ghost use Rattle.exclusions.specs.Rows.{exclusionsIn};
+ghost use Rattle.exclusion_rows.specs.Rows.{exclusionsIn};
 ghost use Rattle.sessions.specs.Calls.{Known, Shows};
 ghost use Rattle.asks_request.specs.Refusals.{Bounded};
 ghost use Rattle.asks.specs.Asks.{Searched};

@@ -13,7 +13,7 @@ use Rattle.model.specs.Policy.{policyOf, belowTable}
 use Rattle.model.specs.Ranges.{InRange}
 use Rattle.model_laws.proofs.Judgements.{accepted-head, accepted-in-range}
 use Rattle.sets.specs.Words.{value, values}
-use Rattle.exclusions.specs.Rows.{exclusionsIn}
+use Rattle.exclusion_rows.specs.Rows.{exclusionsIn}
 use Rattle.tables.specs.Tables.{Fresh}
 use Rattle.tables.proofs.Fills.{length-limits}
 use Rattle.sessions.specs.Calls.{Known}

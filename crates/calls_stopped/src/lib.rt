@@ -4,7 +4,7 @@ ghost use Prim.Native.Nat.{_*_, _≤_};
 ghost use lib.ListN.{length};
 ghost use Rattle.model.specs.Policy.{Policy};
 ghost use Rattle.model.specs.Line.{SESSIONS, lineSize};
-ghost use Rattle.exclusions.specs.Rows.{exclusionsIn};
+ghost use Rattle.exclusion_rows.specs.Rows.{exclusionsIn};
 ghost use Rattle.hierarchy.specs.Replies.{Replies};
 ghost use Rattle.sessions.specs.Calls.{Known};
 ghost use Rattle.model_stopped.specs.Stopped.{stoppedSet, stoppedOn, stoppedCall};

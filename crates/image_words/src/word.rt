@@ -16,7 +16,7 @@ fn exclusion_word(w: u32) -> Word
     ensures { λ r. ⌜ (r ≡ says (Entry.Exclude (record { kind = kindOf (field w 26 2); n = field w 19 7; members = 0 }) (field w 12 7)) (w % 2 ^ 12))
         × Small (r .entry) ⌝ }
 {
-    let kind = exclusions::kind_of((w / 67108864 % 4) as u8);
+    let kind = exclusion_rows::kind_of((w / 67108864 % 4) as u8);
     let x = Exclusion {
         kind,
         n: (w / 524288 % 128) as u8,

@@ -5,7 +5,7 @@ ghost use lib.ListN.{length};
 ghost use Rattle.model.specs.Policy.{Policy, meaning};
 ghost use Rattle.model.specs.Line.{SESSIONS, lineSize, sound as soundBy};
 ghost use Rattle.model.specs.Run.{lineOf};
-ghost use Rattle.exclusions.specs.Rows.{exclusionsIn};
+ghost use Rattle.exclusion_rows.specs.Rows.{exclusionsIn};
 ghost use Rattle.sessions.specs.Calls.{Known};
 ghost use Rattle.limits_lines.specs.Lines.{blamed as blamedFor, linesRefusal, othersRefusal};
 use ledger::bytes::LINE;

@@ -6,7 +6,7 @@ ghost use Rattle.model.specs.Policy.{Policy};
 ghost use Rattle.model.specs.Line.{SESSIONS, lineSize};
 ghost use Rattle.model.specs.Run.{returned};
 ghost use Rattle.model.specs.Moves.{moveAnswer, resizedLines, moveOn};
-ghost use Rattle.exclusions.specs.Rows.{exclusionsIn};
+ghost use Rattle.exclusion_rows.specs.Rows.{exclusionsIn};
 ghost use Rattle.sessions.specs.Calls.{Known, Gives};
 use moves_line::line_bytes;
 use moves_line::line_fault;

@@ -10,7 +10,7 @@ ghost use Rattle.model.specs.Run.{lineAt};
 ghost use Rattle.model.specs.Kept.{Antitone};
 ghost use Rattle.model.specs.Moves.{resized, padded, lineFault};
 ghost use Rattle.octets.specs.Splice.{splice};
-ghost use Rattle.exclusions.specs.Rows.{exclusionsIn};
+ghost use Rattle.exclusion_rows.specs.Rows.{exclusionsIn};
 ghost use Rattle.ledger.specs.Held.{Held};
 use ledger::bytes::session_at;
 use ledger::sound::below;

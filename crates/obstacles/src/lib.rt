@@ -7,7 +7,7 @@ ghost use Rattle.model.specs.Policy.{Policy, meaning};
 ghost use Rattle.model.specs.Limits.{Others};
 ghost use Rattle.model.specs.Obstacle.{obstacleOf};
 ghost use Rattle.sets.specs.Words.{value, values};
-ghost use Rattle.exclusions.specs.Rows.{exclusionsIn};
+ghost use Rattle.exclusion_rows.specs.Rows.{exclusionsIn};
 ghost use Rattle.obstacles_lacks.specs.Founds.{foundOf};
 ghost use Rattle.obstacles.specs.Asking.{Asking};
 use asks::ask::Wanted;

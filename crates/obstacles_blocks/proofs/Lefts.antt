@@ -24,8 +24,8 @@ use Rattle.model_laws.proofs.Barred.{unbarred-below}
 use Rattle.model_laws.proofs.Blocking.{not-blocked, blocked-behind}
 use Rattle.model_laws.proofs.Every.{all-mem, mem-all}
 use Rattle.model_laws.proofs.ObstacleLaws.{left-is, left-front}
-use Rattle.exclusions.specs.Rows.{exclusionOf, exclusionsIn}
-use Rattle.exclusions.proofs.Packing.{row-at}
+use Rattle.exclusion_rows.specs.Rows.{exclusionOf, exclusionsIn}
+use Rattle.exclusion_rows.proofs.Packing.{row-at}
 use Rattle.query.specs.Carry.{Keeps}
 use Rattle.query_rooms.specs.Rooms.{roomy}
 use Rattle.query_rooms.specs.Reduction.{Reduces}

@@ -16,8 +16,8 @@ use Rattle.model.specs.Obstacle.{blocks}
 use Rattle.model_laws.proofs.SetLaws.{has-inter}
 use Rattle.model_laws.proofs.AnyWidth.{same-sets}
 use Rattle.sets.proofs.Taken.{apart, has-xor, has-lacking}
-use Rattle.exclusions.specs.Rows.{exclusionOf}
-use Rattle.exclusions.proofs.Packing.{row-at}
+use Rattle.exclusion_rows.specs.Rows.{exclusionOf}
+use Rattle.exclusion_rows.proofs.Packing.{row-at}
 use Rattle.obstacles_lacks.specs.declared.found.Found.the-variants.{One}
 use Rattle.obstacles_lacks.specs.Founds.{foundOf}
 

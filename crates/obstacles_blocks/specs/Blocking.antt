@@ -10,7 +10,7 @@ use Rattle.model.specs.Policy.{Policy}
 use Rattle.model.specs.Limits.{Others}
 use Rattle.model.specs.Reduced.{stays, maskOf}
 use Rattle.model.specs.Obstacle.{left}
-use Rattle.exclusions.specs.Rows.{exclusionOf}
+use Rattle.exclusion_rows.specs.Rows.{exclusionOf}
 use Rattle.asks.specs.Asks.{leftTo}
 
 -- of the policy's n exclusions the first j leave a set, and the first j + 1 leave none

@@ -12,7 +12,7 @@ ghost use Rattle.model.specs.Policy.{Policy};
 ghost use Rattle.model.specs.Limits.{Others};
 ghost use Rattle.model.specs.Obstacle.{left, blocking, blocks};
 ghost use Rattle.sets.specs.Words.{value};
-ghost use Rattle.exclusions.specs.Rows.{exclusionOf, exclusionsIn};
+ghost use Rattle.exclusion_rows.specs.Rows.{exclusionOf, exclusionsIn};
 ghost use Rattle.query.specs.Carry.{rowsOf, Turned};
 ghost use Rattle.asks.specs.Asks.{leftTo, Asked};
 ghost use Rattle.obstacles_lacks.specs.Founds.{foundOf};
@@ -23,8 +23,8 @@ pub mod first; // first.rt: a search that ends with the first set
 
 use crate::first::some_step;
 use asks::ask::Wanted;
-use exclusions::exclusion_of;
-use exclusions::number_of;
+use exclusion_rows::exclusion_of;
+use exclusion_rows::number_of;
 use model::Line;
 use obstacles_lacks::found::Found;
 use obstacles_lacks::found::Told;

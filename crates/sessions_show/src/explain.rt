@@ -6,7 +6,7 @@ ghost use Rattle.model.specs.Line.{SESSIONS};
 ghost use Rattle.model.specs.Policy.{Policy, belowTable};
 ghost use Rattle.model.specs.Run.{stepOn, explainBy, returned};
 ghost use Rattle.sets.specs.Words.{values};
-ghost use Rattle.exclusions.specs.Rows.{exclusionsIn};
+ghost use Rattle.exclusion_rows.specs.Rows.{exclusionsIn};
 ghost use Rattle.sessions.specs.Calls.{Known};
 use ledger::bytes::line_of;
 use ledger_change::is_open;

@@ -19,7 +19,7 @@ use Rattle.model.specs.Judgement.{judge}
 use Rattle.model.specs.Image.{behindHead}
 use Rattle.model.specs.Policy.{entryAt, entriesFrom, exclusionsOf, policyOf, kindNumber}
 use Rattle.model.specs.Ranges.{Each}
-use Rattle.exclusions.specs.Rows.{exclusionOf}
+use Rattle.exclusion_rows.specs.Rows.{exclusionOf}
 use Rattle.image_reader.specs.Places.{exclusionAfter, entriesBehind, exclusionBy as walkedBy}
 use Rattle.image_reader.proofs.Walk.{Visits, visits-next, visits-start}
 use Rattle.tables.specs.Tables.{Tables}

@@ -26,7 +26,7 @@ fn put_exclusion(out: &mut [u8], at: usize, x: Exclusion) -> usize
     ensures { λ r. ⌜ (Puts (now (out .entry)) at (exclusionLine x) (now (out .exit)) r) × (r ≤ at + 84) ⌝ }
 {
     let kind = x.kind;
-    let which = exclusions::number_of(kind);
+    let which = exclusion_rows::number_of(kind);
     let size = sets::size(x.members);
     let sets = model_binomials::allowed(size as usize, x.n as usize);
     put_four(out, at, which as u64, x.n as u64, size as u64, sets)

@@ -11,7 +11,7 @@ use Rattle.model.specs.declared.Checked.{Checked}
 use Rattle.model.specs.declared.Checked.the-variants.{Accepted}
 use Rattle.model.specs.Image.{assigning, scan, emptyRows}
 use Rattle.model.specs.Policy.{Policy, entryAt, entriesFrom, fold, granting, ordering, limiting, exclusionsOf, belowTable, authorized}
-use Rattle.exclusions.specs.Rows.{exclusionOf}
+use Rattle.exclusion_rows.specs.Rows.{exclusionOf}
 
 -- the last word judged, where so many members are due, and the sum of all words, `sum` that of the words before: what
 -- the scan says of them, and that the word is the end where they are accepted

@@ -14,7 +14,7 @@ use Rattle.model.specs.declared.Entry.the-variants.{Exclude}
 use Rattle.model.specs.declared.Word.{Word}
 use Rattle.model.specs.Image.{wordAt, decode}
 use Rattle.model.specs.Policy.{entryAt, entriesFrom, fold, joining, withMembers}
-use Rattle.exclusions.specs.Rows.{exclusionOf}
+use Rattle.exclusion_rows.specs.Rows.{exclusionOf}
 use Rattle.sets.proofs.Unions.{map-set}
 use Rattle.tables_exclusions.specs.Exclusions.{exclusionBy, exclusionAt}
 

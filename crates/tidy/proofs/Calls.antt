@@ -13,7 +13,7 @@ use Rattle.model.specs.declared.Checked.the-variants.{Accepted}
 use Rattle.model.specs.Tests.{pick}
 use Rattle.model.specs.Words.{headWord, assignWord, grantWord, seniorWord, ended, imageBytes}
 use Rattle.model.specs.Policy.{Policy, sorted}
-use Rattle.exclusions.specs.Rows.{exclusionOf}
+use Rattle.exclusion_rows.specs.Rows.{exclusionOf}
 use Rattle.octets.specs.Splice.{splice}
 use Rattle.model_tidy.specs.Groups.{spread}
 use Rattle.model_tidy.specs.Tidy.{tableGroups, exclusionGroup, limitGroups, tidyGroups, tidyWords, tidy, tidyBy}

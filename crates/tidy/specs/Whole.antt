@@ -6,7 +6,7 @@ use Prim.Native.Nat.{ℕ, _+_, _*_}
 use lib.ListN.{take}
 use Rattle.model.specs.declared.Head.{Head}
 use Rattle.model.specs.Policy.{Policy}
-use Rattle.exclusions.specs.Rows.{exclusionOf}
+use Rattle.exclusion_rows.specs.Rows.{exclusionOf}
 use Rattle.model_tidy.specs.Tidy.{Written}
 
 -- the policy of a head, three tables, the first n of the exclusions' rows and the limits

@@ -18,8 +18,8 @@ use Rattle.model.specs.Policy.{kindNumber}
 use Rattle.model_laws.proofs.Ranks.{count-most}
 use Rattle.sets.specs.Words.{value, values}
 use Rattle.sets.proofs.Unions.{values-at}
-use Rattle.exclusions.specs.Rows.{exclusionOf}
-use Rattle.exclusions.proofs.Packing.{row-at}
+use Rattle.exclusion_rows.specs.Rows.{exclusionOf}
+use Rattle.exclusion_rows.proofs.Packing.{row-at}
 use Rattle.model_tidy.specs.Groups.{spread}
 use Rattle.model_tidy.specs.Tidy.{membersTo, tableGroups, exclusionGroup}
 use Rattle.model_tidy_laws.proofs.TidyLists.{members-length, row-words}

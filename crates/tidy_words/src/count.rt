@@ -10,9 +10,9 @@ ghost use Rattle.model.specs.Sets.{one};
 ghost use Rattle.model_tidy.specs.Groups.{spread};
 ghost use Rattle.model_tidy.specs.Tidy.{exclusionGroup};
 ghost use Rattle.sets.specs.Words.{values};
-ghost use Rattle.exclusions.specs.Rows.{exclusionOf};
+ghost use Rattle.exclusion_rows.specs.Rows.{exclusionOf};
 ghost use Rattle.tidy_words.specs.Tables.{tableWords, Table, limitWords, Limited};
-use exclusions::exclusion_of;
+use exclusion_rows::exclusion_of;
 
 // The words of a table of role sets, of which only the first n rows have members.
 pub fn count_table(table: &[u64; 64], n: usize) -> usize

@@ -8,14 +8,14 @@ ghost use Rattle.model.specs.Words.{grantWord};
 ghost use Rattle.model_tidy.specs.Groups.{spread};
 ghost use Rattle.model_tidy.specs.Tidy.{exclusionGroup};
 ghost use Rattle.sets.specs.Words.{value, values};
-ghost use Rattle.exclusions.specs.Rows.{exclusionOf};
+ghost use Rattle.exclusion_rows.specs.Rows.{exclusionOf};
 ghost use Rattle.tidy_words.specs.Buffers.{buffer, puts, Room};
 ghost use Rattle.tidy_words.specs.Tables.{pairWord, rowWords, tableWords, Table, exclusionWords, limitRow, limitWords, Limited};
 use crate::words::Cursor;
 use crate::words::put_set;
 use crate::words::put_word;
-use exclusions::exclusion_of;
-use exclusions::number_of;
+use exclusion_rows::exclusion_of;
+use exclusion_rows::number_of;
 use model::Exclusion;
 use model::Role;
 

@@ -5,7 +5,7 @@ ghost use Prim.Native.Nat.{_*_, _^_, _≤_, _<_};
 ghost use lib.ListN.{length, take};
 ghost use Rattle.model.specs.Words.{headWord, endWord as endWordOf, ended, imageBytes};
 ghost use Rattle.sets.specs.Words.{values};
-ghost use Rattle.exclusions.specs.Rows.{exclusionOf};
+ghost use Rattle.exclusion_rows.specs.Rows.{exclusionOf};
 ghost use Rattle.octets.specs.Splice.{splice};
 ghost use Rattle.tidy_words.specs.Buffers.{buffer, unwritten, puts, Room};
 ghost use Rattle.tidy_words.specs.Tables.{Limited};

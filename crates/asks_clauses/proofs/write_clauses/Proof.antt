@@ -7,7 +7,7 @@ use Prim.Native.Nat.{_≤_}
 use native.Mathlib.Omega.{arith}
 use lib.ListN.{length, length-map}
 use Rattle.model.specs.Run.{lineOf}
-use Rattle.exclusions.specs.Rows.{exclusionOf, exclusionsIn}
+use Rattle.exclusion_rows.specs.Rows.{exclusionOf, exclusionsIn}
 use Rattle.asks_clauses.proofs.Standing.{wrote-text}
 use Rattle.asks_clauses.proofs.write_clauses.Statement.{statement}
 use Rattle.asks_clauses.proofs.write_clauses.Tie as tie

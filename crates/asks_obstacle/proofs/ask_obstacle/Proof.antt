@@ -8,7 +8,7 @@ use Rattle.model.specs.Line.{SESSIONS}
 use Rattle.model.specs.Session.{isAsk}
 use Rattle.model.specs.Run.{told}
 use Rattle.sets.specs.Words.{value}
-use Rattle.exclusions.specs.Rows.{exclusionsIn}
+use Rattle.exclusion_rows.specs.Rows.{exclusionsIn}
 use Rattle.sessions.specs.Calls.{Known}
 use Rattle.asks_request.specs.Refusals.{limitedRefusal}
 use Rattle.asks_request.proofs.Requests.{limited-of, Passed, passed as passes}

@@ -10,7 +10,7 @@ use Rattle.model.specs.declared.Head.{Head}
 use Rattle.model.specs.Sets.{setOf}
 use Rattle.model.specs.Policy.{Policy}
 use Rattle.model.specs.Line.{SESSIONS}
-use Rattle.exclusions.specs.Rows.{exclusionsIn}
+use Rattle.exclusion_rows.specs.Rows.{exclusionsIn}
 use Rattle.sessions.specs.Calls.{Known}
 use Rattle.hierarchy.proofs.Joining.{setOf-none}
 use Rattle.calls_stopped.proofs.Telling.{stops, set-next, set-all}

@@ -161,4 +161,4 @@ moved-spec 𝓤 H 𝓜 𝓖 𝓡 =
     code.function (code.unfolded 𝓤 H 𝓜 𝓡)
     (moved-meets 𝓤 H (𝓖 .A) (𝓜 .mem) (𝓡 .run) (givenOf 𝓤 H 𝓜 𝓖) (tablesOf 𝓤 H 𝓜 at)
     (cited 𝓤 H (PlaceAfter 𝓤 H (𝓖 .A) (𝓜 .mem) (𝓡 .run)) 𝓜 𝓡 code.env #reader·place-after place-def.routine
-    code.calls-reader·place-after (place-thm.met 𝓤 H 𝓜 𝓖 𝓡)))
+    code.calls-image-reader·place-after (place-thm.met 𝓤 H 𝓜 𝓖 𝓡)))

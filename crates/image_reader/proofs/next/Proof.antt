@@ -142,4 +142,4 @@ next-spec 𝓤 H 𝓜 𝓖 𝓡 =
     code.function (code.unfolded 𝓤 H 𝓜 𝓡)
     (next-meets 𝓤 H (𝓖 .A) (𝓜 .mem) (𝓡 .run) (givenOf 𝓤 H 𝓜 𝓖) (tablesOf 𝓤 H 𝓜 at)
     (cited 𝓤 H (EntryAt 𝓤 H (𝓖 .A) (𝓜 .mem) (𝓡 .run)) 𝓜 𝓡 code.env #reader·entry-at entry-def.routine
-    code.calls-reader·entry-at (entry-thm.met 𝓤 H 𝓜 𝓖 𝓡)))
+    code.calls-image-reader·entry-at (entry-thm.met 𝓤 H 𝓜 𝓖 𝓡)))

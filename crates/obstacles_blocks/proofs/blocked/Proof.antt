@@ -6,7 +6,7 @@ use native.Mathlib.Omega.{arith}
 use lib.ListN.{length-map}
 use borrow.Author.Needs.{needs}
 use Rattle.model.specs.Obstacle.{blocks}
-use Rattle.exclusions.specs.Rows.{exclusionOf, exclusionsIn}
+use Rattle.exclusion_rows.specs.Rows.{exclusionOf, exclusionsIn}
 use Rattle.obstacles_lacks.specs.Founds.{foundOf}
 use Rattle.obstacles_blocks.proofs.Lefts.{blocked-none, found-all, found-blocking}
 use Rattle.obstacles_blocks.proofs.blocked.Statement.{statement}

@@ -7,7 +7,7 @@ use Rattle.model.specs.Line.{SESSIONS}
 use Rattle.model.specs.Session.{isAsk}
 use Rattle.model.specs.Run.{told}
 use Rattle.sets.specs.Words.{value}
-use Rattle.exclusions.specs.Rows.{exclusionsIn}
+use Rattle.exclusion_rows.specs.Rows.{exclusionsIn}
 use Rattle.asks_request.proofs.Requests.{limited-of, Passed, passed as passes}
 use Rattle.asks.proofs.Asks.{call, ask-refused, answers-searched}
 use Rattle.asks.proofs.Rows.{searched-of}

@@ -1,7 +1,7 @@
 -- `asks::ask::best` meets its contract: the reduced exclusions leave room exactly where every exclusion is met.
 -- Assumes nothing.
 use borrow.Author.Needs.{needs}
-use Rattle.exclusions.specs.Rows.{exclusionsIn}
+use Rattle.exclusion_rows.specs.Rows.{exclusionsIn}
 use Rattle.asks.specs.Asks.{leftTo}
 use Rattle.asks.proofs.Rows.{given-of}
 use Rattle.asks.proofs.ask.best.Statement.{statement}

@@ -5,7 +5,7 @@ use Rattle.model.specs.Policy.{Policy, meaning}
 use Rattle.model.specs.Limits.{Others}
 use Rattle.model.specs.Run.{lineOf}
 use Rattle.sets.specs.Words.{values}
-use Rattle.exclusions.specs.Rows.{exclusionsIn}
+use Rattle.exclusion_rows.specs.Rows.{exclusionsIn}
 use Rattle.query.specs.Carry.{rowsOf}
 use Rattle.asks.specs.Asks.{Asked, Searched}
 use Rattle.asks.proofs.Asks.{answers-none, answers-some}

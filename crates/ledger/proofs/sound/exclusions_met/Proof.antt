@@ -11,8 +11,8 @@ use borrow.Author.Needs.{needs}
 use Rattle.model.specs.Tests.{all}
 use Rattle.model.specs.Policy.{Meaning}
 use Rattle.model.specs.Line.{exclusionsMet}
-use Rattle.exclusions.specs.Rows.{exclusionOf, exclusionsIn}
-use Rattle.exclusions.proofs.Packing.{row-at}
+use Rattle.exclusion_rows.specs.Rows.{exclusionOf, exclusionsIn}
+use Rattle.exclusion_rows.proofs.Packing.{row-at}
 use Rattle.ledger.specs.Held.{metAt, namedBy, Listed}
 use Rattle.ledger.proofs.All.{listed-next, listed-stop, listed-end}
 use Rattle.ledger.proofs.Soundness.{by-exclusion}

@@ -6,7 +6,7 @@ use native.Mathlib.Omega.{arith}
 use borrow.Author.Needs.{needs}
 use Rattle.model.specs.Policy.{Policy}
 use Rattle.model.specs.Line.{SESSIONS}
-use Rattle.exclusions.specs.Rows.{exclusionsIn}
+use Rattle.exclusion_rows.specs.Rows.{exclusionsIn}
 use Rattle.sessions.specs.Calls.{Known}
 use Rattle.limits_lines.specs.Lines.{linesRefusal}
 use Rattle.limits_lines.proofs.Blaming.{lines-next, lines-stop, lines-end}

@@ -10,7 +10,7 @@ use Rattle.model.specs.Policy.{Policy, meaning}
 use Rattle.model.specs.Run.{returned}
 use Rattle.model.specs.Moves.{moveAnswer}
 use Rattle.model_laws.proofs.MetLaws.{meaning-antitone}
-use Rattle.exclusions.specs.Rows.{exclusionsIn}
+use Rattle.exclusion_rows.specs.Rows.{exclusionsIn}
 use Rattle.sessions.specs.Calls.{Known}
 use Rattle.sessions.proofs.FirstSteps.{held}
 use Rattle.moves.proofs.AllLines.{line-inside, line-whole, fault-at, answer-next, answer-stop, answer-end}

@@ -7,8 +7,8 @@ use mathlib.Core.List.{[], map}
 use Prim.Native.Nat.{_-_, _≤_}
 use lib.ListN.{length, length-map}
 use Rattle.model.specs.Line.{SESSIONS, emptySession, sessionAt}
-use Rattle.exclusions.specs.Rows.{exclusionOf, exclusionsIn}
-use Rattle.exclusions.proofs.Packing.{row-at}
+use Rattle.exclusion_rows.specs.Rows.{exclusionOf, exclusionsIn}
+use Rattle.exclusion_rows.proofs.Packing.{row-at}
 use Rattle.query_rooms.proofs.Reductions.{Filled, filled-none, filled-next, reduces, length-mapped}
 use Rattle.query_rooms.proofs.exclusions.reduce.Statement.{statement}
 use Rattle.query_rooms.proofs.exclusions.reduce.Tie as tie

@@ -9,7 +9,7 @@ use Rattle.model.specs.declared.Head.{Head}
 use Rattle.model.specs.Policy.{meaning}
 use Rattle.model.specs.Line.{SESSIONS, lineSize, sound}
 use Rattle.model.specs.Run.{lineOf}
-use Rattle.exclusions.specs.Rows.{exclusionsIn}
+use Rattle.exclusion_rows.specs.Rows.{exclusionsIn}
 use Rattle.sessions.proofs.FirstSteps.{first9, first10, first11, first0, held}
 use Rattle.sessions.proofs.first.first_refusal.Statement.{statement}
 use Rattle.sessions.proofs.first.first_refusal.Tie as tie

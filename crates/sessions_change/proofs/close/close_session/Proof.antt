@@ -6,7 +6,7 @@ use borrow.Author.Tests.{not-false}
 use Rattle.model.specs.Line.{SESSIONS}
 use Rattle.model.specs.Session.{isAsk, canGive, sessionOf}
 use Rattle.model.specs.Run.{closeBy, lineOf}
-use Rattle.exclusions.specs.Rows.{exclusionsIn}
+use Rattle.exclusion_rows.specs.Rows.{exclusionsIn}
 use Rattle.sessions.proofs.FirstSteps.{gives-refusal, stopped-first, session12, session13, Passed, passed as passes, closed-at, open-at}
 use Rattle.sessions_change.proofs.Closes.{close0}
 use Rattle.sessions_change.proofs.close.close_session.Statement.{statement}

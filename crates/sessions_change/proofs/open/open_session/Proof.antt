@@ -7,7 +7,7 @@ use borrow.Author.Needs.{needs}
 use Rattle.model.specs.Line.{SESSIONS}
 use Rattle.model.specs.Session.{isAsk}
 use Rattle.model.specs.Run.{openBy, lineOf}
-use Rattle.exclusions.specs.Rows.{exclusionsIn}
+use Rattle.exclusion_rows.specs.Rows.{exclusionsIn}
 use Rattle.sessions.proofs.FirstSteps.{gives-refusal, stopped-first, Passed, passed as passes}
 use Rattle.sessions_change.proofs.Opens.{open14, may-open, open0}
 use Rattle.sessions_change.proofs.open.open_session.Statement.{statement}

@@ -5,7 +5,7 @@ use borrow.Author.Needs.{needs}
 use Rattle.model.specs.Line.{SESSIONS, emptySession, sessionAt}
 use Rattle.model.specs.Session.{isAsk, canGive, sessionOf}
 use Rattle.model.specs.Run.{explainBy, lineOf}
-use Rattle.exclusions.specs.Rows.{exclusionsIn}
+use Rattle.exclusion_rows.specs.Rows.{exclusionsIn}
 use Rattle.sessions.proofs.FirstSteps.{stopped-first, session12, session13, Passed, passed as passes, closed-at, open-at}
 use Rattle.sessions_show.proofs.Explained.{returns-refusal, explain16, explain0}
 use Rattle.sessions_show.proofs.explain.explain_session.Statement.{statement}

@@ -7,7 +7,7 @@ use Prim.Native.Nat.{ℕ, _≤_, _-_}
 use native.Mathlib.Omega.{arith}
 use lib.ListN.{length, take, length-set}
 use borrow.Author.Needs.{needs}
-use Rattle.exclusions.specs.Rows.{exclusionOf}
+use Rattle.exclusion_rows.specs.Rows.{exclusionOf}
 use Rattle.tables_exclusions.specs.Exclusions.{exclusionAt}
 use Rattle.tables_exclusions.proofs.Members.{one-read}
 use Rattle.tables_exclusions.proofs.exclusions.exclusions_at.Statement.{statement}

@@ -1,9 +1,9 @@
--- `exclusions::row_of` meets its contract.
+-- `exclusion_rows::row_of` meets its contract.
 -- Assumes nothing.
 use borrow.Author.Needs.{needs}
-use Rattle.exclusions.proofs.Packing.{packed}
-use Rattle.exclusions.proofs.row_of.Statement.{statement}
-use Rattle.exclusions.proofs.row_of.Tie as tie
+use Rattle.exclusion_rows.proofs.Packing.{packed}
+use Rattle.exclusion_rows.proofs.row_of.Statement.{statement}
+use Rattle.exclusion_rows.proofs.row_of.Tie as tie
 
 returns : tie.Need-returns
 returns c = packed (c .before .before .args .x) (c .before .number-of .result) (search needs) (c .before .number-of .ensures)

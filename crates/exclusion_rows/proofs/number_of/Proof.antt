@@ -1,9 +1,9 @@
--- `exclusions::number_of` meets its contract.
+-- `exclusion_rows::number_of` meets its contract.
 -- Assumes nothing.
 use borrow.Author.Needs.{needs}
 use Rattle.model.specs.Policy.{kindNumber}
-use Rattle.exclusions.proofs.number_of.Statement.{statement}
-use Rattle.exclusions.proofs.number_of.Tie as tie
+use Rattle.exclusion_rows.proofs.number_of.Statement.{statement}
+use Rattle.exclusion_rows.proofs.number_of.Tie as tie
 
 pub number-of-spec : {M : Type 1} → statement M
 unfolding kindNumber

@@ -1,9 +1,9 @@
--- `exclusions::exclusion_of` meets its contract.
+-- `exclusion_rows::exclusion_of` meets its contract.
 -- Assumes nothing.
 use borrow.Author.Needs.{needs}
-use Rattle.exclusions.specs.Rows.{exclusionOf}
-use Rattle.exclusions.proofs.exclusion_of.Statement.{statement}
-use Rattle.exclusions.proofs.exclusion_of.Tie as tie
+use Rattle.exclusion_rows.specs.Rows.{exclusionOf}
+use Rattle.exclusion_rows.proofs.exclusion_of.Statement.{statement}
+use Rattle.exclusion_rows.proofs.exclusion_of.Tie as tie
 
 returns : tie.Need-returns
 unfolding exclusionOf

@@ -11,7 +11,7 @@ use Rattle.model.specs.declared.Exclusion.{Exclusion}
 use Rattle.model.specs.Tests.{pick}
 use Rattle.model.specs.Image.{kindOf}
 use Rattle.model.specs.Policy.{kindNumber}
-use Rattle.exclusions.specs.Rows.{exclusionOf}
+use Rattle.exclusion_rows.specs.Rows.{exclusionOf}
 
 kind-back : (k : Kind) (l : ℕ) → kindOf ((4 * l + kindNumber k) % 4) ≡ k
 unfolding kindNumber kindOf pick

@@ -3,7 +3,7 @@
 ghost use mathlib.Core.Path.{_≡_};
 ghost use Rattle.model.specs.Image.{kindOf};
 ghost use Rattle.model.specs.Policy.{kindNumber};
-ghost use Rattle.exclusions.specs.Rows.{exclusionOf};
+ghost use Rattle.exclusion_rows.specs.Rows.{exclusionOf};
 use model::Exclusion;
 use model::Kind;
 
