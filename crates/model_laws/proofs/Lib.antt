@@ -27,6 +27,7 @@ pub mod ConditionsProof
 pub mod LineLaws
 pub mod LedgerLaws
 pub mod RoundTrip
+pub mod Ascendings
 pub mod SortedLaws
 pub mod Listed
 pub mod Meanings

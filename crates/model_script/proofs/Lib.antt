@@ -3,4 +3,5 @@ pub mod Computing
 pub mod ExamplesProof
 pub mod ReplyLaws
 pub mod LengthLaws
+pub mod Numerals
 pub mod Theorems

@@ -39,6 +39,7 @@ use Rattle.model_tidy_laws.proofs.GroupsFound.{member-role}
 use Rattle.model_tidy_laws.proofs.GroupsTaken.{end-spare}
 use Rattle.model_tidy_laws.proofs.GroupExclusions.{exclusionIn, exclusionsIn, exclusions-in, bare-word}
 use Rattle.model_laws.proofs.SortedLaws.{sorted-mem}
+use Rattle.model_laws.proofs.Ascendings.{ascending-same}
 use Rattle.model_register.proofs.EntriesProof.{word-low}
 use Rattle.model_tidy_laws.proofs.TidyLists.{members-each, members-mem, members-length, spread-mem}
 use Rattle.model_tidy_laws.proofs.TidyLimits.{limited-row}
@@ -68,32 +69,9 @@ made-from {A} {B} f xs y m =
     (mem-each (λ (z : A). (x : A) × List·Memᴰ x xs × (f z ≡ f x)) xs (λ z k. (z, k, refl)))) y m
 
 -- ascending numbers are determined by their members
-module _ (x y : ℕ) (xs ys : List ℕ) (a : Ascending _<_ (x ∷ xs)) (b : Ascending _<_ (y ∷ ys)) where
-  first-number : List·Memᴰ x (y ∷ ys) → List·Memᴰ y (x ∷ xs) → x ≡ y
-  first-number m n = go (List·Memᴰ·cases-cons m) (List·Memᴰ·cases-cons n)
-    where
-      go : (x ≡ y) ⊎ List·Memᴰ x ys → (y ≡ x) ⊎ List·Memᴰ y xs → x ≡ y
-      go (inl q) k = q
-      go (inr j) (inl q) = sym q
-      go (inr j) (inr k) =
-          let c = each-mem (λ z. y < z) ys (b .0) x j in let d = each-mem (λ z. x < z) xs (a .0) y k in absurd (let z : ⊥ = omega arith in z)
-
-  rest-numbers : x ≡ y → ((z : ℕ) → List·Memᴰ z (x ∷ xs) → List·Memᴰ z (y ∷ ys)) → (z : ℕ) → List·Memᴰ z xs → List·Memᴰ z ys
-  rest-numbers e f z m = go (List·Memᴰ·cases-cons (f z (List·Memᴰ·tail m)))
-    where
-      go : (z ≡ y) ⊎ List·Memᴰ z ys → List·Memᴰ z ys
-      go (inl q) = let c = each-mem (λ z. x < z) xs (a .0) z m in absurd (let w : ⊥ = omega arith in w)
-      go (inr k) = k
-
 numbers-same : (xs ys : List ℕ) → Ascending _<_ xs → Ascending _<_ ys → ((z : ℕ) → List·Memᴰ z xs → List·Memᴰ z ys)
     → ((z : ℕ) → List·Memᴰ z ys → List·Memᴰ z xs) → xs ≡ ys
-numbers-same [] [] a b f g = refl
-numbers-same [] (y ∷ ys) a b f g = absurd (List·Memᴰ·not-nil (g y (List·Memᴰ·head refl)))
-numbers-same (x ∷ xs) [] a b f g = absurd (List·Memᴰ·not-nil (f x (List·Memᴰ·head refl)))
-numbers-same (x ∷ xs) (y ∷ ys) a b f g =
-    let e = first-number x y xs ys a b (f x (List·Memᴰ·head refl)) (g y (List·Memᴰ·head refl)) in
-    ap₂ {C = List ℕ} (λ (v : ℕ) (l : List ℕ). v ∷ l) e
-    (numbers-same xs ys (a .1) (b .1) (rest-numbers x y xs ys a b e f) (rest-numbers y x ys xs b a (sym e) g))
+numbers-same = ascending-same _<_ (λ x y l m. let z : ⊥ = omega arith in z)
 
 -- ---- groups in an ascending list
 
