@@ -36,7 +36,8 @@ needs_shared() {
 one_version() {
   grep -qx "#define NUTRAMEZA_VERSION_STRING \"$version\"" "$root/include/nutrameza.h" &&
     [ "$(sed -nE 's/^## ([0-9.]+) \(.*/\1/p' "$root/CHANGELOG.md" | head -1)" = "$version" ] &&
-    grep -qx "INSTALLED = \"libnutrameza.so.${version%%.*}\"" "$root/tools/policy"
+    grep -qx "NAME = \"libnutrameza.so.${version%%.*}\"" "$root/python/nutrameza/library.py" &&
+    grep -qx "__version__ = \"$version\"" "$root/python/nutrameza/__init__.py"
 }
 
 # Whatever is in the prefix: files and links.
