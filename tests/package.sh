@@ -195,7 +195,7 @@ no_tarball_of_changes() {
   echo >> "$work/one/README.md" && ! make -s -C "$work/one" dist "NUTRAMEZA_LIB=$lib" > "$work/refused" 2>&1 && grep -q 'differs from the commit' "$work/refused"
 }
 
-it 'header, VERSION, CHANGELOG.md and the policy tool name one version' one_version
+it 'header, VERSION, CHANGELOG.md and the Python package name one version' one_version
 it 'make install puts libraries, header, documents, examples and a page for each call there' installed
 it 'make uninstall takes all of it away and leaves what is not its own' uninstalled
 it 'make install makes again what is older than its sources' stale

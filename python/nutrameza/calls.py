@@ -120,7 +120,8 @@ def unturn(source: Ledger) -> Table:
 
 def image_users(image: bytes) -> int:
     """How many users the head of an image names; of a refused image whatever stands there. Nothing is judged."""
-    return int.from_bytes(image_bytes(image)[:4], "little") >> 21 & 127 if len(image) >= 4 else 0
+    head = image_bytes(image)[:limits.WORD_BYTES]
+    return int.from_bytes(head, "little") >> 21 & 127 if len(head) == limits.WORD_BYTES else 0
 
 
 def new_ledger(image: bytes) -> bytearray:

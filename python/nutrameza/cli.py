@@ -41,16 +41,35 @@ def write_whole(path: str, data: bytes, force: bool) -> None:
             file.write(data)
         return
     if os.path.exists(path) and not force:
-        raise InTheWay(f"{path} is there already; --force overwrites it")
+        raise in_the_way(path)
     part = os.path.join(os.path.dirname(path), f".{os.path.basename(path)}.{os.getpid()}.part")
     try:
         with open(part, "wb") as file:
             file.write(data)
-        os.replace(part, path)
+        put(part, path, force)
     except OSError as wrong:
+        raise OSError(wrong.errno, wrong.strerror, path) from None
+    finally:
         if os.path.exists(part):
             os.remove(part)
-        raise OSError(wrong.errno, wrong.strerror, path) from None
+
+
+def put(part: str, path: str, force: bool) -> None:
+    """Gives a file its name; without force only where no other has taken it meanwhile."""
+    if not force:
+        try:
+            os.link(part, path)
+            return
+        except FileExistsError:
+            raise in_the_way(path) from None
+        except OSError:
+            pass  # a file system without links: that no file was there is known from before
+    os.replace(part, path)
+
+
+def in_the_way(path: str) -> InTheWay:
+    """What is said of a file that is there."""
+    return InTheWay(f"{path} is there already; --force overwrites it")
 
 
 def names_in(path: Optional[str]) -> Names:

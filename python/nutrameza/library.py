@@ -41,25 +41,40 @@ class NoLibrary(Exception):
     """There is no library to call, and why."""
 
 
-def places() -> Iterator[str]:
-    """The files that may be the library, in this order: beside the package, then in the prefix that it stands in."""
-    folder = os.path.dirname(os.path.realpath(__file__))
-    yield os.path.join(folder, NAME)
-    while os.path.dirname(folder) != folder:
-        folder = os.path.dirname(folder)
-        if os.path.basename(folder) in ("lib", "lib64"):
-            yield os.path.join(folder, NAME)
-            return
+class Shared:
+    """A shared library: its file's name, and the variable that names another file."""
+
+    def __init__(self, name: str, variable: str) -> None:
+        self.name, self.variable = name, variable
+
+    def places(self) -> Iterator[str]:
+        """The files that may be it, in this order: beside the package, then in the prefix that the package stands
+        in."""
+        folder = os.path.dirname(os.path.realpath(__file__))
+        yield os.path.join(folder, self.name)
+        while os.path.dirname(folder) != folder:
+            folder = os.path.dirname(folder)
+            if os.path.basename(folder) in ("lib", "lib64"):
+                yield os.path.join(folder, self.name)
+                return
+
+    def found(self) -> str:
+        """Its path, or its bare name where the loader has to find it."""
+        named = os.environ.get(self.variable)
+        if named:
+            if not os.path.isfile(named):
+                raise NoLibrary(f"{named}: there is no such file, and {self.variable} names it")
+            return os.path.abspath(named)
+        return next((path for path in self.places() if os.path.isfile(path)), self.name)
+
+    def missing(self, path: str, why: Exception) -> NoLibrary:
+        """What is to be said where a path can't be loaded."""
+        looked = f" (looked for as {', '.join(self.places())}; {self.variable} may name it)" if path == self.name else ""
+        return NoLibrary(f"no library: {why}{looked}")
 
 
-def found() -> str:
-    """The library's path, or its bare name where the loader has to find it."""
-    named = os.environ.get(VARIABLE)
-    if named:
-        if not os.path.isfile(named):
-            raise NoLibrary(f"{named}: there is no such file, and {VARIABLE} names it")
-        return os.path.abspath(named)
-    return next((path for path in places() if os.path.isfile(path)), NAME)
+# The kit's own.
+KIT = Shared(NAME, VARIABLE)
 
 
 def load(path: str) -> ctypes.PyDLL:
@@ -72,8 +87,7 @@ def load(path: str) -> ctypes.PyDLL:
             function = getattr(made, f"nutrameza_{name}")
             function.restype, function.argtypes = ctypes.c_uint64, types_of(parameters)
     except (OSError, AttributeError) as wrong:
-        looked = f" (looked for as {', '.join(places())}; {VARIABLE} may name it)" if path == NAME else ""
-        raise NoLibrary(f"no library: {wrong}{looked}") from None
+        raise KIT.missing(path, wrong) from None
     if version() // 1000000 != MAJOR:
         raise NoLibrary(f"{path}: version {version() // 1000000}, and this package is made for {MAJOR}")
     return made
@@ -90,19 +104,22 @@ def types_of(parameters: str) -> List[Any]:
 @functools.lru_cache(maxsize=None)
 def library() -> ctypes.PyDLL:
     """The library, looked for at the first call."""
-    return load(found())
+    return load(KIT.found())
 
 
-def pointed(buffer: Union[bytes, bytearray]) -> Any:
-    """A buffer as a pointer's argument; a bytearray can't change its length while the call has it."""
-    return buffer if isinstance(buffer, bytes) else (ctypes.c_char * len(buffer)).from_buffer(buffer)
+def pointed(buffer: Union[bytes, bytearray]) -> List[Any]:
+    """A buffer as pointer and length; a bytearray can't change its length while the call has it."""
+    if isinstance(buffer, bytes):
+        return [buffer, bytes.__len__(buffer)]
+    length = bytearray.__len__(buffer)
+    return [(ctypes.c_char * length).from_buffer(buffer), length]
 
 
 def call(name: str, *arguments: Argument) -> int:
     """What a call returns: its number plus 256 times its extra. The arguments are of the call's parameters."""
     words: List[Any] = []
     for argument in arguments:
-        words += [argument] if isinstance(argument, int) else [pointed(argument), len(argument)]
+        words += [argument] if isinstance(argument, int) else pointed(argument)
     returned: int = getattr(library(), f"nutrameza_{name}")(*words)
     return returned
 

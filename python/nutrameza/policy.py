@@ -198,7 +198,7 @@ class Refused(Exception):
     the reason in words."""
 
     def __init__(self, number: int, extra: int, reason: str) -> None:
-        sort = {Number.LOOP: "role", Number.REACH: "user"}.get(Number(number), "place")
+        sort = "role" if number == Number.LOOP else "user" if number == Number.REACH else "place"
         super().__init__(f"{number} {limits.word_of(number)} at {sort} {extra}: {reason}")
         self.number, self.extra = number, extra
 
@@ -226,6 +226,8 @@ def reason(data: bytes, number: int, extra: int, names: Names) -> str:
         return over(chain_of(data), names)
     if number == Number.REACH:
         return too_many(extra, len(reached(read(words), extra)), names)
+    if number > Number.BALANCE:
+        return "refused"
     return f"{word_reason(words, number, extra)} ({words[extra]:08x})"
 
 

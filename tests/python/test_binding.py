@@ -208,6 +208,16 @@ class Raised(unittest.TestCase):
             with self.assertRaises(TypeError, msg=(call, arguments)):
                 call(*arguments)
         self.assertEqual(ledger, nutrameza.new_ledger(image))
+        for wrong in ("abc", 3, bytearray(image)):
+            self.assertRaises(TypeError, nutrameza.new_ledger, wrong)
+
+    def test_a_length_that_lies_is_not_taken(self):
+        class Long(bytes):
+            """Bytes that say they are more."""
+            def __len__(self):
+                return 1 << 40
+
+        self.assertEqual(nutrameza.check(Long(self.image)), nutrameza.check(self.image))
 
     def test_a_number_that_no_call_can_take(self):
         image, ledger = self.image, self.ledger
@@ -236,14 +246,14 @@ class Raised(unittest.TestCase):
 class Finding(unittest.TestCase):
     """Where the library is found."""
 
-    def run_python(self, package, code="import nutrameza; print(nutrameza.library.found()); print(nutrameza.version())", **environment):
+    def run_python(self, package, code="import nutrameza; print(nutrameza.library.KIT.found()); print(nutrameza.version())", **environment):
         kept = {name: value for name, value in os.environ.items() if name not in ("NUTRAMEZA_LIBRARY", "LD_LIBRARY_PATH")}
         done = subprocess.run([sys.executable, "-B", "-c", code], env={**kept, "PYTHONPATH": package, **environment}, cwd="/",
                               capture_output=True, text=True, check=False)
         return done.returncode, done.stdout.split(), done.stderr
 
     def test_by_the_variable_beside_the_package_in_the_prefix_and_by_the_loader(self):
-        shared = library.found()
+        shared = library.KIT.found()
         with tempfile.TemporaryDirectory() as folder:
             folder = os.path.realpath(folder)
             package, prefix = os.path.join(folder, "lib", "python3"), os.path.join(folder, "lib")
