@@ -240,7 +240,7 @@ class Errors(unittest.TestCase):
 
     def test_refuses_n_out_of_range(self):
         for n in ["0", "3", "000", "999"]:
-            self.refuses(f"exclude ss-dmer {n} Doctor Nurse", "it is 2 to 2, the number of members")
+            self.refuses(f"exclude ss-dmer {n} Doctor Nurse", f"n is {int(n)};", "it is 2 to 2, the number of members")
         for n in ["-1", "two", "1.0", "00000000000000000011", "²", "9" * 5000]:
             self.refuses(f"exclude ss-dmer {n} Doctor Nurse", "a number from 2 to the number of members")
 
@@ -253,7 +253,7 @@ class Errors(unittest.TestCase):
 
     def test_refuses_a_limit_outside_2_to_256_and_one_without_a_number(self):
         for t in ["0", "257", "512", "999"]:
-            self.refuses(f"limit Doctor {t}", "it is 2 to 256")
+            self.refuses(f"limit Doctor {t}", f"t is {t};", "it is 2 to 256")
         for t in ["+2", "-2", "2.0", "two", "0x2", "1000", "²", "Nurse"]:
             self.refuses(f"limit Doctor {t}", "a number from 2 to 256")
         for t in ["1", "01"]:

@@ -176,6 +176,22 @@ class Answers(unittest.TestCase):
         self.assertEqual((told.users, told.extra), ({0}, 1))
         self.assertEqual(calls.unsound_user(nutrameza.short_ask(image, ledger, 0, 0, [], []), 0), 0)
 
+    def test_another_line_that_is_not_sound_under_a_policy_with_limits(self):
+        image = policy.build("user A B\nrole R\npermission P\nassign A R\nassign B R\ngrant R P\nlimit R 2\n")
+        ledger = nutrameza.new_ledger(image)
+        nutrameza.open(image, ledger, 0)
+        ledger[144 + 8] = 2
+        refused = nutrameza.short_ask(image, ledger, 0, 0, [0], [0])
+        self.assertEqual((refused.word, refused.extra, calls.unsound_user(refused, 0)), ("line", 2, 1))
+
+    def test_explain_through_a_role_below(self):
+        image = policy.build("user A\nrole R0 R1 Low High\npermission P Q\nassign A High\nsenior High Low\ngrant High P\ngrant Low Q\n")
+        ledger = nutrameza.new_ledger(image)
+        nutrameza.open(image, ledger, 0)
+        self.assertEqual(nutrameza.short_ask(image, ledger, 0, 0, [0, 1], [0, 1]).roles, {3})
+        explained = nutrameza.explain(image, ledger, 0, 0, 1)
+        self.assertEqual((explained.role, explained.granting_role), (3, 2))
+
     def test_a_refused_call_changes_no_byte(self):
         image, ledger = ward()
         ledger[3] = 1
