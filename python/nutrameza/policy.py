@@ -93,7 +93,8 @@ def kind_of(word: int) -> int:
 
 def decode(word: int) -> Tuple[List[int], int]:
     """The fields of a word of a known kind, and its spare bits."""
-    values, free = [], 28
+    values: List[int] = []
+    free = 28
     for width in FIELDS[kind_of(word)]:
         free -= width
         values.append(word >> free & (1 << width) - 1)
@@ -309,7 +310,7 @@ def reached(policy: Policy, user: int) -> FrozenSet[int]:
     pairs = sorted({entry for entry in policy.entries if entry[0] == SENIOR})
     table = calls.table(Policy([1, roles, roles], [(GRANT, role, role) for role in range(roles)] + pairs).image())
     own = {entry[2] for entry in policy.entries if entry[:2] == (ASSIGNMENT, user)}
-    return frozenset().union(*(table.carried_by(role) for role in own))
+    return frozenset(below for role in own for below in table.carried_by(role))
 
 
 def too_many(user: int, count: int, names: Names) -> str:
@@ -547,14 +548,13 @@ class Judgement:
 
     def shorten(self) -> None:
         """Leaves out the lines for which an image has no room."""
-        size, line = 2, 0
+        size = 2
         for one in self.said:
             size += len(one.words)
-            if size > limits.MAX_WORDS and not line:
-                line = one.line
-                said = f"with this line the image has {size}, and {limits.MAX_WORDS} is the most"
-        self.errors.append((line, f"too many words: {said}"))
-        self.said = [one for one in self.said if one.line < line]
+            if size > limits.MAX_WORDS:
+                break
+        self.errors.append((one.line, f"too many words: with this line the image has {size}, and {limits.MAX_WORDS} is the most"))
+        self.said = [other for other in self.said if other.line < one.line]
 
     def leave_out(self, number: int, place: int) -> None:
         """Leaves out the entry that has the word at a place."""
@@ -581,7 +581,8 @@ class Judgement:
 
     def loop(self, image: bytes) -> Tuple[int, str]:
         """The loop that the senior lines close, at the last line that it needs."""
-        chain, lines = chain_of(image), {}
+        chain = chain_of(image)
+        lines: Dict[Entry, int] = {}
         for one in self.said:
             lines.setdefault(one.entry[:3], one.line)
         line = max(lines[(SENIOR, *pair)] for pair in zip(chain, chain[1:]))
