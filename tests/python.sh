@@ -67,12 +67,12 @@ typed() {
 
 # By pip, with a build of its own and no index, into a fresh environment; then run outside the repository.
 by_pip() {
-  "$python" -m venv "$work/venv" && "$work/venv/bin/pip" install --quiet --disable-pip-version-check --no-index "$root/python" &&
-    mkdir -p "$work/site" && cd "$work/site" && "$work/venv/bin/pip" show --disable-pip-version-check nutrameza | grep -qx "Version: $(cat "$root/VERSION")" &&
+  find "$root/python" | sort > "$work/before" && "$python" -m venv "$work/venv" && "$work/venv/bin/pip" install --quiet --disable-pip-version-check --no-index "$root/python" &&
+    mkdir -p "$work/site" && cd "$work/site" && "$work/venv/bin/pip" show --disable-pip-version-check nutrameza > shown && grep -qx "Version: $(cat "$root/VERSION")" shown &&
     LD_LIBRARY_PATH=$prefix/lib "$work/venv/bin/nutrameza" build "$root/examples/ward.policy" &&
     NUTRAMEZA_LIBRARY=$shared "$work/venv/bin/nutrameza-policy" check policy.img | grep -q '^0 accepted' &&
     "$work/venv/bin/python" -c 'import nutrameza, sys; sys.exit(not nutrameza.__file__.startswith(sys.prefix))' &&
-    [ -z "$(cd "$root" && git status --porcelain python)" ]
+    find "$root/python" | sort | diff "$work/before" -
 }
 
 # Where the kit is installed into the environment itself, no variable is needed.
