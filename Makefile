@@ -1,8 +1,9 @@
 # The session kit for those who build and install it.
 #
 #   make lib                   proves the kit and writes target/staticlib/libnutrameza.a
-#   make install PREFIX=DIR    libraries, header, pkg-config and CMake files, man pages, programs, nutrameza-policy,
-#                              documents, examples (DESTDIR is put before PREFIX); makes what is missing or stale
+#   make install PREFIX=DIR    libraries, header, pkg-config and CMake files, man pages, programs, the Python package
+#                              and its commands, documents, examples (DESTDIR is put before PREFIX); makes what is
+#                              missing or stale
 #   make uninstall PREFIX=DIR  takes these files away again
 #   make man                   the man pages, of docs/REFERENCE.md, into target/man
 #   make dist                  target/dist: the commit's sources, and what it installs, as tarballs; alike in each build
@@ -32,6 +33,7 @@ prefix := $(abspath $(PREFIX))
 to := $(DESTDIR)$(prefix)
 sources := crates.txt $(shell find crates -name '*.rt' -o -name '*.antt')
 documents := $(wildcard docs/*.md) CHANGELOG.md
+package := $(wildcard python/nutrameza/*.py) python/nutrameza/py.typed
 open := (
 calls := $(shell sed -nE 's/^uint64_t (nutrameza_[a-z_]+)[$(open)].*/\1/p' include/nutrameza.h)
 
@@ -45,11 +47,12 @@ links := lib/$(soname) lib/libnutrameza.so
 files := lib/libnutrameza.a lib/$(notdir $(shared)) $(links) include/nutrameza.h \
   lib/pkgconfig/nutrameza.pc lib/pkgconfig/nutrameza-static.pc \
   lib/cmake/nutrameza/nutrameza-config.cmake lib/cmake/nutrameza/nutrameza-config-version.cmake \
-  bin/nutrameza-policy bin/nutrameza_script bin/nutrameza_survey \
+  bin/nutrameza bin/nutrameza-policy bin/nutrameza_script bin/nutrameza_survey \
+  $(package:python/%=lib/python3/%) share/bash-completion/completions/nutrameza \
   share/man/man7/nutrameza.7 $(calls:%=share/man/man3/%.3) \
-  $(patsubst %,share/man/man1/%.1,nutrameza-policy nutrameza_script nutrameza_survey) \
+  $(patsubst %,share/man/man1/%.1,nutrameza nutrameza-policy nutrameza_script nutrameza_survey) \
   $(documents:%=share/doc/nutrameza/%) $(patsubst %,share/doc/nutrameza/%,$(wildcard examples/*))
-folders := share/doc/nutrameza/docs share/doc/nutrameza/examples share/doc/nutrameza lib/cmake/nutrameza
+folders := share/doc/nutrameza/docs share/doc/nutrameza/examples share/doc/nutrameza lib/cmake/nutrameza lib/python3/nutrameza
 
 .PHONY: lib install uninstall man dist ward survey host test fuzz bench always
 
@@ -87,7 +90,9 @@ install: $(library) $(shared) $(programs) man
 	@$(call filled,nutrameza-static.pc.in,lib/pkgconfig/nutrameza-static.pc)
 	@$(call filled,cmake/nutrameza-config.cmake.in,lib/cmake/nutrameza/nutrameza-config.cmake)
 	@$(call filled,cmake/nutrameza-config-version.cmake.in,lib/cmake/nutrameza/nutrameza-config-version.cmake)
-	@install -m 755 tools/policy '$(to)/bin/nutrameza-policy'
+	@install -m 755 python/bin/nutrameza python/bin/nutrameza-policy '$(to)/bin/'
+	@install -m 644 $(package) '$(to)/lib/python3/nutrameza/'
+	@install -m 644 python/completion/nutrameza '$(to)/share/bash-completion/completions/nutrameza'
 	@for p in $(program) $(surveyor); do [ ! -x $$p ] || install -m 755 $$p '$(to)/bin/' || exit 1; done
 	@install -m 644 target/man/*.1 '$(to)/share/man/man1/'
 	@install -m 644 target/man/*.3 '$(to)/share/man/man3/'
@@ -99,6 +104,7 @@ install: $(library) $(shared) $(programs) man
 
 uninstall:
 	@rm -f $(patsubst %,'$(to)/%',$(files))
+	@rm -rf '$(to)/lib/python3/nutrameza/__pycache__'
 	@for f in $(folders); do [ ! -d '$(to)'/$$f ] || rmdir --ignore-fail-on-non-empty '$(to)'/$$f; done
 
 # The commit's time on every file, so that a tarball has the commit's bytes and no day of its own.
@@ -118,7 +124,7 @@ $(program): $(sources)
 	@touch $@
 
 # The script of the ward example beside the lines that the program answers.
-ward: $(program)
+ward: $(program) $(library)
 	@mkdir -p target/ward
 	@tools/policy build examples/ward.policy -o target/ward/policy.img
 	@cd target/ward && ../bin/nutrameza_script < ../../examples/ward.script > answers
@@ -130,7 +136,7 @@ $(surveyor): $(sources)
 	@touch $@
 
 # The figures of the ward example.
-survey: $(surveyor)
+survey: $(surveyor) $(library)
 	@mkdir -p target/ward
 	@tools/policy build examples/ward.policy -o target/ward/policy.img
 	@cd target/ward && ../bin/nutrameza_survey < ../../examples/ward.script > survey

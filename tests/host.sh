@@ -264,7 +264,7 @@ judged() {
     diff "$work/judged" expected && [ "$(cut -d' ' -f1 expected | sort -nu | xargs)" = '0 1 2 3 4 5 6 7 8 22 23' ]
 }
 
-# The tidy images of the images above, by the kit and by the policy tool.
+# The tidy images of the images above, by the kit and by the rules written again.
 tidied() {
   mkdir -p "$work/tidied" && host tidy "$root/tests/host/tidy.c" && cd "$work/images" && "$work/tidy/host" "$work/tidied" [0-9]* &&
     diff -r tidy "$work/tidied" && [ "$(ls tidy | wc -l)" -gt 400 ]
@@ -348,8 +348,8 @@ it 'the change of docs/CHANGING.md, with a window open, does what is written the
 it 'the changed ledger has the added line and the past, and no window' changed
 it 'a change that is refused leaves the ledger' changed_not
 it 'the program that changes a policy is a C++ program too' changing_cxx
-it 'the check and the policy tool judge 3,000 images alike, each number from 0 to 8, 22 and 23 among them' judged
-it 'the kit and the policy tool write the same tidy images of those that are accepted' tidied
+it 'the check and the rules written again in Python judge 3,000 images alike, each number from 0 to 8, 22 and 23 among them' judged
+it 'the kit and the rules written again write the same tidy images of those that are accepted' tidied
 it 'long and deep asks, their clause texts and obstacles, the longest moves and the calls over the image fit a stack of 64 KiB' small_stack
 it 'the clauses of an ask are solved and the roles read back, from literals and from a row of digits' clauses_solved
 it 'the text of the example is that of docs/CLAUSES.md' clauses_listed

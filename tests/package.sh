@@ -36,7 +36,8 @@ needs_shared() {
 one_version() {
   grep -qx "#define NUTRAMEZA_VERSION_STRING \"$version\"" "$root/include/nutrameza.h" &&
     [ "$(sed -nE 's/^## ([0-9.]+) \(.*/\1/p' "$root/CHANGELOG.md" | head -1)" = "$version" ] &&
-    grep -qx "INSTALLED = \"libnutrameza.so.${version%%.*}\"" "$root/tools/policy"
+    grep -qx "NAME = \"libnutrameza.so.${version%%.*}\"" "$root/python/nutrameza/library.py" &&
+    grep -qx "__version__ = \"$version\"" "$root/python/nutrameza/__init__.py"
 }
 
 # Whatever is in the prefix: files and links.
@@ -194,7 +195,7 @@ no_tarball_of_changes() {
   echo >> "$work/one/README.md" && ! make -s -C "$work/one" dist "NUTRAMEZA_LIB=$lib" > "$work/refused" 2>&1 && grep -q 'differs from the commit' "$work/refused"
 }
 
-it 'header, VERSION, CHANGELOG.md and the policy tool name one version' one_version
+it 'header, VERSION, CHANGELOG.md and the Python package name one version' one_version
 it 'make install puts libraries, header, documents, examples and a page for each call there' installed
 it 'make uninstall takes all of it away and leaves what is not its own' uninstalled
 it 'make install makes again what is older than its sources' stale

@@ -1,8 +1,7 @@
 #!/usr/bin/env python3
-"""Tests of tools/policy. The last line is 'N passed, M failed'."""
+"""Tests of tools/policy and of the module nutrameza.policy behind it. The last line is 'N passed, M failed'."""
 
 import contextlib
-import ctypes
 import importlib.machinery
 import importlib.util
 import io
@@ -21,9 +20,21 @@ TOOL = os.path.join(ROOT, "tools", "policy")
 WARD = os.path.join(ROOT, "examples", "ward.policy")
 CLINIC = os.path.join(ROOT, "examples", "clinic.policy")
 LIBRARY = os.path.join(ROOT, os.environ.get("NUTRAMEZA_LIB") or os.path.join("target", "staticlib"))
-LOADER = importlib.machinery.SourceFileLoader("policy", TOOL)
-policy = importlib.util.module_from_spec(importlib.util.spec_from_loader("policy", LOADER))
-LOADER.exec_module(policy)
+
+
+def module(name, path):
+    """A file of the repository as a module."""
+    loader = importlib.machinery.SourceFileLoader(name, path)
+    made = importlib.util.module_from_spec(importlib.util.spec_from_loader(name, loader))
+    loader.exec_module(made)
+    return made
+
+
+# The tool finds the package and links the library; the rules are the separate judge.
+tool = module("tool", TOOL)
+rules = module("rules", os.path.join(ROOT, "tests", "host", "rules.py"))
+import nutrameza  # noqa: E402 - found by the tool
+from nutrameza import cli, policy, why  # noqa: E402
 
 # Image A of 01, word for word.
 A = [0x102080A0, 0x20000000, 0x20010000, 0x30000000, 0x30004000, 0x30008000, 0x3000C000, 0x30404000, 0x30410000, 0x54102000,
@@ -69,13 +80,28 @@ def errors_of(text):
     return ""
 
 
-def refusal_of(data):
-    """Number and extra of an image's refusal; None if it is accepted."""
+def refusal_by(judge, data):
+    """Number and extra of an image's refusal by a judge; None if it is accepted."""
     try:
-        policy.check(data)
-    except policy.Refused as refused:
+        judge.check(data)
+    except judge.Refused as refused:
         return refused.number, refused.extra
     return None
+
+
+def refusal_of(data):
+    """Number and extra of an image's refusal, the same by the library and by the separate judge."""
+    told = refusal_by(policy, data)
+    assert told == refusal_by(rules, data), (told, refusal_by(rules, data), data)
+    return told
+
+
+def loop_of(pairs):
+    """The loop of these senior pairs, the same by the library and by the separate judge; None if there is none."""
+    data = looped(*pairs)
+    chain = policy.chain_of(data) if nutrameza.check(data).number == 22 else None
+    assert chain == rules.find_loop(pairs), (chain, pairs)
+    return chain
 
 
 def looped(*pairs):
@@ -214,7 +240,7 @@ class Errors(unittest.TestCase):
 
     def test_refuses_n_out_of_range(self):
         for n in ["0", "3", "000", "999"]:
-            self.refuses(f"exclude ss-dmer {n} Doctor Nurse", "it is 2 to 2, the number of members")
+            self.refuses(f"exclude ss-dmer {n} Doctor Nurse", f"n is {int(n)};", "it is 2 to 2, the number of members")
         for n in ["-1", "two", "1.0", "00000000000000000011", "²", "9" * 5000]:
             self.refuses(f"exclude ss-dmer {n} Doctor Nurse", "a number from 2 to the number of members")
 
@@ -227,7 +253,7 @@ class Errors(unittest.TestCase):
 
     def test_refuses_a_limit_outside_2_to_256_and_one_without_a_number(self):
         for t in ["0", "257", "512", "999"]:
-            self.refuses(f"limit Doctor {t}", "it is 2 to 256")
+            self.refuses(f"limit Doctor {t}", f"t is {t};", "it is 2 to 256")
         for t in ["+2", "-2", "2.0", "two", "0x2", "1000", "²", "Nurse"]:
             self.refuses(f"limit Doctor {t}", "a number from 2 to 256")
         for t in ["1", "01"]:
@@ -391,7 +417,7 @@ class Checking(unittest.TestCase):
             juniors = {}
             for senior, junior in pairs:
                 juniors.setdefault(senior, []).append(junior)
-            found = policy.find_loop(pairs)
+            found = loop_of(pairs)
             if found is None:
                 self.assertIsNone(refusal_of(looped(*pairs)), f"seed {seed}")
             else:
@@ -403,7 +429,7 @@ class Checking(unittest.TestCase):
             roles = random.Random(size).sample(range(64), size)
             pairs = list(zip(roles, [*roles[1:], roles[0]]))
             first = roles.index(min(roles))
-            self.assertEqual(policy.find_loop(pairs), [*roles[first:], *roles[:first], min(roles)])
+            self.assertEqual(loop_of(pairs), [*roles[first:], *roles[:first], min(roles)])
 
     def test_refuses_a_reach_of_17_roles_by_23_and_its_lowest_user(self):
         for wide, told in ((16, None), (17, (23, 1)), (40, (23, 1))):
@@ -785,7 +811,7 @@ class Commands(Folder):
         self.assertEqual(self.run_tool("stopped", image_a, ledger)[1].split("\n")[0], "user0 (0) is stopped:")
 
     def test_who_is_stopped_goes_on_once_each_reason_is_mended(self):
-        kit, rng, told = policy.Kit(self.folder.name), random.Random(15), {"roles": 0, "exclusions": 0, "damaged": 0, "nobody": 0}
+        rng, told = random.Random(15), {"roles": 0, "exclusions": 0, "damaged": 0, "nobody": 0}
         names = {"user": ["ANNA"], "role": [f"R{k}" for k in range(5)], "permission": ["Read"]}
         for _ in range(400):
             entries = [(policy.ASSIGNMENT, 0, role) for role in range(5) if rng.random() < 0.6]
@@ -796,10 +822,10 @@ class Commands(Folder):
             line = line_of(active, past=31 if rng.random() < 0.3 else sum(1 << role for role in range(5) if any(s >> role & 1 for s in active.values())))
             if rng.random() < 0.1:
                 line = bytes([line[0]]) + b"\1" + line[2:]
-            if not kit.stops(new, 0, line):
+            if not why.stops(new, 0, line):
                 told["nobody"] += 1
                 continue
-            found = policy.reasons(kit, new, 0, line, names)
+            found = why.reasons(new, 0, line, names)
             damaged = found[-1] == "the line is damaged: no call leaves such a line"
             self.assertEqual(damaged, line[1] == 1)
             exclusions = {reason for reason in found if reason.startswith("exclude")}
@@ -808,7 +834,7 @@ class Commands(Folder):
             self.assertEqual(len(exclusions) + len(windows) + damaged, len(found))
             kept = [e for e in policy.tidied(new).entries if " ".join(policy.named(e, names)) not in exclusions]
             mended = policy.Policy(new.counts, kept + [(policy.ASSIGNMENT, 0, names["role"].index(role)) for role in roles])
-            self.assertIs(kit.stops(mended, 0, line), damaged, (found, entries, active))
+            self.assertIs(why.stops(mended, 0, line), damaged, (found, entries, active))
             for what, seen in (("roles", roles), ("exclusions", exclusions), ("damaged", damaged)):
                 told[what] += bool(seen)
         self.assertTrue(all(count >= 20 for count in told.values()), told)
@@ -836,7 +862,7 @@ class Commands(Folder):
 
     def test_help_describes_the_text_form(self):
         with contextlib.redirect_stdout(io.StringIO()) as out, self.assertRaises(SystemExit):
-            policy.main(["--help"])
+            cli.policy_parser().parse_args(["--help"])
         for word in [*policy.SORTS, *policy.ENTRIES, *policy.EXCLUSION_KINDS, "loop", "22", "reach", "23", "why"]:
             self.assertIn(word, out.getvalue())
 
@@ -998,24 +1024,22 @@ class Why(Folder):
         for seed in range(400):
             dice = random.Random(seed)
             said = random_policy(dice)
-            kit = policy.Kit(policy.to_bytes(said.words()), None)
-            if kit.call("check", kit.image) != (0, 0):
+            data = said.image()
+            if not nutrameza.check(data).done:
                 continue
-            ledger, answer = ctypes.create_string_buffer(144 * said.counts[0]), ctypes.create_string_buffer(40)
-            everything = set(range(said.counts[2]))
+            ledger, everything = nutrameza.new_ledger(data), set(range(said.counts[2]))
             for _ in range(12):
                 user, session = dice.randrange(said.counts[0]), dice.randrange(2)
-                kit.call("open", kit.image, ledger, user)
+                nutrameza.open(data, ledger, user)
                 lower = set(dice.choices(sorted(everything), k=dice.randrange(1, 4)))
                 upper = lower | set(dice.choices(sorted(everything), k=9)) if dice.randrange(3) == 0 else everything
-                kit.ledger = ledger.raw
-                ask = policy.Ask(kit, said, {sort: [] for sort in policy.SORTS}, user, session)
+                ask = why.Ask(data, bytes(ledger), policy.no_names(), user, session)
                 try:
                     sentence = ask.why(lower, upper)
-                except policy.CallRefused as refused:
+                except why.CallRefused as refused:
                     self.assertIn("13 closed", str(refused))
                     continue
-                number, _ = kit.call("short_ask", kit.image, ledger, user, session, policy.set_bytes(lower), policy.set_bytes(upper), answer)
+                number = nutrameza.short_ask(data, ledger, user, session, lower, upper).number
                 self.assertEqual((sentence is None, sentence is not None), (number == 0, number == 20), f"seed {seed}")
                 seen["told" if sentence else "given"] += 1
                 self.assertTrue(sentence is None or any(f"permission{p} ({p})" in sentence for p in lower), sentence)

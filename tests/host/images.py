@@ -1,6 +1,6 @@
 #!/usr/bin/env python3
-"""Writes accepted and damaged images into a folder, a file 'expected' with the policy tool's refusal of each, and the
-tidy images that the tool makes of the accepted ones.
+"""Writes accepted and damaged images into a folder, a file 'expected' with the refusal of each by the rules written
+again in rules.py, and the tidy images that these make of the accepted ones.
 
 images.py FOLDER COUNT: the images are FOLDER/00000 and so on; a line of 'expected' is number, word and extra;
 FOLDER/tidy has the tidy images, each under the name of its image.
@@ -25,6 +25,7 @@ def module(name, file):
 
 test_policy = module("test_policy", "test_policy.py")
 policy = test_policy.policy
+rules = test_policy.rules
 
 
 def damaged(dice, words):
@@ -103,12 +104,12 @@ def main(folder, count):
             with open(os.path.join(folder, f"{number:05}"), "wb") as file:
                 file.write(data)
             try:
-                tidy = policy.tidied(policy.read(policy.check(data))).words()
+                tidy = rules.tidied(rules.read(rules.check(data))).words()
                 with open(os.path.join(folder, "tidy", f"{number:05}"), "wb") as file:
-                    file.write(policy.to_bytes(tidy))
+                    file.write(rules.to_bytes(tidy))
                 expected.write("0 done 0\n")
-            except policy.Refused as refused:
-                expected.write(f"{refused.number} {policy.REFUSALS[refused.number]} {refused.extra}\n")
+            except rules.Refused as refused:
+                expected.write(f"{refused}\n")
 
 
 if __name__ == "__main__":

@@ -1,0 +1,121 @@
+#!/usr/bin/env bash
+# The Python package: its unit tests, generated calls beside the separate solver's answers, an install by pip without a
+# network, the package and its commands in an install prefix, the page's example. It needs libnutrameza.a
+# (target/staticlib, or the folder that NUTRAMEZA_LIB names) and cargo; PYTHON names another interpreter. The last line
+# is 'N passed, M failed'.
+. "$(dirname "${BASH_SOURCE[0]}")/it.sh"
+export LC_ALL=C.UTF-8 PYTHONDONTWRITEBYTECODE=1
+unset PYTHONPATH LD_LIBRARY_PATH NUTRAMEZA_LIBRARY
+python=${PYTHON:-python3}
+lib=$(cd "$root" && realpath -m "${NUTRAMEZA_LIB:-target/staticlib}")
+prefix=$work/prefix
+shared=$prefix/lib/libnutrameza.so.1
+
+# How many images there are with calls, about 21 each.
+runs=500
+
+installed() {
+  make -s -C "$root" install "PREFIX=$prefix" "NUTRAMEZA_LIB=$lib" &&
+    diff -r -x __pycache__ "$root/python/nutrameza" "$prefix/lib/python3/nutrameza" && test -x "$prefix/bin/nutrameza" &&
+    cmp "$root/python/completion/nutrameza" "$prefix/share/bash-completion/completions/nutrameza"
+}
+
+# The features are those of the gate, so that cargo has it built already.
+golden() {
+  cargo run --quiet --release --offline --manifest-path "$root/tests/Cargo.toml" --features asks,script,survey --bin golden_calls "$runs" \
+    > "$work/golden"
+}
+
+# unit MODULE: its tests, each counted
+unit() {
+  local said status
+  said=$(cd "$root/tests/python" && NUTRAMEZA_LIBRARY=$shared NUTRAMEZA_GOLDEN=$work/golden PYTHONPATH=$root/python "$python" run.py "$1" 2>&1)
+  status=$?
+  sed '$d' <<< "$said"
+  if [[ $said =~ ([0-9]+)' passed, '([0-9]+)' failed'$ ]]; then
+    passed=$((passed + BASH_REMATCH[1])) failed=$((failed + BASH_REMATCH[2]))
+  else
+    echo "$said" "($status)"
+    failed=$((failed + 1))
+  fi
+}
+
+# The sources are read by the grammar of 3.9, whatever interpreter runs.
+old_grammar() {
+  "$python" - "$root"/python/*.py "$root"/python/nutrameza/*.py "$root"/python/bin/* "$root/examples/ward.py" <<'PY'
+import ast, sys
+for path in sys.argv[1:]:
+    ast.parse(open(path, encoding="utf-8").read(), path, feature_version=(3, 9))
+PY
+}
+
+standard_library_alone() {
+  "$python" - "$root"/python/*.py "$root"/python/nutrameza/*.py <<'PY'
+import ast, sys
+known = getattr(sys, "stdlib_module_names", None)
+for path in sys.argv[1:]:
+    for node in ast.walk(ast.parse(open(path, encoding="utf-8").read())):
+        named = [one.name for one in node.names] if isinstance(node, ast.Import) else [node.module] if isinstance(node, ast.ImportFrom) and not node.level else []
+        wrong = [name for name in named if known and name.split(".")[0] not in known]
+        assert not wrong, (path, wrong)
+PY
+}
+
+typed() {
+  cd "$root/python" && "$python" -m mypy --strict --python-version 3.9 --cache-dir "$work/mypy" nutrameza
+}
+
+# By pip, with a build of its own and no index, into a fresh environment; then run outside the repository.
+by_pip() {
+  find "$root/python" | sort > "$work/before" && "$python" -m venv "$work/venv" && "$work/venv/bin/pip" install --quiet --disable-pip-version-check --no-index "$root/python" &&
+    mkdir -p "$work/site" && cd "$work/site" && "$work/venv/bin/pip" show --disable-pip-version-check nutrameza > shown && grep -qx "Version: $(cat "$root/VERSION")" shown &&
+    LD_LIBRARY_PATH=$prefix/lib "$work/venv/bin/nutrameza" build "$root/examples/ward.policy" &&
+    NUTRAMEZA_LIBRARY=$shared "$work/venv/bin/nutrameza-policy" check policy.img | grep -q '^0 accepted' &&
+    "$work/venv/bin/python" -c 'import nutrameza, sys; sys.exit(not nutrameza.__file__.startswith(sys.prefix))' &&
+    find "$root/python" | sort | diff "$work/before" -
+}
+
+# Where the kit is installed into the environment itself, no variable is needed.
+in_the_environment() {
+  cp -P "$prefix"/lib/libnutrameza.so* "$work/venv/lib/" && cd "$work/site" &&
+    "$work/venv/bin/nutrameza" check policy.img | grep -q '^0 accepted'
+}
+
+same_wheel() {
+  mkdir -p "$work/one" "$work/two" && cd "$root/python" && for out in one two; do
+    "$python" -c 'import backend, sys; print(backend.build_wheel(sys.argv[1]), backend.build_sdist(sys.argv[1]))' "$work/$out" || return 1
+  done && diff -r "$work/one" "$work/two" && [ "$(ls "$work/one" | wc -l)" -eq 2 ] &&
+    "$python" -m pip install --quiet --disable-pip-version-check --no-index --no-deps --target "$work/from_sdist" "$work"/one/*.tar.gz &&
+    diff -r -x __pycache__ "$root/python/nutrameza" "$work/from_sdist/nutrameza"
+}
+
+in_the_prefix() {
+  mkdir -p "$work/clinic" && cd "$work/clinic" && "$prefix/bin/nutrameza" build "$root/examples/ward.policy" -o a.img &&
+    "$prefix/bin/nutrameza-policy" build "$root/examples/ward.policy" -o b.img && cmp a.img b.img &&
+    ! "$prefix/bin/nutrameza" build "$root/examples/ward.policy" -o a.img && ln -s "$prefix/bin/nutrameza" linked && ./linked same a.img b.img
+}
+
+# block LANGUAGE: the page's first block of a language
+block() {
+  awk -v fence="\`\`\`$1" '$0 == fence { on = 1; next } /^```/ { if (on) exit } on' "$root/docs/PYTHON.md"
+}
+
+ward_example() {
+  cd "$work" && PYTHONPATH=$prefix/lib/python3 "$python" "$prefix/share/doc/nutrameza/examples/ward.py" > ward_says &&
+    diff ward_says <(block text) && diff <(sed 1d "$root/examples/ward.py") <(block python) && [ "$(sed 1d "$root/examples/ward.py" | wc -l)" -eq 10 ]
+}
+
+it 'make install puts the package, its commands and the completion there' installed
+it 'generated calls with the answers of the separate solver' golden
+unit test_binding
+unit test_golden
+unit test_command
+it 'no source needs more than the grammar of Python 3.9' old_grammar
+it 'no source needs a package beyond the standard library' standard_library_alone
+if "$python" -c 'import mypy' 2> /dev/null; then it 'mypy --strict has nothing to say' typed; else echo 'not installed: mypy'; fi
+it 'pip installs it offline into a fresh environment, and its commands run' by_pip
+it 'in an environment that has the library no variable is needed' in_the_environment
+it 'the wheel and the source archive come out the same twice, and pip takes either' same_wheel
+it 'the commands run from the install prefix' in_the_prefix
+it 'the ward example of ten lines, as the page has it, says what the page says' ward_example
+counted
