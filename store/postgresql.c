@@ -113,7 +113,7 @@ static void take_result(pg *p, const waiting *w, PGresult *result, enum outcome 
             tell_rows(result, w->each, w->context);
     } else if (status == PGRES_COMMAND_OK) {
         int commits = w->number == COMMITS && strcmp(PQcmdStatus(result), "COMMIT") == 0;
-        p->committed += commits;
+        p->committed += commits && *worst == FINE;
         if (w->number == COMMITS && !commits && *worst == FINE)
             *worst = FAILED;
     } else if (*worst == FINE && status != PGRES_PIPELINE_ABORTED) {

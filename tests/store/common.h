@@ -75,6 +75,8 @@ int test_stopped(char **words);
 int test_server(char **words);
 int test_cuts(char **words);
 int test_pool(char **words);
+int test_rolled(char **words);
+int test_unfit(char **words);
 int test_durable(char **words);
 int test_full(char **words);
 int test_threads(char **words);

@@ -87,6 +87,18 @@ static void line_changes(int limits)
     refused_and_mended(limits, "another user's line");
 }
 
+/* The line of somebody who never called: nothing in the journal says that it is missing. */
+static void first_line_missing(int limits)
+{
+    nutrameza_store_reply r;
+    fresh(limits);
+    sql("DELETE FROM line WHERE ward = %lu AND usr = 2", (unsigned long)id);
+    IS(nutrameza_store_open(store, ward, 2, NULL, &r), NUTRAMEZA_STORE_DAMAGED + 256 * 3);
+    IS(nutrameza_store_mend(store, ward, 2, NULL), 256);
+    IS(nutrameza_store_open(store, ward, 2, NULL, &r), 0);
+    nutrameza_store_disconnect(store);
+}
+
 /* A row of an hour ago has its right sum: the journal is ahead of it. */
 static void set_back(int limits)
 {
@@ -178,6 +190,7 @@ int test_damage(char **words)
     (void)words;
     for (int limits = 0; limits < 2; limits++) {
         line_changes(limits);
+        first_line_missing(limits);
         set_back(limits);
         journal_changes(limits);
         image_changes(limits);

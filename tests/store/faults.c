@@ -254,7 +254,7 @@ static int cut_at(const char *ward, const record *r, const char *path, int at, c
     return was_cut;
 }
 
-/* cuts WARD CONTROL: the connection cut before, after and behind the answer of every message of an ask; where the
+/* cuts WARD CONTROL CRASHES: the connection cut before, after and behind the answer of every message of an ask; where the
  * commit was done though the answer was lost, the record is still there after a crash of the server */
 int test_cuts(char **words)
 {
@@ -262,7 +262,7 @@ int test_cuts(char **words)
     int count[3] = {0, 0, 0}, unknown = 0, crashes = 0;
     how = "crash";
     for (int mode = 0; mode < 3; mode++) {
-        int more = 1;
+        int more = 1, left = atoi(words[2]);
         for (int at = 0; more; at++, count[mode]++) {
             uint64_t told;
             nutrameza_store_reply reply;
@@ -273,8 +273,11 @@ int test_cuts(char **words)
             unknown += told == NUTRAMEZA_STORE_UNKNOWN;
             IS(insist(words[0], &r, &reply), 0);
             MUST(told != NUTRAMEZA_STORE_FAILED || !reply.again); /* failed: nothing had changed */
-            if (told == NUTRAMEZA_STORE_UNKNOWN && reply.again) {
+            MUST(told != 0 || reply.again);                       /* done: it is on record */
+            if (told == NUTRAMEZA_STORE_UNKNOWN && reply.again && left-- > 0) {
                 server_goes();
+                IS(insist(words[0], &r, &reply), 0);
+                MUST(reply.again);
                 crashes++;
             }
             answered_once(words[0], &r);
@@ -286,6 +289,50 @@ int test_cuts(char **words)
     MUST(count[0] > 15 && count[1] > 15 && count[2] > 1 && unknown > 0 && crashes > 0);
     connect_as("cuts", 0);
     settled(words[0]);
+    return wrong;
+}
+
+/* rolled WARD CONTROL: a commit that the server answers by ROLLBACK was not done */
+int test_rolled(char **words)
+{
+    uint64_t told;
+    nutrameza_store_reply reply;
+    connect_as("rolled", 0);
+    record r = prepared(words[0], SHORT_ASK, 4);
+    MUST(cut_at(words[0], &r, words[1], 0, "rollback", &told));
+    IS(told, NUTRAMEZA_STORE_FAILED);
+    IS((uint64_t)entries_of_token(words[0], r.token), 0);
+    IS(insist(words[0], &r, &reply), 0);
+    MUST(!reply.again);
+    answered_once(words[0], &r);
+    settled(words[0]);
+    return wrong;
+}
+
+static void unfit(const char *why)
+{
+    nutrameza_store *s = NULL;
+    IS(nutrameza_store_connect(name, "h", &s), NUTRAMEZA_STORE_UNFIT);
+    MUST(strstr(nutrameza_store_error(s), why) != NULL);
+    nutrameza_store_disconnect(s);
+}
+
+/* unfit: a server with fsync off, and a replica */
+int test_unfit(char **words)
+{
+    (void)words;
+    sql("ALTER SYSTEM SET fsync = off");
+    sql("SELECT pg_reload_conf()");
+    nap(0.3);
+    unfit("fsync");
+    sql("ALTER SYSTEM RESET fsync");
+    how = "standby";
+    server_goes();
+    unfit("replica");
+    how = "primary";
+    server_goes();
+    connect_as("unfit", 0);
+    settled("free");
     return wrong;
 }
 
@@ -347,6 +394,9 @@ int test_full(char **words)
            (unsigned long)told[NUTRAMEZA_STORE_FAILED], (unsigned long)told[NUTRAMEZA_STORE_UNKNOWN]);
     MUST(told[NUTRAMEZA_STORE_FAILED] + told[NUTRAMEZA_STORE_UNKNOWN] > 0);
     remove(words[1]);
+    how = "up";
+    if (strncmp(name, "sqlite:", 7) != 0)
+        server_goes();
     IS(insist(words[0], &r, &reply), 0);
     IS((uint64_t)entries_of_token(words[0], r.token), 1);
     MUST(entries(words[0]) > given);

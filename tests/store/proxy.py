@@ -2,7 +2,7 @@
 
 While the file CONTROL is there its words are the message of a call that the connection is cut at, from 0 (its BEGIN), and how:
 before it is passed on, after that, or once it is answered, with the answer kept back. The call is the next that begins to write. The
-file is removed once the cut is made. The word pool makes the proxy tell another process number than the server's, as poolers do.
+file is removed once the cut is made. The word rollback has the server roll back where it is told to commit. The word pool makes the proxy tell another process number than the server's, as poolers do.
 """
 import os
 import socket
@@ -67,6 +67,9 @@ class Connection:
             due = self.at is not None and self.at == int(words[0])
             if due and words[1] == "before":
                 return self.cut()
+            if words[1:] == ["rollback"] and body[1:8] == b"COMMIT\0":
+                os.remove(CONTROL)
+                body = body.replace(b"COMMIT", b"ABORT ")
             self.mute = self.mute or (due and words[1] == "answered")
             self.server.sendall(head + body)
             if due and words[1] == "after":

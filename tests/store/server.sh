@@ -1,6 +1,7 @@
 #!/usr/bin/env bash
-# server.sh make|start|stop|crash|kill FOLDER: a PostgreSQL server of the tests' own, all of it below FOLDER, on a socket there. As root
-# it runs as the user postgres, or nobody. crash: stopped at once and started again; kill: its first process by SIGKILL, likewise.
+# server.sh make|start|stop|crash|kill|up|standby|primary FOLDER: a PostgreSQL server of the tests' own, all of it below FOLDER, on a socket there. As root
+# it runs as the user postgres, or nobody. crash: stopped at once and started again; kill: its first process by SIGKILL, likewise; up:
+# started if it is not running; standby and primary: started again as a replica, or not as one.
 # Nothing that is not asked for is flushed in the background, so that what is told too early is lost.
 set -u
 folder=$2
@@ -25,5 +26,8 @@ case $1 in
   stop) ctl -m fast stop ;;
   crash) ctl -m immediate stop; started ;;
   kill) kill -9 "$(head -n 1 "$folder/data/postmaster.pid")"; started ;;
+  up) ctl status || started ;;
+  standby) ctl -m fast stop && as touch "$folder/data/standby.signal" && started ;;
+  primary) ctl -m fast stop && rm "$folder/data/standby.signal" && started ;;
   *) exit 2 ;;
 esac

@@ -98,6 +98,7 @@ int test_fork(char **words)
         IS(nutrameza_store_open(store, "free", 9, NULL, NULL), NUTRAMEZA_STORE_USAGE);
         IS(nutrameza_store_make(store), NUTRAMEZA_STORE_USAGE);
         nutrameza_store_disconnect(store);
+        fflush(stdout);
         _exit(wrong);
     }
     IS((uint64_t)all_well(1), 0);
