@@ -27,7 +27,7 @@ enum nutrameza_store_number {
     NUTRAMEZA_STORE_UNKNOWN = 130,   /* connection or disk failed within the commit: repeat with the same token */
     NUTRAMEZA_STORE_WARD = 131,      /* no such ward; of create: it is there already */
     NUTRAMEZA_STORE_TOKEN = 132,     /* the token is recorded for another request */
-    NUTRAMEZA_STORE_GONE = 133,      /* the window was closed, released or adopted, and its session is another window's */
+    NUTRAMEZA_STORE_GONE = 133,      /* the window was closed, released or adopted; its session is another window's */
     NUTRAMEZA_STORE_OVERTAKEN = 134, /* the token's call was done, but what it gave is no longer in force */
     NUTRAMEZA_STORE_STOPS = 135,     /* policy: it stops users, those in the set */
     NUTRAMEZA_STORE_SHRINKS = 136,   /* policy: fewer users than lines */
@@ -140,7 +140,7 @@ uint64_t nutrameza_store_close(nutrameza_store *store, const char *ward, uint64_
 uint64_t nutrameza_store_adopt(nutrameza_store *store, const char *ward, uint64_t user, uint64_t window,
                                const uint8_t *token, nutrameza_store_reply *reply);
 
-/* The looks: they lock nothing and are not in the journal. Roles: 16 bytes, two sets of roles as of nutrameza_obstacle. */
+/* The looks: they lock nothing and are not in the journal. Roles: 16 bytes, the two sets of nutrameza_obstacle. */
 uint64_t nutrameza_store_show(nutrameza_store *store, const char *ward, uint64_t user, uint64_t window,
                               nutrameza_store_reply *reply);
 uint64_t nutrameza_store_explain(nutrameza_store *store, const char *ward, uint64_t user, uint64_t window,

@@ -3,7 +3,7 @@
  *
  * Without limits a call locks its user's line and reads no other (P16, alone). Under limits it takes the ward's row
  * first, which numbers its turn, and then, in a statement of its own, so that it sees what the lock waited for, the
- * line, for an ask all lines. The order of the journal is the order of the commits, since both locks last until then. */
+ * line, for an ask all lines. The order of the journal is that of the commits, since both locks last until then. */
 #include <string.h>
 
 #include "store.h"

@@ -150,8 +150,9 @@ uint64_t nutrameza_store_connect(const char *name, const char *host, nutrameza_s
         return refused(s, NUTRAMEZA_STORE_FAILED, "no random numbers: /dev/urandom can't be read");
     enum outcome outcome = engine_for(name, &s->engine);
     if (s->engine == NULL)
-        return refused(s, NUTRAMEZA_STORE_USAGE, "no engine of this build has such names: sqlite:PATH, postgresql://..");
+        return refused(s, NUTRAMEZA_STORE_USAGE, "this build has no engine for the name: sqlite:PATH, postgresql://..");
     s->usable = outcome == FINE;
+    s->unmade = outcome == NO_SCHEMA;
     return number_of(s, outcome);
 }
 
@@ -159,8 +160,9 @@ uint64_t nutrameza_store_make(nutrameza_store *s)
 {
     if (s == NULL || s->engine == NULL || s->process != (int64_t)getpid() || __sync_lock_test_and_set(&s->in_use, 1))
         return NUTRAMEZA_STORE_USAGE;
+    if (!s->usable && !s->unmade) /* not connected, or unfit */
+        return nms_leave(s, NUTRAMEZA_STORE_USAGE);
     enum outcome outcome = s->usable ? FINE : s->engine->make(s->engine);
-    s->words[0] = 0;
     s->usable = outcome == FINE;
     return nms_leave(s, number_of(s, outcome));
 }

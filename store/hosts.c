@@ -1,5 +1,5 @@
-/* The windows of a host that died: closed, or taken over. Each is a call of its own; a window that was closed meanwhile,
- * even if its session is open again, is left alone. */
+/* The windows of a host that died: closed, or taken over. Each is a call of its own; a window that was closed
+ * meanwhile, even if its session is open again, is left alone. */
 #include <string.h>
 
 #include "store.h"

@@ -13,7 +13,7 @@
 
 #include "engine.h"
 
-enum { PENDING = 24, INT8 = 20, BYTEA = 17, PATIENCE = 30000, LONG_PATIENCE = 600000 };
+enum { PENDING = STATEMENTS + 8, INT8 = 20, BYTEA = 17, PATIENCE = 30000, LONG_PATIENCE = 600000 };
 enum { PLAIN = -1, COMMITS = -2 };
 
 typedef struct {
@@ -96,9 +96,9 @@ static void tell_rows(const PGresult *result, on_row each, void *context)
             row[k] = (cell){0, 0, NULL, 0};
             if (PQgetisnull(result, at, k))
                 continue;
-            row[k] = (cell){type == INT8 ? 'i' : type == BYTEA ? 'b' : 't', 0, bytes, (size_t)PQgetlength(result, at, k)};
+            row[k] = (cell){type == BYTEA ? 'b' : 't', 0, bytes, (size_t)PQgetlength(result, at, k)};
             if (type == INT8)
-                row[k].i = big_endian(bytes);
+                row[k] = (cell){'i', big_endian(bytes), NULL, 0};
         }
         each(context, row);
     }
@@ -271,20 +271,22 @@ static enum outcome find_schema(pg *p)
     return NO_SCHEMA;
 }
 
-static enum outcome prepare_statement(pg *p, int number)
+/* All statements in one round trip. */
+static enum outcome prepare_statements(pg *p)
 {
     char name[16], text[MOST_TEXT];
-    int lost = 0;
-    snprintf(name, sizeof name, "s%d", number);
-    snprintf(text, sizeof text, nms_statements[number], clock_now);
-    enum outcome outcome = PQsendPrepare(p->db, name, text, 0, NULL) == 1 ? FINE : told(p, NULL);
-    PGresult *result;
-    while (outcome != LOST && (result = next_result(p, &lost)) != NULL) {
-        if (PQresultStatus(result) != PGRES_COMMAND_OK)
-            outcome = told(p, result);
-        PQclear(result);
+    if (PQenterPipelineMode(p->db) != 1)
+        return FAILED;
+    p->count = p->committed = 0;
+    p->worst = FINE;
+    for (int k = 0; k < STATEMENTS; k++) {
+        snprintf(name, sizeof name, "s%d", k);
+        snprintf(text, sizeof text, nms_statements[k], clock_now);
+        if (PQsendPrepare(p->db, name, text, 0, NULL) != 1)
+            return told(p, NULL);
+        wait_for(p, PLAIN, NULL, NULL);
     }
-    return lost ? LOST : outcome;
+    return flush(&p->base);
 }
 
 /* What a new connection needs. A commit is acknowledged once it is on disk, whatever the server's default; a client
@@ -292,17 +294,17 @@ static enum outcome prepare_statement(pg *p, int number)
 static enum outcome prepare(pg *p)
 {
     enum outcome outcome =
-        plain(p, "SET synchronous_commit = on; SET lock_timeout = '10s'; SET idle_in_transaction_session_timeout = '5s';"
-                 "SET client_min_messages = error; SET tcp_keepalives_idle = 5; SET tcp_keepalives_interval = 2;"
-                 "SET tcp_keepalives_count = 3", NULL);
+        plain(p, "SET synchronous_commit = on; SET lock_timeout = '10s'; SET client_min_messages = error;"
+                 "SET idle_in_transaction_session_timeout = '5s'; SET tcp_keepalives_idle = 5;"
+                 "SET tcp_keepalives_interval = 2; SET tcp_keepalives_count = 3", NULL);
     if (outcome == FINE)
         outcome = judge_server(p);
     if (outcome == FINE)
         outcome = find_schema(p);
-    for (int k = 0; k < STATEMENTS && outcome == FINE; k++)
-        outcome = prepare_statement(p, k);
-    p->ready = outcome == FINE && PQenterPipelineMode(p->db) == 1;
-    return p->ready ? FINE : outcome == FINE ? FAILED : outcome;
+    if (outcome == FINE)
+        outcome = prepare_statements(p);
+    p->ready = outcome == FINE;
+    return outcome;
 }
 
 static enum outcome begin(engine *e, enum mode mode)

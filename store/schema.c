@@ -52,8 +52,8 @@ const char *const nms_statements[STATEMENTS] = {
                 " WHERE ward = $1 AND (usr > $2 OR (usr = $2 AND nr >= $3)) ORDER BY usr, nr LIMIT $4",
     [WARDS] = "SELECT name, version FROM ward ORDER BY name",
     [POLICIES] = "SELECT version, image, host, at FROM policy WHERE ward = $1 ORDER BY version",
-    [NEW_WARD] = "INSERT INTO ward SELECT coalesce(max(id), 0) + 1, CAST($1 AS TEXT), 1, 0, 1, 0 FROM ward RETURNING id,"
-                 " version, turn, first, since",
+    [NEW_WARD] = "INSERT INTO ward SELECT coalesce(max(id), 0) + 1, CAST($1 AS TEXT), 1, 0, 1, 0 FROM ward"
+                 " RETURNING id, version, turn, first, since",
     [NEW_POLICY] = "INSERT INTO policy(ward, version, image, host) VALUES($1, $2, $3, $4)",
     [NEW_LINE] = "INSERT INTO line(ward, usr, nr, version, bytes, wins, sum) VALUES($1, $2, $3, $4, $5, $6, $7)",
     [WARD_VERSION] = "UPDATE ward SET version = $2, turn = $3 WHERE id = $1",

@@ -60,7 +60,7 @@ struct nutrameza_store {
     lines lines;
     char words[400];
     uint8_t token[TOKEN_BYTES]; /* the last one that was made */
-    int in_use, usable;
+    int in_use, usable, unmade; /* unmade: the tables are not there */
     int64_t process;
     uint64_t retried; /* how often a call began anew for a conflict that its locks should have prevented */
 };

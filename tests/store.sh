@@ -59,7 +59,7 @@ flipped() { rm -f "$place"/log.*; on "$1" flip "$2" "$3" "$place/log" && audited
 crashing() {
   local end=$((SECONDS + $2)) pid status=0
   rm -f "$place"/log.*
-  on post kill "$1" 4 "$2" "$place/log" &
+  on post kill "$1" 4 $(($2 + 4)) "$place/log" & # it lasts longer than the crashes
   pid=$!
   while [ $SECONDS -lt $end ] && sleep 1.$((RANDOM % 9)); do "$server" crash "$pg" || status=1; done
   wait $pid && [ $status -eq 0 ] && audited post "$1"
@@ -82,7 +82,7 @@ full_post() {
   pg=$place/small_pg/pg
   post="postgresql://store@/postgres?host=$pg&port=5499"
   export STORE_SERVER_FOLDER=$pg
-  STORE_INITDB=--wal-segsize=1 STORE_SETTING='max_wal_size = 2MB' "$server" make "$pg" && on post wards && on post full free "$place/small_pg/filler"
+  STORE_INITDB=--wal-segsize=1 STORE_SETTINGS='max_wal_size = 2MB' "$server" make "$pg" && on post wards && on post full free "$place/small_pg/filler"
   status=$?
   "$server" stop "$pg"
   return $status
@@ -136,13 +136,14 @@ faults() {
 # One build of the checkers, over the cases of one process.
 sanitized() {
   local t
-  compiled "$work/asan" "$root/store" -O1 -fsanitize=address,undefined -fno-sanitize-recover=all -fno-omit-frame-pointer || return 1
-  for t in usage repeats windows policy damage import journal "steps limited" "threads 10"; do
+  [ -x "$work/asan/test" ] ||
+    compiled "$work/asan" "$root/store" -O1 -fsanitize=address,undefined -fno-sanitize-recover=all -fno-omit-frame-pointer || return 1
+  for t in usage repeats windows policy damage import journal "threads 10"; do
     ASAN_OPTIONS=detect_leaks=0 "$work/asan/test" "${!1}" $t || return 1
   done
 }
 race_checked() {
-  compiled "$work/tsan" "$root/store" -O1 -fsanitize=thread &&
+  { [ -x "$work/tsan/test" ] || compiled "$work/tsan" "$root/store" -O1 -fsanitize=thread; } &&
     TSAN_OPTIONS=halt_on_error=1 setarch -R "$work/tsan/test" "${!1}" threads 20
 }
 grinded() {
@@ -152,12 +153,11 @@ grinded() {
   done
 }
 
-# clean COMPILER ENGINE-FLAG..: every source without a warning
+# clean COMPILER: every source without a warning
 clean() {
   local file
   for file in "$root"/store/*.c; do
-    case $file in */sqlite.c) [ "${2:-}" != -DNUTRAMEZA_STORE_WITHOUT_SQLITE ] || continue ;; */bench.c) continue ;; esac
-    "$@" $store_cflags -Wconversion -Werror -O2 -c "$file" -o "$work/clean.o" || return 1
+    "$1" $store_cflags -Wconversion -Werror -O2 -c "$file" -o "$work/clean.o" || return 1
   done
 }
 header() { printf '#include <nutrameza_store.h>\n' | "$1" -x "$2" "-std=$3" -Wall -Wextra -Werror -pedantic "-I$root/include" -fsyntax-only -; }
@@ -196,7 +196,6 @@ wrong() {
   cp "$work"/build/*.o "$copy/build"
   for file in "$copy"/store/*.c; do
     if cmp -s "$file" "$root/store/$(basename "$file")" && cmp -s "$copy/store/engine.h" "$root/store/engine.h"; then continue; fi
-    case $file in */bench.c) continue ;; esac
     cc $store_cflags "-I$copy/store" -O1 -c "$file" -o "$copy/build/$(basename "$file" .c).o" || return 1
   done
   cc "$copy"/build/*.o "$lib/libnutrameza.a" -lsqlite3 -lpq -lpthread -o "$copy/test" || return 1

@@ -44,7 +44,8 @@ static void wrong_names(void)
     IS(nutrameza_store_open(NULL, "w", 0, NULL, NULL), NUTRAMEZA_STORE_USAGE);
     IS(nutrameza_store_make(NULL), NUTRAMEZA_STORE_USAGE);
     for (unsigned number = 0; number < 256; number++)
-        MUST((strcmp(nutrameza_store_word_of(number), "unknown") != 0) == (number <= 24 || (number >= 128 && number <= 141)));
+        MUST((strcmp(nutrameza_store_word_of(number), "unknown") != 0) ==
+             (number <= 24 || (number >= 128 && number <= 141)));
 }
 
 static void wrong_images(void)
@@ -60,8 +61,8 @@ static void wrong_images(void)
     IS(nutrameza_store_create(store, ward, image, len, ledger, sizeof ledger), KIT_LINE);
     IS(nutrameza_store_create(store, ward, image, len, NULL, 0), 0);
     IS(nutrameza_store_create(store, ward, image, len, NULL, 0), NUTRAMEZA_STORE_WARD);
-    IS(nutrameza_store_open(store, "a name of more than sixty-three bytes, which no ward can have at all", 0, NULL, NULL),
-       NUTRAMEZA_STORE_USAGE);
+    IS(nutrameza_store_open(store, "a name of more than sixty-three bytes, which no ward can have at all", 0, NULL,
+                            NULL), NUTRAMEZA_STORE_USAGE);
 }
 
 /* usage: wrong use, and a host's day */
@@ -281,8 +282,7 @@ static void numbers_of_users(void)
     nutrameza_store_disconnect(store);
 }
 
-/* A role is withdrawn from somebody who holds it: refused; her windows closed; or put in place, and she is stopped, under
- * limits with everybody who asks. */
+/* A role is withdrawn from somebody who holds it: refused; or her windows are closed, and nobody else's. */
 static void withdrawn(int limits)
 {
     uint64_t stopped = 0, window, others;
@@ -330,6 +330,7 @@ static size_t historic(int limits)
     return 4 * (n + 1);
 }
 
+/* Put in place even so: she is stopped, under limits with everybody who asks. */
 static void stopped_for_good(int limits)
 {
     uint64_t stopped = 0, window, others;
@@ -339,10 +340,11 @@ static void stopped_for_good(int limits)
     others = open_window(ward, 1);
     IS(ask_with(store, 0, window, 1, NULL, &r), 0);
     IS(ask_with(store, 0, window, 8, NULL, &r), 0);
-    IS(nutrameza_store_policy(store, ward, image, historic(limits), NUTRAMEZA_STORE_CLOSING, &stopped), NUTRAMEZA_STORE_STOPS);
+    size_t len = historic(limits);
+    IS(nutrameza_store_policy(store, ward, image, len, NUTRAMEZA_STORE_CLOSING, &stopped), NUTRAMEZA_STORE_STOPS);
     IS(stopped, 1);
     IS(nutrameza_store_show(store, ward, 0, window, &r), 0); /* refused: nothing was closed */
-    IS(nutrameza_store_policy(store, ward, image, historic(limits), NUTRAMEZA_STORE_REGARDLESS, &stopped), 512);
+    IS(nutrameza_store_policy(store, ward, image, len, NUTRAMEZA_STORE_REGARDLESS, &stopped), 512);
     IS(nutrameza_store_open(store, ward, 0, NULL, &r), KIT_LINE);
     IS(ask_with(store, 1, others, 1, NULL, &r), limits ? KIT_LINE + 256 : 0);
     settled(ward); /* the replay gives the same 11 */

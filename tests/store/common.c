@@ -198,6 +198,17 @@ long entries_of_token(const char *ward, const uint8_t *token)
     return c.count;
 }
 
+/* How many of the user's entries around this one have the request's token: no other can, by the key. */
+long entries_near(const char *ward, const record *r, uint64_t order)
+{
+    counting c = {r->token, 0};
+    uint64_t from = order > 20 ? order - 20 : 0;
+    uint64_t returned = nutrameza_store_journal_from(store, ward, r->user, from, 60, count_entry, &c);
+    if (nutrameza_number_of(returned) != 0)
+        die("journal", returned);
+    return c.count;
+}
+
 long entries(const char *ward) { return entries_of_token(ward, NULL); }
 
 static void take_window(void *context, const nutrameza_store_session *s)

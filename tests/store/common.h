@@ -41,6 +41,7 @@ uint64_t open_window(const char *ward, uint64_t user);
 uint64_t short_ask(const char *ward, uint64_t user, uint64_t window, uint64_t lower, nutrameza_store_reply *reply);
 long entries(const char *ward);
 long entries_of_token(const char *ward, const uint8_t *token);
+long entries_near(const char *ward, const record *r, uint64_t order);
 void clear(const char *ward);
 void settled(const char *ward);
 void sql(const char *format, ...);

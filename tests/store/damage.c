@@ -35,8 +35,8 @@ static const char *blob(int byte, size_t count)
     return text;
 }
 
-/* The user is refused at once, everybody who asks under limits too, and so is a new policy; verify tells; mended, all is
- * well, and the mending is on record. */
+/* The user is refused at once, everybody who asks under limits too, and so is a new policy; verify tells; mended, all
+ * is well, and the mending is on record. */
 static void refused_and_mended(int limits, const char *what)
 {
     nutrameza_store_reply r;
@@ -62,13 +62,22 @@ static void refused_and_mended(int limits, const char *what)
     nutrameza_store_disconnect(store);
 }
 
+/* The kept row in the place of user 1's. */
+static void put_back(void)
+{
+    sql("UPDATE line SET nr = (SELECT nr FROM kept), bytes = (SELECT bytes FROM kept), wins = (SELECT wins FROM kept),"
+        " sum = (SELECT sum FROM kept) WHERE ward = %lu AND usr = 1", (unsigned long)id);
+    sql("DROP TABLE kept");
+}
+
 /* A line of zeros is sound, and its history is forgotten: refused by the sum. */
 static void line_changes(int limits)
 {
     static const struct { int byte; size_t count; } made[] = {{0, LINE}, {255, LINE}, {0, LINE - 8}, {0, 0}};
     for (size_t k = 0; k < sizeof made / sizeof *made; k++) {
         fresh(limits);
-        sql("UPDATE line SET bytes = %s WHERE ward = %lu AND usr = 1", blob(made[k].byte, made[k].count), (unsigned long)id);
+        const char *bytes = blob(made[k].byte, made[k].count);
+        sql("UPDATE line SET bytes = %s WHERE ward = %lu AND usr = 1", bytes, (unsigned long)id);
         refused_and_mended(limits, "other bytes");
     }
     fresh(limits);
@@ -81,9 +90,8 @@ static void line_changes(int limits)
     sql("DELETE FROM line WHERE ward = %lu AND usr = 1", (unsigned long)id);
     refused_and_mended(limits, "no line");
     fresh(limits);
-    sql("UPDATE line SET bytes = (SELECT bytes FROM line WHERE ward = %lu AND usr = 0), wins = (SELECT wins FROM line WHERE"
-        " ward = %lu AND usr = 0), nr = 1, sum = (SELECT sum FROM line WHERE ward = %lu AND usr = 0) WHERE ward = %lu AND"
-        " usr = 1", (unsigned long)id, (unsigned long)id, (unsigned long)id, (unsigned long)id);
+    sql("CREATE TABLE kept AS SELECT * FROM line WHERE ward = %lu AND usr = 0", (unsigned long)id);
+    put_back();
     refused_and_mended(limits, "another user's line");
 }
 
@@ -106,9 +114,7 @@ static void set_back(int limits)
     fresh(limits);
     sql("CREATE TABLE kept AS SELECT * FROM line WHERE ward = %lu AND usr = 1", (unsigned long)id);
     IS(ask_of(1, window), 0);
-    sql("UPDATE line SET nr = (SELECT nr FROM kept), bytes = (SELECT bytes FROM kept), wins = (SELECT wins FROM kept),"
-        " sum = (SELECT sum FROM kept) WHERE ward = %lu AND usr = 1", (unsigned long)id);
-    sql("DROP TABLE kept");
+    put_back();
     IS(ask_of(1, window), NUTRAMEZA_STORE_DAMAGED + 256 * 2);
     IS(nutrameza_number_of(nutrameza_store_verify(store, ward, &report)), NUTRAMEZA_STORE_DAMAGED);
     IS(nutrameza_store_mend(store, ward, 1, &report), 256);
@@ -140,8 +146,10 @@ static void journal_changes(int limits)
     found_by_verify(limits, "missing or out of order", "DELETE FROM journal WHERE ward = %lu AND usr = 1 AND nr = 2");
     found_by_verify(limits, "missing", "DELETE FROM journal WHERE ward = %lu AND usr = 1 AND nr = 3");
     found_by_verify(limits, "missing", "DELETE FROM journal WHERE ward = %lu AND usr = 1");
-    found_by_verify(limits, "another number", "UPDATE journal SET returned = 20 WHERE ward = %lu AND usr = 1 AND nr = 2");
-    found_by_verify(limits, "another answer", "UPDATE journal SET answer = NULL WHERE ward = %lu AND usr = 1 AND nr = 2");
+    found_by_verify(limits, "another number",
+                    "UPDATE journal SET returned = 20 WHERE ward = %lu AND usr = 1 AND nr = 2");
+    found_by_verify(limits, "another answer",
+                    "UPDATE journal SET answer = NULL WHERE ward = %lu AND usr = 1 AND nr = 2");
     found_by_verify(limits, "not in the list", "DELETE FROM session WHERE ward = %lu AND usr = 1");
     found_by_verify(limits, "is not open", "INSERT INTO session VALUES(%lu, 1, 9999, 'h', 0)");
     if (limits)
@@ -163,7 +171,7 @@ static void image_changes(int limits)
     nutrameza_store_disconnect(store);
 }
 
-/* A line of ones whose sum was made to fit: the kit's own 11, which a replay counts as an incident once it is mended. */
+/* A line of ones whose sum was made to fit: the kit's own 11, for a replay an incident once it is mended. */
 static void told_while_damaged(int limits)
 {
     uint8_t state[STATE];

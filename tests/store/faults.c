@@ -99,7 +99,7 @@ static void answered_once(const char *ward, const record *r)
 {
     nutrameza_store_reply reply;
     IS(nutrameza_number_of(insist(ward, r, &reply)), 0);
-    IS((uint64_t)entries_of_token(ward, r->token), 1);
+    IS((uint64_t)entries_near(ward, r, reply.order), 1);
     if (r->call == OPEN || r->call == ADOPT)
         IS(nutrameza_store_close(store, ward, r->user, reply.window, NULL, NULL), 0);
     if (r->call == SHORT_ASK)
@@ -235,7 +235,7 @@ static void control(const char *path, int at, const char *mode)
     rename(text, path);
 }
 
-/* One connection through the proxy, cut at a message; 0 if the call had no such message. Told: what the call answered. */
+/* One connection through the proxy, cut at a message; 0 if the call had no such message. Told: what was answered. */
 static int cut_at(const char *ward, const record *r, const char *path, int at, const char *mode, uint64_t *told)
 {
     nutrameza_store_reply reply;
@@ -254,8 +254,8 @@ static int cut_at(const char *ward, const record *r, const char *path, int at, c
     return was_cut;
 }
 
-/* cuts WARD CONTROL CRASHES: the connection cut before, after and behind the answer of every message of an ask; where the
- * commit was done though the answer was lost, the record is still there after a crash of the server */
+/* cuts WARD CONTROL CRASHES: the connection cut before, after and behind the answer of every message of an ask; where
+ * the commit was done though the answer was lost, the record is still there after a crash of the server */
 int test_cuts(char **words)
 {
     static const char *const modes[] = {"before", "after", "answered"};
@@ -314,6 +314,7 @@ static void unfit(const char *why)
     nutrameza_store *s = NULL;
     IS(nutrameza_store_connect(name, "h", &s), NUTRAMEZA_STORE_UNFIT);
     MUST(strstr(nutrameza_store_error(s), why) != NULL);
+    IS(nutrameza_store_make(s), NUTRAMEZA_STORE_USAGE);
     nutrameza_store_disconnect(s);
 }
 
