@@ -63,6 +63,33 @@ uint64_t nms_load(nutrameza_store *s, uint64_t version)
     return 0;
 }
 
+static void exchange(void *one, void *two, size_t count)
+{
+    for (uint8_t *a = one, *b = two; count > 0; count--, a++, b++) {
+        uint8_t kept = *a;
+        *a = *b;
+        *b = kept;
+    }
+}
+
+/* Exchanges the ward in use for the one that is named; where that was not kept, for the one that was left first. */
+static void turn_to(nutrameza_store *s, const char *ward)
+{
+    kept_ward *k = NULL;
+    for (size_t at = 0; at < KEPT && k == NULL; at++)
+        if (strcmp(s->kept[at].ward, ward) == 0)
+            k = &s->kept[at];
+    if (k == NULL) {
+        k = &s->kept[s->next++ % KEPT];
+        memcpy(k->ward, ward, strlen(ward) + 1);
+        k->id = 0;
+        k->policy.len = 0;
+    }
+    exchange(k->ward, s->ward, sizeof s->ward);
+    exchange(&k->id, &s->id, sizeof s->id);
+    exchange(&k->policy, &s->policy, sizeof s->policy);
+}
+
 /* One use of a handle at a time, in the process that connected it; the lines of the last call are forgotten. */
 uint64_t nms_enter(nutrameza_store *s, const char *ward)
 {
@@ -74,11 +101,8 @@ uint64_t nms_enter(nutrameza_store *s, const char *ward)
     memset(&s->lines, 0, sizeof s->lines);
     if (!s->usable)
         return nms_leave(s, NUTRAMEZA_STORE_USAGE);
-    if (strcmp(s->ward, ward) == 0)
-        return 0;
-    s->id = 0;
-    s->policy.len = 0;
-    memcpy(s->ward, ward, strlen(ward) + 1);
+    if (strcmp(s->ward, ward) != 0)
+        turn_to(s, ward);
     return 0;
 }
 

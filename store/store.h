@@ -17,6 +17,7 @@ enum {
     ANSWER = NUTRAMEZA_ANSWER_BYTES,
     TOKEN_BYTES = NUTRAMEZA_STORE_TOKEN_BYTES,
     NAME = 64,
+    KEPT = 8,
     TRIES = 8
 };
 
@@ -52,12 +53,21 @@ typedef struct {
     int found;
 } ward_row;
 
+/* A ward by name, with what never changes: its number, 0 if it is not known, and an image by its version. */
+typedef struct {
+    char ward[NAME];
+    uint64_t id;
+    policy policy;
+} kept_ward;
+
 struct nutrameza_store {
     engine *engine;
     char host[NAME], ward[NAME];
     uint64_t id; /* of the ward that is named, 0 for none */
     policy policy;
     lines lines;
+    kept_ward kept[KEPT]; /* the wards that the handle was used for before */
+    size_t next;
     char words[400];
     uint8_t token[TOKEN_BYTES]; /* the last one that was made */
     int in_use, usable, unmade; /* unmade: the tables are not there */

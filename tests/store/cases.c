@@ -282,6 +282,35 @@ static void numbers_of_users(void)
     nutrameza_store_disconnect(store);
 }
 
+/* One handle for more wards than it keeps: each call is under its ward's own policy, a changed one too. */
+static void many_wards(void)
+{
+    enum { WARDS = 11 };
+    char names[WARDS][60];
+    nutrameza_store_reply r;
+    fresh("many", 0, 2);
+    nutrameza_store *other = another("other");
+    for (int k = 0; k < WARDS; k++) {
+        snprintf(names[k], sizeof names[k], "%s-%d", ward, k);
+        size_t len = make_image(k % 2, NOBODY, (unsigned)k + 1, 0);
+        IS(nutrameza_store_create(store, names[k], image, len, NULL, 0), 0);
+    }
+    for (int round = 0; round < 3; round++)
+        for (int k = 0; k < WARDS; k++) {
+            uint64_t last = (uint64_t)k;
+            IS(nutrameza_number_of(nutrameza_store_open(other, names[k], last, NULL, &r)), 0);
+            IS(r.version, round + 1);
+            IS(nutrameza_store_open(other, names[k], last + 1, NULL, NULL), KIT_PERSON);
+            IS(nutrameza_store_show(other, names[k], last, r.window, &r), 0);
+            size_t len = make_image((k + round) % 3 == 0, NOBODY, (unsigned)k + 1, 0);
+            IS(nutrameza_number_of(nutrameza_store_policy(store, names[k], image, len, 0, NULL)), 0);
+        }
+    for (int k = 0; k < WARDS; k++)
+        settled(names[k]);
+    nutrameza_store_disconnect(other);
+    nutrameza_store_disconnect(store);
+}
+
 /* A role is withdrawn from somebody who holds it: refused; or her windows are closed, and nobody else's. */
 static void withdrawn(int limits)
 {
@@ -356,6 +385,7 @@ int test_policy(char **words)
 {
     (void)words;
     numbers_of_users();
+    many_wards();
     for (int limits = 0; limits < 2; limits++) {
         withdrawn(limits);
         stopped_for_good(limits);

@@ -25,8 +25,8 @@ for engine in lite post; do
         for kit in with without; do
           store=$lite.$kit
           if [ "$engine" = post ]; then
-            psql -qX "$post" -c "CREATE DATABASE $kit" > /dev/null 2>&1
-            store="${post/\/postgres\?//$kit?}"
+            psql -qX "$post" -c "CREATE DATABASE ${kit}_kit" > /dev/null 2>&1
+            store="${post/\/postgres\?//${kit}_kit?}"
           fi
           printf '| %s | %s | %s | %s | %s | %s |\n' "$engine" "$([ $limits = 1 ] && echo limits || echo none)" "$wards" "$clients" "$kit" \
             "$("$folder/${kit}_kit" "$store" "$wards" "$limits" "$clients" "$seconds" 2>&1)"
@@ -36,8 +36,8 @@ for engine in lite post; do
   done
 done
 "$folder/with_kit" "$lite.with" verify free-0
-"$folder/with_kit" "${post/\/postgres\?//with?}" verify free-0
-"$folder/with_kit" "${post/\/postgres\?//with?}" verify limited-0
-psql -AtqX "${post/\/postgres\?//with?}" -c "SELECT 'bytes an entry, keys included: ' || pg_total_relation_size('journal') / count(*) FROM journal" \
+"$folder/with_kit" "${post/\/postgres\?//with_kit?}" verify free-0
+"$folder/with_kit" "${post/\/postgres\?//with_kit?}" verify limited-0
+psql -AtqX "${post/\/postgres\?//with_kit?}" -c "SELECT 'bytes an entry, keys included: ' || pg_total_relation_size('journal') / count(*) FROM journal" \
   -c "SELECT 'bytes a line, keys included: ' || pg_total_relation_size('line') / count(*) FROM line"
 "$root/tests/store/server.sh" stop "$folder/pg"
