@@ -95,7 +95,7 @@ int test_usage(char **words)
     IS(nutrameza_store_close(store, ward, 0, r.window, NULL, &r2), 0);
     IS(nutrameza_store_show(store, ward, 0, r.window, &r2), KIT_CLOSED);
     settled(ward);
-    nutrameza_store_disconnect(store);
+    hang_up();
     return wrong;
 }
 
@@ -141,7 +141,7 @@ static void repeats_of(int limits)
     IS(entries_of_token(ward, t[1]), 1);
     settled(ward);
     IS(store->retried, 0);
-    nutrameza_store_disconnect(store);
+    hang_up();
 }
 
 /* A repeat after a release, and after a policy change; the token that the library makes. */
@@ -163,7 +163,7 @@ static void repeats_over_changes(void)
     IS(ask_with(store, 0, r.window, 1, t, &r3), NUTRAMEZA_STORE_OVERTAKEN);
     nutrameza_store_disconnect(other);
     settled(ward);
-    nutrameza_store_disconnect(store);
+    hang_up();
 }
 
 /* repeats: what a token tells, on wards with and without limits */
@@ -245,7 +245,7 @@ int test_windows(char **words)
         adopted(other, host);
         settled(ward);
         nutrameza_store_disconnect(other);
-        nutrameza_store_disconnect(store);
+        hang_up();
     }
     return wrong;
 }
@@ -279,7 +279,7 @@ static void numbers_of_users(void)
     IS(ask_with(other, 63, r.window, 4, NULL, &r2), 0);
     settled(ward);
     nutrameza_store_disconnect(other);
-    nutrameza_store_disconnect(store);
+    hang_up();
 }
 
 /* One handle for more wards than it keeps: each call is under its ward's own policy, a changed one too. */
@@ -308,7 +308,7 @@ static void many_wards(void)
     for (int k = 0; k < WARDS; k++)
         settled(names[k]);
     nutrameza_store_disconnect(other);
-    nutrameza_store_disconnect(store);
+    hang_up();
 }
 
 /* A role is withdrawn from somebody who holds it: refused; or her windows are closed, and nobody else's. */
@@ -335,7 +335,7 @@ static void withdrawn(int limits)
     IS(nutrameza_store_close(store, ward, 0, window, NULL, &r), 0);
     IS(change(limits, DOCTOR, 4, NUTRAMEZA_STORE_IF_NONE, &stopped), 1024); /* the past stops nobody here */
     settled(ward);
-    nutrameza_store_disconnect(store);
+    hang_up();
 }
 
 /* An image with an ms-hmer exclusion of Doctor and Nurse, which a past with both breaks for good. */
@@ -377,7 +377,7 @@ static void stopped_for_good(int limits)
     IS(nutrameza_store_open(store, ward, 0, NULL, &r), KIT_LINE);
     IS(ask_with(store, 1, others, 1, NULL, &r), limits ? KIT_LINE + 256 : 0);
     settled(ward); /* the replay gives the same 11 */
-    nutrameza_store_disconnect(store);
+    hang_up();
 }
 
 /* policy: changes between two calls of everybody */
@@ -421,7 +421,7 @@ int test_import(char **words)
     IS(nutrameza_store_open(store, ward, 1, NULL, &r), 0);
     clear(ward);
     settled(ward);
-    nutrameza_store_disconnect(store);
+    hang_up();
     return wrong;
 }
 
@@ -465,7 +465,7 @@ int test_journal(char **words)
     IS(nutrameza_store_policies(store, ward, count_image, &bytes), 0);
     IS(bytes, len);
     settled(ward);
-    nutrameza_store_disconnect(store);
+    hang_up();
     return wrong;
 }
 
@@ -520,7 +520,7 @@ int test_cut(char **words)
     some_calls(2, 2500);
     IS(nutrameza_store_verify_watched(store, ward, &watch, &report), NUTRAMEZA_STORE_ENDED);
     IS((uint64_t)steps, 2);
-    nutrameza_store_disconnect(store);
+    hang_up();
     return wrong;
 }
 

@@ -92,6 +92,12 @@ void connect_named(const char *host)
     store = another(host);
 }
 
+void hang_up(void)
+{
+    nutrameza_store_disconnect(store);
+    store = NULL;
+}
+
 void connect_as(const char *what, int n)
 {
     char host[60];

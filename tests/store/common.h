@@ -32,6 +32,7 @@ double now(void);
 void nap(double seconds);
 void connect_as(const char *what, int n);
 void connect_named(const char *host);
+void hang_up(void);
 nutrameza_store *another(const char *host);
 size_t make_image(int limits, unsigned without, unsigned users, size_t words);
 void make_ward(const char *ward, int limits);

@@ -59,7 +59,7 @@ static void refused_and_mended(int limits, const char *what)
     IS(ask_of(0, 8), 0);
     if (wrong)
         printf("after: %s\n", what);
-    nutrameza_store_disconnect(store);
+    hang_up();
 }
 
 /* The kept row in the place of user 1's. */
@@ -104,7 +104,7 @@ static void first_line_missing(int limits)
     IS(nutrameza_store_open(store, ward, 2, NULL, &r), NUTRAMEZA_STORE_DAMAGED + 256 * 3);
     IS(nutrameza_store_mend(store, ward, 2, NULL), 256);
     IS(nutrameza_store_open(store, ward, 2, NULL, &r), 0);
-    nutrameza_store_disconnect(store);
+    hang_up();
 }
 
 /* A row of an hour ago has its right sum: the journal is ahead of it. */
@@ -120,7 +120,7 @@ static void set_back(int limits)
     IS(nutrameza_store_mend(store, ward, 1, &report), 256);
     IS(ask_of(1, window), 0);
     IS(nutrameza_store_verify(store, ward, &report), 0);
-    nutrameza_store_disconnect(store);
+    hang_up();
 }
 
 /* What only a verify can find: it says so in words, and a journal that does not replay mends nothing. */
@@ -138,7 +138,7 @@ static void found_by_verify(int limits, const char *words, const char *format)
     if (strstr(format, "journal") != NULL)
         IS(nutrameza_number_of(nutrameza_store_mend(store, ward, 1, &report)), NUTRAMEZA_STORE_DAMAGED);
     IS(nutrameza_number_of(nutrameza_store_cut(store, ward, 0, &report)), NUTRAMEZA_STORE_DAMAGED);
-    nutrameza_store_disconnect(store);
+    hang_up();
 }
 
 static void journal_changes(int limits)
@@ -162,13 +162,13 @@ static void image_changes(int limits)
     nutrameza_store_reply r;
     fresh(limits);
     sql("UPDATE policy SET image = %s WHERE ward = %lu", blob(0, 16), (unsigned long)id);
-    nutrameza_store_disconnect(store);
+    hang_up();
     connect_as("damage", 99);
     IS(nutrameza_store_open(store, ward, 1, NULL, &r), NUTRAMEZA_STORE_DAMAGED);
     sql("DELETE FROM policy WHERE ward = %lu", (unsigned long)id);
     IS(nutrameza_store_open(store, ward, 1, NULL, &r), NUTRAMEZA_STORE_DAMAGED);
     IS(nutrameza_store_verify(store, ward, NULL), NUTRAMEZA_STORE_DAMAGED);
-    nutrameza_store_disconnect(store);
+    hang_up();
 }
 
 /* A line of ones whose sum was made to fit: the kit's own 11, for a replay an incident once it is mended. */
@@ -189,7 +189,7 @@ static void told_while_damaged(int limits)
     IS(ask_of(0, 8), 0);
     IS(nutrameza_store_verify(store, ward, &report), 0);
     IS(report.incidents, limits ? 3 : 2);
-    nutrameza_store_disconnect(store);
+    hang_up();
 }
 
 /* damage: rows changed, cut, deleted, exchanged and set back */

@@ -106,6 +106,14 @@ static void answered_once(const char *ward, const record *r)
         IS(nutrameza_store_close(store, ward, r->user, r->window, NULL, NULL), 0);
 }
 
+/* No window of a test before is open. */
+static void start_clear(const char *ward)
+{
+    connect_as("clear", 0);
+    clear(ward);
+    hang_up();
+}
+
 static const uint64_t sorts[] = {OPEN, SHORT_ASK, ADOPT, CLOSE};
 
 /* A child makes the request and is killed at a step; 0 if the request had no such step. */
@@ -207,6 +215,7 @@ int test_server(char **words)
 {
     int wanted = atoi(words[2]), more = 1, steps = 0;
     how = words[1];
+    start_clear(words[0]);
     for (; more; wanted += atoi(words[3]), steps++) {
         nutrameza_store_reply reply;
         connect_as("server", wanted);
@@ -217,7 +226,7 @@ int test_server(char **words)
         s->wanted = -1;
         IS(r.returned, 0);
         answered_once(words[0], &r);
-        nutrameza_store_disconnect(store);
+        hang_up();
     }
     connect_as("server", 0);
     printf("%d times\n", steps - 1);
@@ -248,7 +257,7 @@ static int cut_at(const char *ward, const record *r, const char *path, int at, c
     *told = issue(ward, r, &reply);
     int was_cut = access(path, F_OK) != 0;
     remove(path);
-    nutrameza_store_disconnect(store);
+    hang_up();
     store = kept;
     name = direct;
     return was_cut;
@@ -261,6 +270,7 @@ int test_cuts(char **words)
     static const char *const modes[] = {"before", "after", "answered"};
     int count[3] = {0, 0, 0}, unknown = 0, crashes = 0;
     how = "crash";
+    start_clear(words[0]);
     for (int mode = 0; mode < 3; mode++) {
         int more = 1, left = atoi(words[2]);
         for (int at = 0; more; at++, count[mode]++) {
@@ -281,7 +291,7 @@ int test_cuts(char **words)
                 crashes++;
             }
             answered_once(words[0], &r);
-            nutrameza_store_disconnect(store);
+            hang_up();
         }
     }
     printf("%d, %d and %d cuts, %d unknown, %d of them done, and the server crashed\n", count[0], count[1], count[2],
@@ -297,6 +307,7 @@ int test_rolled(char **words)
 {
     uint64_t told;
     nutrameza_store_reply reply;
+    start_clear(words[0]);
     connect_as("rolled", 0);
     record r = prepared(words[0], SHORT_ASK, 4);
     MUST(cut_at(words[0], &r, words[1], 0, "rollback", &told));
@@ -356,6 +367,7 @@ int test_durable(char **words)
 {
     nutrameza_store_reply reply, after;
     how = "crash";
+    start_clear(words[0]);
     connect_as("durable", 0);
     for (int round = 0; round < 2; round++) {
         record r = prepared(words[0], SHORT_ASK, (uint64_t)round);

@@ -9,7 +9,7 @@ static int test_wards(char **words)
     connect_as("wards", 0);
     make_ward("free", 0);
     make_ward("limited", 1);
-    nutrameza_store_disconnect(store);
+    hang_up();
     return wrong;
 }
 
@@ -22,7 +22,7 @@ static int test_makers(char **words)
             connect_as("maker", k);
             make_ward("shared", 0);
             open_window("shared", (uint64_t)k);
-            nutrameza_store_disconnect(store);
+            hang_up();
             _exit(wrong != 0);
         }
     IS((uint64_t)all_well(8), 0);

@@ -91,7 +91,7 @@ static void worker(const char *ward, int n, long calls, const char *log, pid_t d
         __sync_fetch_and_add(counts + REQUESTS, 1);
     }
     __sync_fetch_and_add(counts + RETRIED, (long)store->retried);
-    nutrameza_store_disconnect(store);
+    hang_up();
     exit(0);
 }
 
@@ -112,7 +112,7 @@ int test_stress(char **words)
     connect_as("stress", 0);
     clear(words[0]);
     long before = entries(words[0]);
-    nutrameza_store_disconnect(store);
+    hang_up();
     for (int k = 0; k < n; k++)
         start_worker(words[0], k, atol(words[2]), words[3], 0);
     IS((uint64_t)all_well(n), 0);

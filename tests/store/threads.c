@@ -55,7 +55,7 @@ int test_threads(char **words)
     connect_as("threads", 0);
     settled("free");
     settled("limited");
-    nutrameza_store_disconnect(store);
+    hang_up();
     return wrong;
 }
 
@@ -77,7 +77,7 @@ int test_one_handle(char **words)
     MUST(used > 0 && done > 0);
     clear("free");
     settled("free");
-    nutrameza_store_disconnect(store);
+    hang_up();
     return wrong;
 }
 
@@ -97,7 +97,7 @@ int test_fork(char **words)
     if (fork() == 0) {
         IS(nutrameza_store_open(store, "free", 9, NULL, NULL), NUTRAMEZA_STORE_USAGE);
         IS(nutrameza_store_make(store), NUTRAMEZA_STORE_USAGE);
-        nutrameza_store_disconnect(store);
+        hang_up();
         fflush(stdout);
         _exit(wrong);
     }
@@ -105,7 +105,7 @@ int test_fork(char **words)
     IS(nutrameza_store_sessions(store, "free", from_within, &within), 0);
     IS(within, NUTRAMEZA_STORE_USAGE);
     IS(nutrameza_store_close(store, "free", 9, window, NULL, NULL), 0);
-    nutrameza_store_disconnect(store);
+    hang_up();
     return wrong;
 }
 
@@ -128,6 +128,6 @@ int test_memory(char **words)
     printf("%ld KB, then %ld KB\n", before.ru_maxrss, after.ru_maxrss);
     MUST(after.ru_maxrss - before.ru_maxrss < 3000);
     clear("free");
-    nutrameza_store_disconnect(store);
+    hang_up();
     return wrong;
 }
