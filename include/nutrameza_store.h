@@ -118,7 +118,8 @@ uint64_t nutrameza_store_make(nutrameza_store *store);
 const char *nutrameza_store_error(const nutrameza_store *store);
 const char *nutrameza_store_word_of(unsigned number);
 
-/* A ward under a policy: with a zero ledger, or with that of a file, 80 (widened) or 144 bytes a user. */
+/* A ward under a policy, its name 1 to 63 bytes: with a zero ledger, or with that of a file, 80 (widened) or 144 bytes
+ * a user. */
 uint64_t nutrameza_store_create(nutrameza_store *store, const char *ward, const uint8_t *image, size_t image_len,
                                 const uint8_t *ledger, size_t ledger_len);
 

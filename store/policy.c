@@ -91,7 +91,7 @@ static int named_already(nutrameza_store *s)
 uint64_t nutrameza_store_create(nutrameza_store *s, const char *ward, const uint8_t *image, size_t image_len,
                                 const uint8_t *ledger, size_t ledger_len)
 {
-    uint64_t returned = nutrameza_check(image, image_len);
+    uint64_t returned = ward == NULL || *ward == 0 ? NUTRAMEZA_STORE_USAGE : nutrameza_check(image, image_len);
     if (returned || (returned = nms_enter(s, ward)) != 0)
         return returned;
     policy *p = &s->policy;

@@ -242,7 +242,7 @@ case ${1:-} in
         it "post: crashing, ward $w" crashing $w "$2"
         it "post: cuts, ward $w" on post cuts $w "$control" 100
         it "post: killed server at every step, ward $w" on post server $w kill 0 1
-        for step in 0 2 4 6 8 10; do it "post: a client stopped at step $step, ward $w" on post stopped $w $step; done
+        for step in 0 2 4 6 8; do it "post: a client stopped at step $step, ward $w" on post stopped $w $step; done
       done ;;
     esac
     it 'lite: no memory grows' on lite memory 100000

@@ -54,6 +54,8 @@ static void wrong_images(void)
     size_t len = make_image(0, NOBODY, 2, 0);
     snprintf(ward, sizeof ward, "usage-%lx", (unsigned long)random64());
     IS(nutrameza_store_open(store, ward, 0, NULL, NULL), NUTRAMEZA_STORE_WARD);
+    IS(nutrameza_store_create(store, "", image, len, NULL, 0), NUTRAMEZA_STORE_USAGE);
+    IS(nutrameza_store_create(store, NULL, image, len, NULL, 0), NUTRAMEZA_STORE_USAGE);
     IS(nutrameza_store_create(store, ward, image, len - 1, NULL, 0), 1);
     IS(nutrameza_number_of(nutrameza_store_create(store, ward, image, len - 4, NULL, 0)), 3);
     IS(nutrameza_store_create(store, ward, image, len, ledger, 100), KIT_LEDGER);
