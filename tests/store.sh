@@ -1,8 +1,8 @@
 #!/usr/bin/env bash
-# The store on SQLite and on a PostgreSQL server of its own, below a temporary folder: the ten groups of tests, faults at every step of a
-# call, sanitizers, and wrong versions, each of which a test must refuse. It needs libnutrameza.a (target/staticlib, or the folder that
-# NUTRAMEZA_LIB names), a C compiler, SQLite and libpq with headers; a part whose program is missing is named in one line and left out.
-# The last line is 'N passed, M failed'.
+# The store on SQLite and on a PostgreSQL server of its own, below a temporary folder: the ten groups of tests, faults
+# at every step of a call, sanitizers, and wrong versions, each of which a test must refuse. It needs libnutrameza.a
+# (target/staticlib, or the folder that NUTRAMEZA_LIB names), a C compiler, SQLite and libpq with headers; a part whose
+# program is missing is named in one line and left out. The last line is 'N passed, M failed'.
 #
 #   tests/store.sh               all of it, as in the gate
 #   tests/store.sh ward          the ward's two windows, raced a thousand times on each engine

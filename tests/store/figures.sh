@@ -1,6 +1,7 @@
 #!/usr/bin/env bash
-# figures.sh FOLDER LIB: the store's figures as rows of a table, with the kit and without it in turn, for 1, 4 and 16 clients over 1 and
-# 100 wards, on SQLite and on a PostgreSQL server, all data below FOLDER; FIGURES seconds each (3). tests/store.sh figures runs it.
+# figures.sh FOLDER LIB: the store's figures as rows of a table, with the kit and without it in turn, for 1, 4 and 16
+# clients over 1 and 100 wards, on SQLite and on a PostgreSQL server, all data below FOLDER; FIGURES seconds each (3).
+# tests/store.sh figures runs it.
 set -u
 root=$(cd "$(dirname "${BASH_SOURCE[0]}")/../.." && pwd)
 folder=$1

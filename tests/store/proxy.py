@@ -1,10 +1,9 @@
 """proxy.py SOCKET SERVER_SOCKET CONTROL: stands between a host and the server and cuts connections.
 
 While the file CONTROL is there its words are the message of a call that the connection is cut at, from 0 (its BEGIN),
-and how: before it is passed on, after that, or once it is answered, with the answer kept back. The call is the next that
-begins to write. The file is removed once the cut is made. The word rollback has the server roll back where it is told to
-commit. The word pool makes the proxy tell another process number than the server's, as poolers do.
-"""
+and how: before it is passed on, after that, or once it is answered, with the answer kept back. The call is the next
+that begins to write. The file is removed once the cut is made. The word rollback has the server roll back where it is
+told to commit. The word pool makes the proxy tell another process number than the server's, as poolers do."""
 import os
 import socket
 import struct

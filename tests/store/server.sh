@@ -1,8 +1,8 @@
 #!/usr/bin/env bash
-# server.sh make|start|stop|crash|kill|up|standby|primary FOLDER: a PostgreSQL server of the tests' own, all of it below FOLDER, on a
-# socket there. As root it runs as the user postgres, or nobody. STORE_SETTINGS takes the place of the settings below. crash: stopped at
-# once and started again; kill: its first process by SIGKILL, likewise; up: started if it is not running; standby and primary: started
-# again as a replica, or not as one.
+# server.sh make|start|stop|crash|kill|up|standby|primary FOLDER: a PostgreSQL server of the tests' own, all of it below
+# FOLDER, on a socket there. As root it runs as the user postgres, or nobody. STORE_SETTINGS takes the place of the
+# settings below. crash: stopped at once and started again; kill: its first process by SIGKILL, likewise; up: started if
+# it is not running; standby and primary: started again as a replica, or not as one.
 set -u
 folder=$2
 
