@@ -12,21 +12,12 @@ use Rattle.asks_clauses.proofs.Standing.{wrote-text}
 use Rattle.asks_clauses.proofs.write_clauses.Statement.{statement}
 use Rattle.asks_clauses.proofs.write_clauses.Tie as tie
 
-write-requires : tie.Need-write-requires
-write-requires c κs =
-    let u = c .before .before .before .before .before .before in
-    let d = u .before .before .before .before .before .before in
-    let m = d .before .before .before .before in
-    let s = m .before .before .before .before .before in
-    (s .pre .0, s .pre .1, s .pre .2)
-
 returns : tie.Need-returns
 unfolding exclusionsIn lineOf
 returns c p x range e g =
     let w = c .before .before in
     let v = w .before .before .before .before .before .before in
-    let h = v .before .before .before .before in
-    let d = h .before .before .before in
+    let d = v .before .before .before in
     let n = d .before in
     let m = n .before .before .before in
     let s = m .before .before .before .before .before in
@@ -34,7 +25,7 @@ returns c p x range e g =
     let few : length (map exclusionOf xs) ≡ 32 = length-map xs exclusionOf ∙ s .pre .3 in
     let i : s .args .request .rules .count ≤ length (map exclusionOf xs) = omega (arith, few, s .pre .2) in
     wrote-text p _ x _ _ _ _ _ (exclusionsIn xs (s .args .request .rules .count)) _ _ _ _ _ _ _ _ _ range e g (n .line-of .ensures) (s .pre .5) i
-    (m .carried .ensures) (d .reduce .ensures .1) (w .write .ensures)
+    (m .carried .ensures) (d .reduce .ensures .1) (rw (d .reduce .ensures .0) at (w .write .ensures))
 
 pub write-clauses-spec : {M : Type 1} → statement M
 write-clauses-spec =
@@ -47,6 +38,6 @@ write-clauses-spec =
     (λ c κs. search needs)
     (λ c. search needs)
     (λ c. search needs)
-    write-requires
+    (λ c κs. search needs)
     (λ c. search needs)
     returns)

@@ -22,8 +22,8 @@ loop-holds c = (omega arith, λ j l. absurd (omega arith))
 
 returns : tie.Need-returns Inv-loop μ-loop
 returns c =
-    let t = c .before .before .before in
-    lowest-at _ _ (search needs) (search needs) _ _ (t .loop-test .taken) (t .before .loop .inv .1) (c .before .lowest-bit .ensures)
+    let t = c .before .before in
+    lowest-at _ _ (search needs) (search needs) _ _ (t .loop-test .taken) (t .before .loop .inv .1) (c .lowest-bit .ensures)
 
 loop-again : tie.Need-loop-again Inv-loop μ-loop
 loop-again c = (omega arith, none-next _ (c .before .before .loop .i) (c .before .before .loop .inv .1) (c .if1 .left))
