@@ -105,28 +105,28 @@ fn said(asked: &Asked) -> Said {
         0 => kept(with_judged(image, |judged| judged.as_ref().map_or_else(|no| no.number + 256 * no.extra as u64, |_| 0)), None),
         1 => {
             let found = loops::find(image, room);
-            kept(found.returned(), found.chain.map(|chain| chain.to_vec()))
+            kept(found.returned(), found.bytes.map(|chain| chain.to_vec()))
         }
         2 => {
             let written = tidy::write(image, room);
-            kept(written.returned(), written.image)
+            kept(written.returned(), written.bytes)
         }
         3 => {
             let filled = turned::table(image, room);
-            kept(filled.returned(), filled.table)
+            kept(filled.returned(), filled.bytes)
         }
         4 | 5 => {
             let filled = turned::turn(if asked.kind == 4 { Way::Turn } else { Way::Unturn }, before, room);
-            kept(filled.returned(), filled.table)
+            kept(filled.returned(), filled.bytes)
         }
         13 => {
             let told = with_judged(image, |judged| stopped::stopped(judged, before, room));
-            kept(told.returned(), told.users.map(|users| users.to_vec()))
+            kept(told.returned(), told.bytes.map(|users| users.to_vec()))
         }
         _ => {
             let way = if asked.kind == 14 { Move::Widen } else { Move::Narrow };
             let carried = with_judged(image, |judged| carry(way, judged, before, room));
-            kept(carried.returned(), carried.target)
+            kept(carried.returned(), carried.bytes)
         }
     }
 }

@@ -50,17 +50,17 @@ fn on_image(rng: &mut Rng, image: &[u8], judged: &Judged) -> String {
     let (number, extra) = judged.as_ref().map_or_else(|refused| (refused.number, refused.extra as u64), |_| (0, 0));
     let mut lines = line("check", number, extra, None);
     let found = loops::find(image, CHAIN);
-    lines += &line("loop", found.number, found.extra, found.chain.as_ref().map(|chain| &chain[..]));
+    lines += &line("loop", found.number, found.extra, found.bytes.as_ref().map(|chain| &chain[..]));
     let room = if rng.one_in(4) { rng.place(image.len() + 1) } else { image.len() };
     let written = tidy::write(image, room);
-    lines += &line(&format!("tidy {room}"), written.number, written.extra, written.image.as_deref());
+    lines += &line(&format!("tidy {room}"), written.number, written.extra, written.bytes.as_deref());
     let table = turned::table(image, TABLE);
-    lines += &line("table", table.number, table.extra, table.table.as_deref());
-    let source = table.table.unwrap_or_else(|| rng.bytes(TABLE));
+    lines += &line("table", table.number, table.extra, table.bytes.as_deref());
+    let source = table.bytes.unwrap_or_else(|| rng.bytes(TABLE));
     let size = if rng.one_in(8) { rng.place(TABLE) } else { TABLE };
     for (name, way) in [("turn", Way::Turn), ("unturn", Way::Unturn)] {
         let turned = turn(way, &source[..size], TABLE);
-        lines += &line(&format!("{name} {}", hex(&source[..size])), turned.number, turned.extra, turned.table.as_deref());
+        lines += &line(&format!("{name} {}", hex(&source[..size])), turned.number, turned.extra, turned.bytes.as_deref());
     }
     lines
 }
@@ -68,7 +68,7 @@ fn on_image(rng: &mut Rng, image: &[u8], judged: &Judged) -> String {
 /// The moves and the stopped call, on ledgers that fit mostly.
 fn on_ledgers(rng: &mut Rng, image: &[u8], judged: &Judged, policy: &Policy, ledger: &[u8]) -> String {
     let told = stopped::stopped(judged, ledger, 8);
-    let mut lines = line("stopped", told.number, told.extra, told.users.as_ref().map(|users| &users[..]));
+    let mut lines = line("stopped", told.number, told.extra, told.bytes.as_ref().map(|users| &users[..]));
     let users = u32::from_le_bytes(image.get(..4).map_or([0; 4], |head| [head[0], head[1], head[2], head[3]])) >> 21 & 127;
     for way in BOTH {
         let (before, after) = way.lines();
@@ -79,7 +79,7 @@ fn on_ledgers(rng: &mut Rng, image: &[u8], judged: &Judged, policy: &Policy, led
         let carried = carry(way, judged, &old, after * users as usize);
         let name = if way == Move::Widen { "widen" } else { "narrow" };
         lines += &format!("old {}\n", hex(&old));
-        lines += &line(name, carried.number, carried.extra, carried.target.as_deref());
+        lines += &line(name, carried.number, carried.extra, carried.bytes.as_deref());
     }
     lines
 }
