@@ -19,6 +19,7 @@
 
 VERSION := $(shell cat VERSION)
 MAJOR := $(firstword $(subst ., ,$(VERSION)))
+dated := $(shell sed -nE 's/^## $(VERSION) \((.*)\)$$/\1/p' CHANGELOG.md)
 PREFIX ?= /usr/local
 NUTRAMEZA_LIB ?= target/staticlib
 RT ?= rt
@@ -74,7 +75,7 @@ $(shared): $(library) include/nutrameza.h shared/version.c VERSION always
 	@cmp -s $@.part $@ && rm $@.part || mv $@.part $@
 
 man:
-	@tools/man_pages docs/REFERENCE.md target/man $(VERSION) $(shell sed -nE 's/^## $(VERSION) \((.*)\)$$/\1/p' CHANGELOG.md)
+	@tools/man_pages docs/REFERENCE.md target/man $(VERSION) $(dated)
 
 # filled FILE: a template of the repository with the prefix and the version put in, to a file below the prefix
 filled = sed -e 's|@PREFIX@|$(prefix)|' -e 's|@VERSION@|$(VERSION)|' -e 's|@MAJOR@|$(MAJOR)|' $(1) > '$(to)/$(2)' && chmod 644 '$(to)/$(2)'

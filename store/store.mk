@@ -1,7 +1,7 @@
 # The store over SQLite and PostgreSQL (docs/STORE.md), for the Makefile of the folder above.
 #
 #   make store           target/store: libnutrameza_store.a, libnutrameza_store.so, nutrameza_store.pc
-#   make install-store   these and the header into PREFIX
+#   make install-store   these, the header and the man page into PREFIX; make uninstall-store takes them away
 #   make ward-store      two windows of one doctor, raced by two processes a thousand times, on both engines, and verify
 #   make store-test      the tests of the store, as in the gate
 #   make soak            the same faults and races for longer (SOAK seconds each, 120)
@@ -21,7 +21,10 @@ store_libs := $(if $(SQLITE),-lsqlite3) $(if $(POSTGRESQL),-lpq)
 store_out ?= target/store
 store_objects := $(store_parts:%=$(store_out)/%.o)
 
-.PHONY: store install-store ward-store store-test soak store-figures
+store_files := lib/libnutrameza_store.a lib/libnutrameza_store.so lib/libnutrameza_store.so.0 include/nutrameza_store.h \
+  lib/pkgconfig/nutrameza_store.pc share/man/man3/nutrameza_store.3
+
+.PHONY: store install-store uninstall-store ward-store store-test soak store-figures
 
 store: $(store_out)/libnutrameza_store.a $(store_out)/libnutrameza_store.so $(store_out)/nutrameza_store.pc
 
@@ -50,6 +53,10 @@ install-store: store install
 	sed -e 's|@PREFIX@|$(prefix)|' -e 's|@VERSION@|$(VERSION)|' -e 's|@LIBS@|$(store_libs)|' store/nutrameza_store.pc.in \
 	  > '$(to)/lib/pkgconfig/nutrameza_store.pc'
 	chmod 644 '$(to)/lib/pkgconfig/nutrameza_store.pc'
+	@tools/man_pages --store docs/STORE.md include/nutrameza_store.h '$(to)/share/man/man3' $(VERSION) $(dated)
+
+uninstall-store:
+	rm -f $(patsubst %,'$(to)/%',$(store_files))
 
 ward-store: store
 	@bash tests/store.sh ward

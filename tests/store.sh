@@ -173,7 +173,12 @@ installed() {
     nm -D --defined-only "$work/prefix/lib/libnutrameza_store.so" | awk '{ print $3 }' | grep -v '^nutrameza_store_' | wc -l | grep -qx 0 &&
     for call in $(sed -nE 's/^(uint64_t|void|const char \*)\*?(nutrameza_store_[a-z_]+)\(.*/\2/p' "$root/include/nutrameza_store.h"); do
       nm -D --defined-only "$work/prefix/lib/libnutrameza_store.so" | grep -q " $call$" || { echo "$call is not there"; return 1; }
+      grep -q "$call(" "$work/prefix/share/man/man3/nutrameza_store.3" || { echo "the man page has no $call"; return 1; }
     done
+}
+removed() {
+  make -s -C "$root" uninstall-store "PREFIX=$work/prefix" "NUTRAMEZA_LIB=$lib" > /dev/null && test -e "$work/prefix/lib/libnutrameza.a" &&
+    ! find "$work/prefix" -name '*nutrameza_store*' | grep .
 }
 example() { # the ten lines, from an install alone: archive and shared library
   local flags="-I$work/prefix/include -L$work/prefix/lib"
@@ -264,8 +269,9 @@ it 'the header compiles by itself as C++17' header c++ c++ c++17
 it 'no function has more than 40 lines' short_functions
 it 'a build without SQLite' alone SQLITE= sqlite3_
 it 'a build without PostgreSQL' alone POSTGRESQL= ' PQ'
-it 'an install has the header, both libraries and pkg-config; the shared one shows the calls of the header alone' installed
+it 'an install has the header, both libraries, pkg-config and the man page; the shared one shows the calls of the header alone' installed
 it 'the ten lines of docs/STORE.md run from an install, over both libraries, and print what is written there' example
+it 'make uninstall-store takes the store away and leaves the kit' removed
 cases lite 30000
 case $engines in *post*)
   it 'a PostgreSQL server is started, on a socket, as another user' "$server" make "$pg"
