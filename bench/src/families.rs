@@ -18,13 +18,13 @@ struct Problem {
     /// In how many roles each permission is.
     holders: u32,
     exclusions: u32,
-    /// Members of an exclusion, and the limit.
+    /// Members of an exclusion, and the n.
     members: usize,
-    limit: u32,
+    n: u32,
     requested: u32,
 }
 
-const BASE: Problem = Problem { roles: 16, permissions: 256, holders: 5, exclusions: 0, members: 8, limit: 3, requested: 10 };
+const BASE: Problem = Problem { roles: 16, permissions: 256, holders: 5, exclusions: 0, members: 8, n: 3, requested: 10 };
 
 /// A family: its name in 003, its problems, and the pairs of aims that it is asked with.
 struct Family {
@@ -44,7 +44,7 @@ fn posed(rng: &mut Rng, problem: Problem) -> (Vec<u8>, Vec<u8>) {
     }
     for _ in 0..problem.exclusions {
         let members = draft.some_roles(rng, problem.members);
-        draft.entries.push(words::exclusion(0, problem.limit.min(members.len() as u32), &members));
+        draft.entries.push(words::exclusion(0, problem.n.min(members.len() as u32), &members));
     }
     rng.shuffle(&mut draft.entries);
     let mut lower = vec![0u8; 32];
@@ -87,10 +87,10 @@ fn table_3() -> Vec<Family> {
         over("RPhat_bigPlb", LOW, [2, 4, 6, 8, 10, 12], |holders| Problem { holders, requested: 10, ..BASE }),
         over("RPhat_medPlb", MIN, [2, 4, 6, 8, 10, 12], |holders| Problem { holders, requested: 4, ..BASE }),
         over("RPhat_smallPlb", MIN, [2, 4, 6, 8, 10, 12], |holders| Problem { holders, requested: 1, ..BASE }),
-        over("Pub", MIN, [64, 128, 192, 256], |permissions| Problem { permissions, exclusions: 32, limit: 4, ..BASE }),
-        over("C", LOW, [0, 4, 8, 16, 32], |exclusions| Problem { exclusions, limit: 4, ..BASE }),
+        over("Pub", MIN, [64, 128, 192, 256], |permissions| Problem { permissions, exclusions: 32, n: 4, ..BASE }),
+        over("C", LOW, [0, 4, 8, 16, 32], |exclusions| Problem { exclusions, n: 4, ..BASE }),
         over("rshat", MIN, [5, 8, 12, 16], |members| Problem { members: members as usize, exclusions: 10, ..BASE }),
-        over("that", MIN, [2, 4, 6, 8], |limit| Problem { limit, exclusions: 32, ..BASE }),
+        over("that", MIN, [2, 4, 6, 8], |n| Problem { n, exclusions: 32, ..BASE }),
     ]
 }
 
@@ -99,20 +99,20 @@ fn table_4() -> Vec<Family> {
     const MAX: &[(u64, u64)] = &[(2, 0)];
     const HIGH: &[(u64, u64)] = &[(2, 0), (2, 2), (2, 1), (1, 2), (0, 2)];
     vec![
-        over("Pub_bigRCt", MAX, [64, 128, 192, 256], |permissions| Problem { permissions, exclusions: 32, limit: 4, ..BASE }),
+        over("Pub_bigRCt", MAX, [64, 128, 192, 256], |permissions| Problem { permissions, exclusions: 32, n: 4, ..BASE }),
         over("Pub_smallR", MAX, [64, 128, 256], |permissions| Problem {
             permissions,
             roles: 10,
             exclusions: 32,
-            limit: 4,
+            n: 4,
             ..BASE
         }),
-        over("Pub_smallCt", HIGH, [64, 128, 256], |permissions| Problem { permissions, exclusions: 5, limit: 2, ..BASE }),
+        over("Pub_smallCt", HIGH, [64, 128, 256], |permissions| Problem { permissions, exclusions: 5, n: 2, ..BASE }),
         over("RPhat_bigRCt", MAX, [4, 8, 12], |holders| Problem {
             holders,
             exclusions: 32,
             members: 12,
-            limit: 6,
+            n: 6,
             requested: 4,
             ..BASE
         }),
@@ -120,18 +120,18 @@ fn table_4() -> Vec<Family> {
             holders,
             exclusions: 5,
             members: 12,
-            limit: 8,
+            n: 8,
             requested: 4,
             ..BASE
         }),
-        over("C_bigRPub", HIGH, [0, 8, 16, 32], |exclusions| Problem { exclusions, limit: 4, ..BASE }),
-        over("C_smallR", MAX, [4, 16, 32], |exclusions| Problem { exclusions, limit: 4, roles: 10, ..BASE }),
-        over("C_smallRpPub", MAX, [4, 16, 32], |exclusions| Problem { exclusions, limit: 4, permissions: 50, ..BASE }),
-        over("that_bigRpPub", MAX, [2, 4, 6, 8], |limit| Problem { limit, exclusions: 32, ..BASE }),
-        over("that_smallR", MAX, [2, 4, 6, 8], |limit| Problem { limit, exclusions: 32, roles: 10, ..BASE }),
+        over("C_bigRPub", HIGH, [0, 8, 16, 32], |exclusions| Problem { exclusions, n: 4, ..BASE }),
+        over("C_smallR", MAX, [4, 16, 32], |exclusions| Problem { exclusions, n: 4, roles: 10, ..BASE }),
+        over("C_smallRpPub", MAX, [4, 16, 32], |exclusions| Problem { exclusions, n: 4, permissions: 50, ..BASE }),
+        over("that_bigRpPub", MAX, [2, 4, 6, 8], |n| Problem { n, exclusions: 32, ..BASE }),
+        over("that_smallR", MAX, [2, 4, 6, 8], |n| Problem { n, exclusions: 32, roles: 10, ..BASE }),
         over("rshat_bigRCt", MAX, [5, 8, 12, 16], |members| Problem { members: members as usize, exclusions: 10, ..BASE }),
         over("rshat_smallRCt", MAX, [5, 8, 12, 16], |members| Problem { members: members as usize, exclusions: 1, ..BASE }),
-        over("Plb", MAX, [10, 40, 100], |requested| Problem { requested, exclusions: 20, members: 5, limit: 2, ..BASE }),
+        over("Plb", MAX, [10, 40, 100], |requested| Problem { requested, exclusions: 20, members: 5, n: 2, ..BASE }),
     ]
 }
 

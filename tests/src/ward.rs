@@ -16,9 +16,9 @@ pub fn image_a() -> Vec<u8> {
 }
 
 /// Image A with its exclusion made of this kind and limit.
-pub fn image_a_with(kind: u32, limit: u32) -> Vec<u8> {
+pub fn image_a_with(kind: u32, n: u32) -> Vec<u8> {
     let mut image = A;
-    image[9] = words::exclusion_head(kind, limit, 2);
+    image[9] = words::exclusion_head(kind, n, 2);
     words::rebalance(&mut image);
     words::bytes(&image)
 }
@@ -344,9 +344,9 @@ fn obstacle(session: u64, lower: u64, upper: u64) -> Call {
 }
 
 /// Image A with another exclusion of its two roles behind its own.
-fn image_a_and(kind: u32, limit: u32) -> Vec<u8> {
+fn image_a_and(kind: u32, n: u32) -> Vec<u8> {
     let mut image = A[..12].to_vec();
-    image.extend(words::exclusion(kind, limit, &[0, 1]));
+    image.extend(words::exclusion(kind, n, &[0, 1]));
     words::bytes(&words::closed(image))
 }
 

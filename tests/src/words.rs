@@ -19,9 +19,9 @@ pub fn senior(senior: u32, junior: u32) -> u32 {
     (4 << 28) + (senior << 22) + (junior << 16)
 }
 
-/// The first word of an exclusion: its kind (01: which), its limit (n) and its size (m).
-pub fn exclusion_head(kind: u32, limit: u32, size: u32) -> u32 {
-    (5 << 28) + (kind << 26) + (limit << 19) + (size << 12)
+/// The first word of an exclusion: its kind (01: which), its n and its size (m).
+pub fn exclusion_head(kind: u32, n: u32, size: u32) -> u32 {
+    (5 << 28) + (kind << 26) + (n << 19) + (size << 12)
 }
 
 pub fn member(role: u32) -> u32 {
@@ -29,8 +29,8 @@ pub fn member(role: u32) -> u32 {
 }
 
 /// An exclusion with its member words.
-pub fn exclusion(kind: u32, limit: u32, members: &[u32]) -> Vec<u32> {
-    let mut words = vec![exclusion_head(kind, limit, members.len() as u32)];
+pub fn exclusion(kind: u32, n: u32, members: &[u32]) -> Vec<u32> {
+    let mut words = vec![exclusion_head(kind, n, members.len() as u32)];
     words.extend(members.iter().map(|role| member(*role)));
     words
 }

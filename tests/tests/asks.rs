@@ -184,7 +184,7 @@ fn see_search(tally: &mut Tally, policy: &Policy, call: &Call, played: &Played) 
     if own.iter().any(|role| policy.carried_by(*role).into_iter().any(|permission| !upper[permission])) {
         tally.see("roles cut");
     }
-    if policy.exclusions.iter().any(|exclusion| exclusion.limit == 2 && exclusion.members.intersection(own).count() > 1) {
+    if policy.exclusions.iter().any(|exclusion| exclusion.n == 2 && exclusion.members.intersection(own).count() > 1) {
         tally.see("limits of 2");
     }
     if let Some(answer) = &played.reply.answer {

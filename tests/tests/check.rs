@@ -126,11 +126,11 @@ fn refuses_numbers_at_or_above_the_heads() {
 
 /// The check's answer where an exclusion of these numbers, with these spare bits, stands behind `before` others in a
 /// policy of three roles; the place is counted from the exclusion's word, which is 0.
-fn exclusion_behind(before: usize, spare: u32, limit: u32, size: u32) -> (u64, u64) {
+fn exclusion_behind(before: usize, spare: u32, n: u32, size: u32) -> (u64, u64) {
     let mut list = vec![words::head(1, 3, 1)];
     list.extend(words::exclusion(3, 2, &[0, 1]).repeat(before));
     let word = list.len();
-    list.extend(words::exclusion((limit + size) % 4, limit, &(0..size).collect::<Vec<u32>>()));
+    list.extend(words::exclusion((n + size) % 4, n, &(0..size).collect::<Vec<u32>>()));
     list[word] |= spare;
     let (number, place) = answer(words::closed(list));
     (number, if number == 0 { 0 } else { place - word as u64 })
@@ -138,8 +138,8 @@ fn exclusion_behind(before: usize, spare: u32, limit: u32, size: u32) -> (u64, u
 
 #[test]
 fn refuses_a_limit_of_one_as_one_of_none_after_spare_bits_and_before_a_thirty_third_exclusion() {
-    for (size, limit) in (0..5).flat_map(|size| (0..5).map(move |limit| (size, limit))) {
-        let passes = [(2, 2), (3, 2), (3, 3)].contains(&(size, limit));
+    for (size, n) in (0..5).flat_map(|size| (0..5).map(move |n| (size, n))) {
+        let passes = [(2, 2), (3, 2), (3, 3)].contains(&(size, n));
         for before in [0, 31, 32] {
             let number = if !passes {
                 5
@@ -148,9 +148,9 @@ fn refuses_a_limit_of_one_as_one_of_none_after_spare_bits_and_before_a_thirty_th
             } else {
                 0
             };
-            assert_eq!(exclusion_behind(before, 0, limit, size), (number, 0), "n {limit}, m {size}, {before} before");
+            assert_eq!(exclusion_behind(before, 0, n, size), (number, 0), "n {n}, m {size}, {before} before");
             for spare in [1, 1 << 11] {
-                assert_eq!(exclusion_behind(before, spare, limit, size), (4, 0), "n {limit}, m {size}, spare {spare}");
+                assert_eq!(exclusion_behind(before, spare, n, size), (4, 0), "n {n}, m {size}, spare {spare}");
             }
         }
     }
@@ -198,9 +198,9 @@ fn limits_repeat_without_end_and_count_towards_the_words_alone() {
 
 #[test]
 fn an_image_of_one_role_has_no_exclusion() {
-    for (limit, size) in [(0, 0), (0, 1), (1, 0), (1, 1), (2, 1), (1, 2), (2, 2)] {
-        let list = vec![words::head(1, 1, 1), words::exclusion_head(0, limit, size), words::member(0)];
-        assert_eq!(answer(words::closed(list)), (5, 1), "n {limit}, m {size}");
+    for (n, size) in [(0, 0), (0, 1), (1, 0), (1, 1), (2, 1), (1, 2), (2, 2)] {
+        let list = vec![words::head(1, 1, 1), words::exclusion_head(0, n, size), words::member(0)];
+        assert_eq!(answer(words::closed(list)), (5, 1), "n {n}, m {size}");
     }
 }
 

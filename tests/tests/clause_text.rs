@@ -151,7 +151,7 @@ fn says_what_is_admissible_and_what_is_best() {
         let request = Request { policy: &policy, user, line: &line, session, barred, lower, upper, objectives };
         let written = clauses(&request);
         for (exclusion, count) in policy.exclusions.iter().zip(&written.of_exclusions) {
-            assert!(*count <= 2 * exclusion.members.len() * exclusion.limit);
+            assert!(*count <= 2 * exclusion.members.len() * exclusion.n);
             tally.see(match exclusion.kind {
                 Kind::SessionActive => "kind 0",
                 Kind::UserActive => "kind 1",

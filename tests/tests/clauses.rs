@@ -277,8 +277,8 @@ fn says_what_is_admissible_and_what_is_best() {
                 tally.see("ties");
             }
             for (exclusion, count) in policy.exclusions.iter().zip(clauses(&request).of_exclusions) {
-                assert!(count <= 4 * exclusion.members.len() * exclusion.limit);
-                let whole = 2 + 2 * (exclusion.members.len() - 1) * exclusion.limit;
+                assert!(count <= 4 * exclusion.members.len() * exclusion.n);
+                let whole = 2 + 2 * (exclusion.members.len() - 1) * exclusion.n;
                 tally.see(&format!("kind {}{}", exclusion.kind as u8, if count < whole { ", reduced" } else { "" }));
             }
         }
@@ -345,7 +345,7 @@ fn writes_the_texts_of_policies_of_every_size() {
         });
         let line = line_of(&ledger, &call);
         for (exclusion, count) in policy.exclusions.iter().zip(clauses(&request(policy, &ledger, &line, &call)).of_exclusions) {
-            assert!(count <= 4 * exclusion.members.len() * exclusion.limit);
+            assert!(count <= 4 * exclusion.members.len() * exclusion.n);
         }
         for room in [length - 1, length, length + rng.place(100)] {
             let seen = step(&judged, &image, &mut ledger, &with_room(&call, room), Empty::Somewhere, rng.draw() as u8);
@@ -361,9 +361,9 @@ fn excluding(rng: &mut Rng) -> policy::Draft {
     let mut draft = policy::policy(rng, policy::Size { exclusions: 20, ..policy::WIDE });
     for _ in 0..if draft.roles > 1 { rng.below(13) } else { 0 } {
         let size = rng.from_to(2, draft.roles.into());
-        let (kind, limit) = (rng.below(4) as u32, rng.from_to(2, size) as u32);
+        let (kind, n) = (rng.below(4) as u32, rng.from_to(2, size) as u32);
         let members = draft.some_roles(rng, size as usize);
-        draft.entries.push(words::exclusion(kind, limit, &members));
+        draft.entries.push(words::exclusion(kind, n, &members));
     }
     rng.shuffle(&mut draft.entries);
     draft

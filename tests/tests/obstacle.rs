@@ -569,7 +569,7 @@ fn see_told(tally: &mut Tally, policy: &Policy, ledger: &[u8], call: &Call, told
     tally.see(["ss-dmer", "ms-dmer", "ss-hmer", "ms-hmer"][about as usize % 4]);
     tally.see(if first == 0 { "none counted" } else { "some counted" });
     let number = |members: &Roles| members.iter().map(|role| 1u64 << role).sum::<u64>();
-    let place = |exclusion: &Exclusion| (exclusion.kind as u64, exclusion.limit as u64, number(&exclusion.members));
+    let place = |exclusion: &Exclusion| (exclusion.kind as u64, exclusion.n as u64, number(&exclusion.members));
     let this = (about % 4, about / 4, second);
     let places: Vec<_> = policy.exclusions.iter().map(place).collect();
     let first_there = places.iter().position(|other| *other == this).expect("it is one of the policy's");

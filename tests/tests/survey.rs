@@ -1,4 +1,4 @@
-//! The program nutrameza_survey: the ward's figures, 64 members with every limit, repeated exclusions, empty and
+//! The program nutrameza_survey: the ward's figures, 64 members with every n, repeated exclusions, empty and
 //! unreadable scripts, images that are refused or can't be read, input that fails or comes in chunks of any size,
 //! millions of lines, golden files, and generated policies and scripts beside the solver.
 
@@ -56,27 +56,27 @@ fn choose(m: u128, k: u128) -> u128 {
 }
 
 #[test]
-fn counts_64_members_with_every_limit() {
+fn counts_64_members_with_every_n() {
     let all: Vec<u32> = (0..64).collect();
-    for limits in [2..=33, 34..=64] {
-        let entries: Vec<Vec<u32>> = limits.clone().map(|limit| words::exclusion(limit % 4, limit, &all)).collect();
+    for several in [2..=33, 34..=64] {
+        let entries: Vec<Vec<u32>> = several.clone().map(|n| words::exclusion(n % 4, n, &all)).collect();
         let line = |n: u32| format!("{} {n} 64 {}\n", n % 4, (0..u128::from(n)).map(|k| choose(64, k)).sum::<u128>());
-        assert_eq!(text(Some(&image_of(&entries)), b""), limits.map(line).collect::<String>());
+        assert_eq!(text(Some(&image_of(&entries)), b""), several.map(line).collect::<String>());
     }
     let ends = text(Some(&image_of(&[words::exclusion(0, 64, &all), words::exclusion(3, 2, &all)])), b"");
     assert_eq!(ends, "0 64 64 18446744073709551615\n3 2 64 65\n");
 }
 
 #[test]
-fn counts_every_size_and_limit_as_listing_the_sets_does() {
+fn counts_every_size_and_n_as_listing_the_sets_does() {
     for size in 2..=12usize {
-        for limit in 2..=size {
+        for n in 2..=size {
             let members: Roles = (0..size).collect();
-            let listed = (0u32..1 << size).filter(|set| (set.count_ones() as usize) < limit).count() as u128;
-            assert_eq!(allowed(&Exclusion { kind: Kind::SessionActive, limit, members }), listed);
+            let listed = (0u32..1 << size).filter(|set| (set.count_ones() as usize) < n).count() as u128;
+            assert_eq!(allowed(&Exclusion { kind: Kind::SessionActive, n, members }), listed);
             let roles: Vec<u32> = (0..size as u32).map(|role| 5 * role).collect();
-            let printed = text(Some(&image_of(&[words::exclusion(1, limit as u32, &roles)])), b"");
-            assert_eq!(printed, format!("1 {limit} {size} {listed}\n"));
+            let printed = text(Some(&image_of(&[words::exclusion(1, n as u32, &roles)])), b"");
+            assert_eq!(printed, format!("1 {n} {size} {listed}\n"));
         }
     }
 }

@@ -97,7 +97,7 @@ fn told(
     }
     let exclusion = tables.exclusions[none - 1];
     let counted = exclusion.members & !search.limits[none - 1].0;
-    Some((4, u64::from(exclusion.kind + 4 * exclusion.limit), counted, exclusion.members))
+    Some((4, u64::from(exclusion.kind + 4 * exclusion.n), counted, exclusion.members))
 }
 
 /// Obstacle.

@@ -152,7 +152,7 @@ fn activate(line: &mut Line, session: usize, role: usize) {
     line.history[role] = true;
 }
 
-/// As many members of an exclusion of this kind as its limit, or one fewer, put where the kind counts them.
+/// As many members of an exclusion of this kind as its n, or one fewer, put where the kind counts them.
 fn exclude(rng: &mut Rng, policy: &Policy, user: usize, line: &mut Line, kind: Kind) {
     let of_kind: Vec<_> = policy.exclusions.iter().filter(|exclusion| exclusion.kind == kind).collect();
     if of_kind.is_empty() {
@@ -165,7 +165,7 @@ fn exclude(rng: &mut Rng, policy: &Policy, user: usize, line: &mut Line, kind: K
         let own = policy.authorized(user);
         members.retain(|role| own.contains(role));
     }
-    members.truncate(exclusion.limit - usize::from(rng.one_in(4)));
+    members.truncate(exclusion.n - usize::from(rng.one_in(4)));
     let one = rng.place(line.sessions.len());
     for role in members {
         let session = if exclusion.kind == Kind::UserActive { rng.place(line.sessions.len()) } else { one };

@@ -148,7 +148,7 @@ impl Draft {
         }
     }
 
-    /// An exclusion of any kind, where there are two roles: mostly of few members and a limit of 2, at times of all
+    /// An exclusion of any kind, where there are two roles: mostly of few members and an n of 2, at times of all
     /// roles.
     pub fn exclude(&mut self, rng: &mut Rng) {
         if self.roles < 2 {
@@ -157,8 +157,8 @@ impl Draft {
         let most = if rng.one_in(6) { self.roles } else { self.roles.min(5) };
         let size = rng.from_to(2, most.into());
         let members = self.some_roles(rng, size as usize);
-        let limit = if rng.one_in(2) { 2 } else { rng.from_to(2, size) };
-        self.entries.push(words::exclusion(rng.below(4) as u32, limit as u32, &members));
+        let n = if rng.one_in(2) { 2 } else { rng.from_to(2, size) };
+        self.entries.push(words::exclusion(rng.below(4) as u32, n as u32, &members));
     }
 
     /// A limit of any role: small mostly, at times the least or the largest that there is.
@@ -291,8 +291,8 @@ pub fn crowded(rng: &mut Rng, exclusions: u64) -> Draft {
         let mut members = own.clone();
         rng.shuffle(&mut members);
         members.truncate(rng.from_to(2, 12) as usize);
-        let limit = rng.from_to(2, members.len() as u64) as u32;
-        draft.entries.push(words::exclusion(rng.below(4) as u32, limit, &members));
+        let n = rng.from_to(2, members.len() as u64) as u32;
+        draft.entries.push(words::exclusion(rng.below(4) as u32, n, &members));
     }
     rng.shuffle(&mut draft.entries);
     draft

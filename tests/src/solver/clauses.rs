@@ -99,7 +99,7 @@ fn reduced(exclusion: &Exclusion, line: &Line, session: usize) -> (Vec<i64>, usi
         Kind::UserHistory => line.history[role],
     };
     let left: Vec<usize> = exclusion.members.iter().copied().filter(|role| !counted(*role)).collect();
-    let room = exclusion.limit - (exclusion.members.len() - left.len());
+    let room = exclusion.n - (exclusion.members.len() - left.len());
     (left.into_iter().map(|role| role as i64 + 1).collect(), room)
 }
 

@@ -133,8 +133,8 @@ impl Reading {
             3 => first >= policy.roles || field(word, 14, 8) >= policy.permissions,
             4 => first >= policy.roles || second >= policy.roles,
             5 => {
-                let (limit, size) = (field(word, 19, 7), field(word, 12, 7));
-                size == 0 || size > policy.roles || limit == 0 || limit == 1 || limit > size
+                let (n, size) = (field(word, 19, 7), field(word, 12, 7));
+                size == 0 || size > policy.roles || n == 0 || n == 1 || n > size
             }
             6 => first >= policy.roles,
             7 => {
@@ -185,7 +185,7 @@ impl Reading {
                 let kinds = [Kind::SessionActive, Kind::UserActive, Kind::SessionHistory, Kind::UserHistory];
                 policy.exclusions.push(Exclusion {
                     kind: kinds[field(word, 26, 2)],
-                    limit: field(word, 19, 7),
+                    n: field(word, 19, 7),
                     members: Roles::new(),
                 });
                 self.due = field(word, 12, 7);

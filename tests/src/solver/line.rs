@@ -114,13 +114,13 @@ fn count(exclusion: &Exclusion, counted: impl Fn(usize) -> bool) -> usize {
 pub fn met(exclusion: &Exclusion, line: &Line) -> bool {
     let sessions = &line.sessions;
     match exclusion.kind {
-        Kind::SessionActive => sessions.iter().all(|session| count(exclusion, |role| session.active[role]) < exclusion.limit),
+        Kind::SessionActive => sessions.iter().all(|session| count(exclusion, |role| session.active[role]) < exclusion.n),
         Kind::UserActive => {
             let active = |role: usize| sessions.iter().any(|session| session.open && session.active[role]);
-            count(exclusion, active) < exclusion.limit
+            count(exclusion, active) < exclusion.n
         }
-        Kind::SessionHistory => sessions.iter().all(|session| count(exclusion, |role| session.history[role]) < exclusion.limit),
-        Kind::UserHistory => count(exclusion, |role| line.history[role]) < exclusion.limit,
+        Kind::SessionHistory => sessions.iter().all(|session| count(exclusion, |role| session.history[role]) < exclusion.n),
+        Kind::UserHistory => count(exclusion, |role| line.history[role]) < exclusion.n,
     }
 }
 

@@ -103,7 +103,7 @@ fn exclusion(request: &Request) -> Option<Obstacle> {
         left.retain(|set| met(exclusion, &request.line.put_in(request.session, set)));
         if left.is_empty() {
             let (counted, members) = (counted(request, exclusion), exclusion.members.clone());
-            let about = exclusion.kind as u64 + 4 * exclusion.limit as u64;
+            let about = exclusion.kind as u64 + 4 * exclusion.n as u64;
             return Some(Obstacle { kind: 4, about, first: counted, second: members });
         }
     }

@@ -22,11 +22,11 @@ pub enum Kind {
     UserHistory,
 }
 
-/// Fewer than `limit` (01: n) of the members may be counted.
+/// Fewer than n of the members may be counted.
 #[derive(Clone, Debug, PartialEq, Eq, PartialOrd, Ord)]
 pub struct Exclusion {
     pub kind: Kind,
-    pub limit: usize,
+    pub n: usize,
     pub members: Roles,
 }
 

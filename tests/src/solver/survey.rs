@@ -14,7 +14,7 @@ pub fn survey(image: Option<&[u8]>, script: &[u8]) -> Vec<u8> {
     let mut printed = String::new();
     for exclusion in &policy.exclusions {
         let (kind, size) = (exclusion.kind as usize, exclusion.members.len());
-        printed += &format!("{kind} {} {size} {}\n", exclusion.limit, allowed(exclusion));
+        printed += &format!("{kind} {} {size} {}\n", exclusion.n, allowed(exclusion));
     }
     for (number, count) in counts(&output(image, script)) {
         printed += &format!("{number} {count}\n");
@@ -22,7 +22,7 @@ pub fn survey(image: Option<&[u8]>, script: &[u8]) -> Vec<u8> {
     printed.into_bytes()
 }
 
-/// How many sets of an exclusion's members have fewer than its limit: taking the members in one by one, so many sets of
+/// How many sets of an exclusion's members have fewer than its n: taking the members in one by one, so many sets of
 /// each size.
 pub fn allowed(exclusion: &Exclusion) -> u128 {
     let mut sets = vec![1u128];
@@ -33,7 +33,7 @@ pub fn allowed(exclusion: &Exclusion) -> u128 {
             sets[size + 1] += count;
         }
     }
-    sets[..exclusion.limit].iter().sum()
+    sets[..exclusion.n].iter().sum()
 }
 
 /// The answer numbers of the script program's output, and how often each comes.

@@ -47,8 +47,8 @@ pub fn words(policy: &Policy) -> Vec<u64> {
         words.extend(juniors.iter().map(|junior| word(4, &[(senior, 22), (*junior, 16)])));
     }
     for exclusion in in_order(&policy.exclusions) {
-        let (limit, size) = (exclusion.limit, exclusion.members.len());
-        words.push(word(5, &[(exclusion.kind as usize, 26), (limit, 19), (size, 12)]));
+        let (n, size) = (exclusion.n, exclusion.members.len());
+        words.push(word(5, &[(exclusion.kind as usize, 26), (n, 19), (size, 12)]));
         words.extend(exclusion.members.iter().map(|role| word(6, &[(*role, 22)])));
     }
     words.extend(policy.limits.iter().map(|(role, limit)| word(7, &[(*role, 22), (*limit, 13)])));
@@ -57,12 +57,12 @@ pub fn words(policy: &Policy) -> Vec<u64> {
     words
 }
 
-/// The exclusions by kind, limit and set number, each once.
+/// The exclusions by kind, n and set number, each once.
 pub fn in_order(exclusions: &[Exclusion]) -> Vec<&Exclusion> {
     let mut ordered = BTreeMap::new();
     for exclusion in exclusions {
         let number: u128 = exclusion.members.iter().map(|role| 2u128.pow(*role as u32)).sum();
-        ordered.insert((exclusion.kind, exclusion.limit, number), exclusion);
+        ordered.insert((exclusion.kind, exclusion.n, number), exclusion);
     }
     ordered.into_values().collect()
 }
