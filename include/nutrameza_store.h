@@ -173,8 +173,8 @@ uint64_t nutrameza_store_adopt_all(nutrameza_store *store, const char *ward, con
 /* A new policy between two calls of everybody; the extra of done is the new version. Stopped: the users whose line is
  * not sound under it, user u as bit u. What is done about them: it is refused by STOPS; or their windows are closed
  * under the old policy, in the same transaction, and it is refused only if that does not free them (stopped: those who
- * are left); or it is put in place even so, and their calls are refused by 11 from then on, under limits everybody's
- * asks. Their roles must be off at their hosts before windows are closed. */
+ * are left); or their windows are closed and it is put in place even so: the calls of those who are left are refused by
+ * 11 from then on, under limits everybody's asks. Their roles must be off at their hosts before windows are closed. */
 enum nutrameza_store_go_on {
     NUTRAMEZA_STORE_IF_NONE = 0,
     NUTRAMEZA_STORE_CLOSING = 1,

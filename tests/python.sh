@@ -40,6 +40,14 @@ unit() {
   fi
 }
 
+has_engines() {
+  printf '#include <sqlite3.h>\n#include <libpq-fe.h>\n' | cc -E "-I$(pg_config --includedir 2> /dev/null)" - > /dev/null 2>&1
+}
+
+stored() {
+  make -s -C "$root" install-store "PREFIX=$work/stored" "store_out=$work/store" "NUTRAMEZA_LIB=$lib" > "$work/stored_says" 2>&1 || { cat "$work/stored_says"; return 1; }
+}
+
 # The sources are read by the grammar of 3.9, whatever interpreter runs.
 old_grammar() {
   "$python" - "$root"/python/*.py "$root"/python/nutrameza/*.py "$root"/python/bin/* "$root/examples/ward.py" <<'PY'
@@ -110,6 +118,12 @@ it 'generated calls with the answers of the separate solver' golden
 unit test_binding
 unit test_golden
 unit test_command
+if has_engines; then
+  it 'the store, with both engines' stored
+  NUTRAMEZA_STORE_LIBRARY=$work/stored/lib/libnutrameza_store.so.0 unit test_store
+else
+  echo 'not installed: headers of SQLite or PostgreSQL; the store is not called'
+fi
 it 'no source needs more than the grammar of Python 3.9' old_grammar
 it 'no source needs a package beyond the standard library' standard_library_alone
 if "$python" -c 'import mypy' 2> /dev/null; then it 'mypy --strict has nothing to say' typed; else echo 'not installed: mypy'; fi
