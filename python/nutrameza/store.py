@@ -48,8 +48,8 @@ class StoreNumber(enum.IntEnum):
 
 
 class GoOn(enum.IntEnum):
-    """What a policy change does about those whom it stops: it is refused; or closes their windows, and is refused if that
-    does not free them; or closes their windows and is put in place even so."""
+    """What a policy change does about those whom it stops: it is refused; or closes their windows, and is refused if
+    that does not free them; or closes their windows and is put in place even so."""
 
     IF_NONE = 0
     CLOSING = 1

@@ -1,5 +1,5 @@
-"""The store in Python, on SQLite: the header's names and numbers, the ward's two windows, repeats, policies, the journal,
-what is raised."""
+"""The store in Python, on SQLite: the header's names and numbers, the ward's two windows, repeats, policies, the
+journal, what is raised."""
 
 import os
 import re
