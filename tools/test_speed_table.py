@@ -48,6 +48,10 @@ obstacle, 4,096 words, grants, 1 of 1 hindered        5100         5000    1.02 
 obstacle, the last of 32, 1 of 1 hindered            9000         8000    1.12           3000    3.00
 obstacle, Plb_bigR, 0 of 10 hindered                12000        11000    1.09          10000    1.20
 obstacle, that, 3 of 8 hindered                     30000        25000    1.20          10000    2.95
+C, check, 13 words                                     42           40    1.06
+C, ask, 13 words                                      230          185    1.24
+C, open, 4,096 words, grants                         4256         4600    0.93
+C, ask, 4,096 words, in any order                   13294        14000    0.95
 """
 LIMITS = "limit, 4,096 words, grants                         245      8184      4347        17.71         0.55\n"
 HEAD = "machine: A processor, 2 cores; 2026-11-17\n\njob       kit ns     plain ns   ratio\n"
@@ -66,6 +70,7 @@ HAS = [
     ("beside all subsets", "| the same asks beside plain all-subsets | | 0.018 to 0.39 |"),
     ("obstacles", "| obstacles of 24 families | 12 to 30 µs | 1.09 to 1.20 |"),
     ("beside a short ask", "| the same beside a short ask with the same bounds | | 1.20 to 2.95 times as long |"),
+    ("beside plain C", "| beside plain C: check, open, ask, 13 words | 42 to 230 ns | 1.06 to 1.24 |"),
     ("a program", "| `nutrameza_script`, short lines on 13 words | 6.01 million lines a second | |"),
     ("the limit", "| 4,096 words, grants | 245 ns | 8.2 µs | 4.3 µs |"),
 ]
