@@ -19,14 +19,15 @@ store_flags := -std=c99 -O2 -g -fPIC -Wall -Wextra -Wpedantic -Wconversion -Iinc
   $(if $(POSTGRESQL),-I$(shell pg_config --includedir 2> /dev/null),-DNUTRAMEZA_STORE_WITHOUT_POSTGRESQL)
 store_libs := $(if $(SQLITE),-lsqlite3) $(if $(POSTGRESQL),-lpq)
 store_out ?= target/store
+store_filled = sed -e 's|@PREFIX@|$(prefix)|' -e 's|@VERSION@|$(VERSION)|' -e 's|@LIBS@|$(store_libs)|'
 store_objects := $(store_parts:%=$(store_out)/%.o)
 
 store_files := lib/libnutrameza_store.a lib/libnutrameza_store.so lib/libnutrameza_store.so.0 include/nutrameza_store.h \
-  lib/pkgconfig/nutrameza_store.pc share/man/man3/nutrameza_store.3
+  lib/pkgconfig/nutrameza_store.pc lib/pkgconfig/nutrameza_store-static.pc share/man/man3/nutrameza_store.3
 
 .PHONY: store install-store uninstall-store ward-store store-test soak store-figures
 
-store: $(store_out)/libnutrameza_store.a $(store_out)/libnutrameza_store.so $(store_out)/nutrameza_store.pc
+store: $(store_out)/libnutrameza_store.a $(store_out)/libnutrameza_store.so $(store_out)/nutrameza_store.pc $(store_out)/nutrameza_store-static.pc
 
 $(store_out)/%.o: store/%.c store/store.h store/engine.h include/nutrameza_store.h include/nutrameza.h
 	@mkdir -p $(store_out)
@@ -41,18 +42,17 @@ $(store_out)/libnutrameza_store.so: $(store_objects) store/exports.map $(library
 	$(CC) -shared -Wl,-soname,libnutrameza_store.so.0 -Wl,--version-script=store/exports.map -Wl,-z,defs $(CFLAGS) \
 	  -o $@ $(store_objects) $(library) $(store_libs)
 
-$(store_out)/nutrameza_store.pc: store/nutrameza_store.pc.in
+$(store_out)/%.pc: store/%.pc.in
 	@mkdir -p $(store_out)
-	sed -e 's|@PREFIX@|$(prefix)|' -e 's|@VERSION@|$(VERSION)|' -e 's|@LIBS@|$(store_libs)|' $< > $@
+	@$(store_filled) $< > $@
 
 install-store: store install
 	install -m 644 $(store_out)/libnutrameza_store.a '$(to)/lib/'
 	install -m 755 $(store_out)/libnutrameza_store.so '$(to)/lib/libnutrameza_store.so.0'
 	ln -sf libnutrameza_store.so.0 '$(to)/lib/libnutrameza_store.so'
 	install -m 644 include/nutrameza_store.h '$(to)/include/nutrameza_store.h'
-	sed -e 's|@PREFIX@|$(prefix)|' -e 's|@VERSION@|$(VERSION)|' -e 's|@LIBS@|$(store_libs)|' store/nutrameza_store.pc.in \
-	  > '$(to)/lib/pkgconfig/nutrameza_store.pc'
-	chmod 644 '$(to)/lib/pkgconfig/nutrameza_store.pc'
+	@for f in nutrameza_store nutrameza_store-static; do $(store_filled) store/$$f.pc.in > '$(to)'/lib/pkgconfig/$$f.pc && \
+	  chmod 644 '$(to)'/lib/pkgconfig/$$f.pc || exit 1; done
 	@tools/man_pages --store docs/STORE.md include/nutrameza_store.h '$(to)/share/man/man3' $(VERSION) $(dated)
 
 uninstall-store:

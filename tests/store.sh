@@ -180,11 +180,15 @@ removed() {
   make -s -C "$root" uninstall-store "PREFIX=$work/prefix" "NUTRAMEZA_LIB=$lib" > /dev/null && test -e "$work/prefix/lib/libnutrameza.a" &&
     ! find "$work/prefix" -name '*nutrameza_store*' | grep .
 }
+static_words() { # what a program is linked with by the archives
+  PKG_CONFIG_PATH=$work/prefix/lib/pkgconfig pkg-config --cflags --libs nutrameza_store-static 2> /dev/null ||
+    echo "$flags -l:libnutrameza_store.a -lsqlite3 -lpq -l:libnutrameza.a"
+}
 example() { # the ten lines, from an install alone: archive and shared library
   local flags="-I$work/prefix/include -L$work/prefix/lib"
   mkdir -p "$work/example" && cd "$work/example" && "$root/tools/policy" build "$root/examples/ward.policy" -o policy.img &&
     cc -std=c99 -Wall -Wextra -Werror -pedantic $flags "$root/examples/store.c" -lnutrameza_store -o shared &&
-    cc -std=c99 $flags "$root/examples/store.c" -l:libnutrameza_store.a -lnutrameza -lsqlite3 -lpq -o static &&
+    cc -std=c99 "$root/examples/store.c" $(static_words) -o static &&
     LD_LIBRARY_PATH=$work/prefix/lib ./shared "sqlite:$work/example/1.db" policy.img > said && ./static "sqlite:$work/example/2.db" policy.img > too &&
     diff said too && cat said && awk '/^```text store$/ { on = 1; next } /^```$/ { on = 0 } on' "$root/docs/STORE.md" | diff - said &&
     awk '/^```c store$/ { on = 1; next } /^```$/ { on = 0 } on' "$root/docs/STORE.md" > page && test -s page &&
