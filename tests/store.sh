@@ -15,7 +15,11 @@ server=$root/tests/store/server.sh
 
 # Without a disk below it a sync takes no time; what a crash of a program loses is the same.
 place=$work
-if [ "${1:-}" = figures ]; then place=$(mktemp -d "${STORE_DISK:-$PWD}/store.XXXXXX"); elif [ -w /dev/shm ]; then place=$(mktemp -d /dev/shm/store.XXXXXX); fi
+if [ "${1:-}" = figures ]; then
+  place=$(mktemp -d "--tmpdir=${STORE_DISK:-$PWD}")
+elif [ -w /dev/shm ]; then
+  place=$(mktemp -d --tmpdir=/dev/shm)
+fi
 chmod 755 "$work" "$place"
 pg=$place/pg
 background=''
