@@ -50,7 +50,7 @@ stored() {
 
 # The sources are read by the grammar of 3.9, whatever interpreter runs.
 old_grammar() {
-  "$python" - "$root"/python/*.py "$root"/python/nutrameza/*.py "$root"/python/bin/* "$root/examples/ward.py" <<'PY'
+  "$python" - "$root"/python/*.py "$root"/python/nutrameza/*.py "$root"/python/nutrameza/desk/*.py "$root"/python/bin/* "$root/examples/ward.py" <<'PY'
 import ast, sys
 for path in sys.argv[1:]:
     ast.parse(open(path, encoding="utf-8").read(), path, feature_version=(3, 9))
@@ -58,7 +58,7 @@ PY
 }
 
 standard_library_alone() {
-  "$python" - "$root"/python/*.py "$root"/python/nutrameza/*.py <<'PY'
+  "$python" - "$root"/python/*.py "$root"/python/nutrameza/*.py "$root"/python/nutrameza/desk/*.py <<'PY'
 import ast, sys
 known = getattr(sys, "stdlib_module_names", None)
 for path in sys.argv[1:]:

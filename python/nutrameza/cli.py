@@ -7,7 +7,7 @@ import argparse
 import os
 import signal
 import sys
-from typing import Callable, List, NamedTuple, Optional, Sequence, Tuple
+from typing import Any, Callable, List, NamedTuple, Optional, Sequence, Tuple
 
 from . import __version__, calls, library, limits, policy, why
 from .policy import SORTS, Errors, Names, Policy, Refused
@@ -80,9 +80,8 @@ def names_in(path: Optional[str]) -> Names:
 def load(path: str, names: Names) -> Tuple[Policy, Optional[Names]]:
     """The policy of an image or of a text, and the names that a text declares; None for those of an image."""
     data = read_bytes(path)
-    lines = [line.split() for line in data.split(b"\n")]
-    if any(line and line[0].decode("latin-1") in SORTS for line in lines):
-        return policy.parse(policy.read_text(path), path)
+    if policy.is_text(data):
+        return policy.parse(policy.text_of(data, path), path)
     return policy.read(policy.check(data, names)), None
 
 
@@ -168,17 +167,16 @@ def tell_stopped(arguments: argparse.Namespace) -> int:
     if loaded is None:
         return 2
     (said, own), = loaded
-    names, ledger, line = names if own is None else own, read_bytes(arguments.ledger), limits.LINE_BYTES
-    added = said.counts[0] - len(ledger) // line
-    if len(ledger) % line == 0 and added > 0:
-        ledger += bytes(line * added)
+    names, line = names if own is None else own, limits.LINE_BYTES
+    ledger, added = why.grown(said, read_bytes(arguments.ledger))
+    if added:
         print(f"{added} zero line{'' if added == 1 else 's'} added for new users")
     answer = calls.stopped(said.image(), ledger)
     if not answer.done:
         print(f"{arguments.ledger}: {len(ledger)} bytes; {said.counts[0]} users have {line * said.counts[0]}", file=sys.stderr)
         return 2
     for user in sorted(answer.users):
-        reasons = why.reasons(said, user, ledger[line * user:line * (user + 1)], names)
+        reasons = why.reasons(said, user, why.line_of(ledger, user), names)
         print("\n  ".join([f"{policy.called('user', user, names)} ({user}) is stopped:", *reasons]))
     if not answer.users:
         print("nobody is stopped")
@@ -318,8 +316,9 @@ def add_arguments(name: str, command: argparse.ArgumentParser) -> None:
         command.add_argument("names", metavar="NAMES", nargs="?", help="a policy text that gives the names")
 
 
-def command_line(program: str, description: str, overwrites: bool) -> argparse.ArgumentParser:
-    """The parser of the command, or of the older one, which overwrites the files that it writes."""
+def command_line(program: str, description: str, overwrites: bool, more: Sequence[Callable[[Any, str], None]] = ()) -> argparse.ArgumentParser:
+    """The parser of the command, or of the older one, which overwrites the files that it writes. More: what adds
+    sub-commands of its own."""
     plain = argparse.RawDescriptionHelpFormatter
     parser = argparse.ArgumentParser(prog=program, description=description, formatter_class=plain, allow_abbrev=False)
     parser.add_argument("--version", action="version", version=f"{program} {__version__}")
@@ -331,6 +330,8 @@ def command_line(program: str, description: str, overwrites: bool) -> argparse.A
         made.set_defaults(run=command.run, force=overwrites)
         if name in WRITING and not overwrites:
             made.add_argument("-f", "--force", action="store_true", help="overwrite a file that is there already")
+    for add in more:
+        add(commands, program)
     return parser
 
 
@@ -383,7 +384,8 @@ def policy_parser() -> argparse.ArgumentParser:
 
 def main() -> int:
     """The command nutrameza."""
-    return as_program(command_line("nutrameza", DESCRIPTION, overwrites=False), "nutrameza: ")
+    from .desk import command  # it stands on this module
+    return as_program(command_line("nutrameza", DESCRIPTION, overwrites=False, more=[command.add]), "nutrameza: ")
 
 
 def policy_main() -> int:

@@ -1,13 +1,17 @@
 """What stands in the way of an ask, and why a policy stops a user, in words and by names. All that is said comes from
 calls of the library, on the policy or on a part of it."""
 
-from typing import AbstractSet, Dict, FrozenSet, Iterable, List, Optional
+from typing import AbstractSet, Dict, FrozenSet, Iterable, List, Optional, Tuple
 
 from . import calls, limits
-from .answers import Obstacle, members
+from .answers import Answer, Obstacle, members
 from .limits import Aim, ExclusionKind, Number, ObstacleKind
 from .policy import (ASSIGNMENT, EXCLUSION, EXCLUSION_KINDS, LIMIT, SENIOR, Entry, Names, Policy, called, meant, named, read,
                      tidied, to_words)
+
+
+# A window that holds roles: its user, its session, those roles.
+Holder = Tuple[int, int, FrozenSet[int]]
 
 
 class CallRefused(Exception):
@@ -43,21 +47,35 @@ class Ask:
         """The policy's permissions."""
         return frozenset(range(self.policy.counts[2]))
 
+    def windows(self, users: Iterable[int]) -> List[Tuple[int, int]]:
+        """The windows that these users may have, each behind its user."""
+        return [(user, session) for user in users for session in range(limits.SESSIONS)]
+
     def active(self, user: int, session: int) -> FrozenSet[int]:
         """The active roles of a session; none of one that is not open."""
         shown = calls.show(self.image, self.ledger, user, session)
         return shown.roles if shown.done else frozenset()
 
-    def holding(self, roles: AbstractSet[int], users: Iterable[int]) -> str:
+    def holders(self, roles: AbstractSet[int], users: Iterable[int]) -> List[Holder]:
         """The windows, this one left out, in which one of these roles is active, each with those that are."""
+        held = [(user, session, roles & self.active(user, session)) for user, session in self.windows(users)]
+        return [one for one in held if one[2] and one[:2] != (self.user, self.session)]
+
+    def holding(self, roles: AbstractSet[int], users: Iterable[int]) -> str:
+        """The same in words."""
         found = []
-        windows = [(user, session) for user in users for session in range(limits.SESSIONS)]
-        for user, session in windows:
-            held = roles & self.active(user, session)
-            if held and (user, session) != (self.user, self.session):
-                whose = "" if user == self.user else f" of {self.name('user', user)}"
-                found.append(f"window {session}{whose} holds {self.list('role', held, ' and ')}")
+        for user, session, held in self.holders(roles, users):
+            whose = "" if user == self.user else f" of {self.name('user', user)}"
+            found.append(f"window {session}{whose} holds {self.list('role', held, ' and ')}")
         return " and ".join(found)
+
+    def in_the_way(self, found: Obstacle) -> List[Holder]:
+        """The windows by which an exclusion or a limit stands in the way; none where it is no window that does."""
+        if found.kind == ObstacleKind.LIMIT:
+            return self.holders(found.roles, range(self.policy.counts[0]))
+        if found.kind != ObstacleKind.EXCLUSION or found.exclusion_kind != ExclusionKind.MS_DMER:
+            return []
+        return self.holders(found.roles, [self.user])
 
     def obstacle(self, lower: AbstractSet[int], upper: AbstractSet[int]) -> Obstacle:
         """The obstacle of an ask with these bounds."""
@@ -81,7 +99,7 @@ class Ask:
             return needs + f"which {self.name('user', self.user)} may not switch on"
         return needs + (self.wide(found.roles, upper) if found.kind == ObstacleKind.UPPER else self.limited(found.roles))
 
-    def reason(self, refused: Obstacle) -> str:
+    def reason(self, refused: Answer) -> str:
         """What a refusal says of the names."""
         if refused.number == Number.LINE:
             return f"the line of {self.name('user', calls.unsound_user(refused, self.user))} is not sound"
@@ -89,6 +107,7 @@ class Ask:
         reasons: Dict[int, str] = {
             Number.LEDGER: f"{len(self.ledger)} bytes are no ledger of {users} users", Number.PERSON: f"there is no user {self.user}",
             Number.SESSION: f"there is no window {self.session}", Number.CLOSED: f"window {self.session} is not open",
+            Number.FULL: f"{self.name('user', self.user)} has {limits.SESSIONS} windows open, and that is the most",
             Number.PERMISSION: f"permissions are numbered below {permissions}"}
         return reasons.get(refused.number, "")
 
@@ -146,6 +165,18 @@ class Ask:
 
 # A user's line of a ledger: eight bytes of open sessions, eight of the past, then for each session eight of active
 # roles and eight of its past.
+
+def line_of(ledger: bytes, user: int) -> bytes:
+    """A user's line of a ledger."""
+    return ledger[limits.LINE_BYTES * user:limits.LINE_BYTES * (user + 1)]
+
+
+def grown(policy: Policy, ledger: bytes) -> Tuple[bytes, int]:
+    """A ledger that is shorter than a policy's by whole lines, with zero lines for the new users, and how many."""
+    lines, rest = divmod(len(ledger), limits.LINE_BYTES)
+    added = policy.counts[0] - lines
+    return (ledger + bytes(limits.LINE_BYTES * added), added) if rest == 0 and added > 0 else (ledger, 0)
+
 
 def roles_at(line: bytes, place: int) -> List[int]:
     """The roles of the set that stands at a place of a line, ascending."""

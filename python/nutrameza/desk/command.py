@@ -1,0 +1,96 @@
+"""The sub-commands desk and report of the command nutrameza."""
+
+import argparse
+import os
+import signal
+import sys
+import webbrowser
+from typing import Any, Optional
+
+from .. import cli
+from ..policy import Names
+from . import report, server, view
+
+DESK = """The officer's desk for a policy, in a browser on this machine: the hierarchy of roles, what each role carries
+and who may take it, how tight the exclusions are; the policy tried on a scratch ledger; two policies compared; a report
+for the record. FILE is a policy text, or an image with the names of NAMES.
+
+It prints an address with a secret in it, opens it where there is a screen, and answers on 127.0.0.1 until Ctrl-C: only
+whoever has the secret, and no page of another origin. It writes no file; what you save, the browser saves. A text that
+is refused is shown with its lines and reasons, and read again when you have mended it. docs/OFFICERS.md is the page for
+those who sit at it.
+
+Exit status: 0 ended by Ctrl-C; 2 wrong usage, no library, a file that can't be read, or a port that is taken."""
+
+REPORT = """The policy view of the desk as one HTML file, which needs nothing beside it, for the record: roles,
+permissions, people, exclusions with the survey's figures, limits. FILE is a policy text, or an image with the names of
+NAMES.
+
+Exit status: 0 written; 1 the policy is refused; 2 wrong usage, no library, or a file that can't be read or written."""
+
+
+def desk(arguments: argparse.Namespace) -> int:
+    """Serves the desk until Ctrl-C."""
+    signal.signal(signal.SIGINT, signal.default_int_handler)
+    served = server.Server(server.Desk(arguments.image, names_of(arguments.names)), arguments.port)
+    print(f"{arguments.image}: the desk is at {served.address()}\nCtrl-C ends it", flush=True)
+    if not arguments.no_browser and has_screen():
+        webbrowser.open(served.address())
+    try:
+        served.serve_forever()
+    except KeyboardInterrupt:
+        print()
+    finally:
+        served.server_close()
+    return 0
+
+
+def has_screen() -> bool:
+    """There is a screen for a browser; without one a browser would take the terminal."""
+    return sys.platform in ("darwin", "win32") or bool(os.environ.get("DISPLAY") or os.environ.get("WAYLAND_DISPLAY"))
+
+
+def names_of(path: Optional[str]) -> Optional[Names]:
+    """The names that a policy text declares; None without a file."""
+    return None if path is None else cli.names_in(path)
+
+
+def write_report(arguments: argparse.Namespace) -> int:
+    """Writes the report."""
+    loaded = view.load(os.path.basename(arguments.image), cli.read_bytes(arguments.image), names_of(arguments.names))
+    cli.write_whole(arguments.output, report.report(loaded).encode("utf-8"), arguments.force)
+    print(f"{arguments.output}: report of {arguments.image}")
+    return 0
+
+
+def port(word: str) -> int:
+    """A port's number, as an argument."""
+    number = cli.number_of(word, 65535)
+    if number is None:
+        raise argparse.ArgumentTypeError(f"{word} is no number of a port")
+    return number
+
+
+def add(commands: Any, program: str) -> None:
+    """Adds the two sub-commands to a command line."""
+    shape = {"formatter_class": argparse.RawDescriptionHelpFormatter, "allow_abbrev": False}
+    made = commands.add_parser("desk", help="a policy shown, tried and compared in a browser", description=DESK,
+                               usage=f"{program} desk FILE [NAMES] [--port PORT] [--no-browser]",
+                               epilog=f"example:\n  {program} desk ward.policy", **shape)
+    add_policy(made)
+    made.add_argument("--port", metavar="PORT", type=port, default=0, help="the port to answer on (one that is free)")
+    made.add_argument("--no-browser", action="store_true", help="only print the address")
+    made.set_defaults(run=desk)
+    made = commands.add_parser("report", help="a policy as one HTML file for the record", description=REPORT,
+                               usage=f"{program} report FILE [NAMES] -o OUT [--force]",
+                               epilog=f"example:\n  {program} report ward.policy -o ward.html", **shape)
+    add_policy(made)
+    made.add_argument("-o", "--output", metavar="OUT", required=True, help="the file to write")
+    made.add_argument("-f", "--force", action="store_true", help="overwrite a file that is there already")
+    made.set_defaults(run=write_report)
+
+
+def add_policy(command: argparse.ArgumentParser) -> None:
+    """The arguments that name a policy."""
+    command.add_argument("image", metavar="FILE", help="a policy text or an image")
+    command.add_argument("names", metavar="NAMES", nargs="?", help="a policy text that gives an image's names")
