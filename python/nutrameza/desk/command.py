@@ -57,8 +57,9 @@ def names_of(path: Optional[str]) -> Optional[Names]:
 
 def write_report(arguments: argparse.Namespace) -> int:
     """Writes the report."""
-    loaded = view.load(os.path.basename(arguments.image), cli.read_bytes(arguments.image), names_of(arguments.names))
-    cli.write_whole(arguments.output, report.report(loaded).encode("utf-8"), arguments.force)
+    loaded = view.load(arguments.image, cli.read_bytes(arguments.image), names_of(arguments.names))
+    made = report.report(loaded._replace(file=os.path.basename(arguments.image)))
+    cli.write_whole(arguments.output, made.encode("utf-8"), arguments.force)
     print(f"{arguments.output}: report of {arguments.image}")
     return 0
 

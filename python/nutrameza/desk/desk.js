@@ -184,7 +184,7 @@ function buildTrial() {
     return button;
   });
   byId("people-list").replaceChildren(...personButtons.map((button) => made("li", "", button)));
-  byId("picture").replaceChildren(document.querySelector("#hierarchy svg").cloneNode(true));
+  byId("picture").replaceChildren(document.querySelector("#hierarchy .hierarchies").cloneNode(true));
   nodes = all("#picture .node");
   edges = all("#picture .edge");
   for (const node of nodes) node.classList.remove("chosen");
@@ -203,6 +203,7 @@ function drawPeople() {
   personButtons.forEach((button, number) => {
     const open = trial.people[number].length;
     button.setAttribute("aria-pressed", number === at.user);
+    button.classList.toggle("blocking", number !== at.user && trial.in_the_way.some(([user]) => user === number));
     button.querySelector(".open").textContent = open ? `${open} window${open === 1 ? "" : "s"}` : "";
   });
   byId("whose").replaceChildren(named("user", at.user));

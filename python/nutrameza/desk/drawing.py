@@ -12,7 +12,7 @@ FULL = 780
 
 # The sizes of boxes, bends and gaps, and the longest name that a box has room for.
 WIDTH, HEIGHT, GAP, RISE = 172, 46, 16, 42
-BEND = 8
+BEND, CURVE = 8, 14
 APART = 36
 MARGIN = 12
 LONGEST_NAME = 21
@@ -108,7 +108,7 @@ class Picture:
     def half(self) -> float:
         """Half of the width of the widest layer; a line that leads upward goes beside the boxes."""
         upward = any(self.layer_of[senior] >= self.layer_of[junior] for senior, junior in self.pairs)
-        return max(abs(self.x[layer[0]]) + WIDTH / 2 for layer in self.layers) + (WIDTH / 2 if upward else 0)
+        return max(abs(self.x[layer[0]]) + WIDTH / 2 for layer in self.layers) + (3 * CURVE if upward else 0)
 
     def high(self) -> int:
         """The height of all layers."""
@@ -128,24 +128,23 @@ def components(roles: int, pairs: Sequence[Pair]) -> List[List[int]]:
 
 
 class Placed(NamedTuple):
-    """A hierarchy and where it stands: the middle of its width, and its top."""
+    """A hierarchy and the middle of its width in its row."""
 
     picture: Picture
     middle: float
-    top: float
 
 
-def in_rows(pictures: Sequence[Picture]) -> Tuple[List[Placed], float, float]:
-    """Hierarchies beside each other in rows, with the width and the height of all."""
-    placed: List[Placed] = []
-    left, top, wide, high = 0.0, 0.0, 0.0, 0
+def in_rows(pictures: Sequence[Picture]) -> List[List[Placed]]:
+    """Hierarchies beside each other, row by row."""
+    rows: List[List[Placed]] = []
+    left = 0.0
     for picture in pictures:
-        if left and left + 2 * picture.half() > FULL:
-            left, top, high = 0.0, top + high + APART, 0
-        placed.append(Placed(picture, left + picture.half(), top))
+        if not rows or left + 2 * picture.half() > FULL:
+            rows.append([])
+            left = 0.0
+        rows[-1].append(Placed(picture, left + picture.half()))
         left += 2 * picture.half() + APART
-        wide, high = max(wide, left - APART), max(high, picture.high())
-    return placed, wide, top + high
+    return rows
 
 
 # ---- SVG ----
@@ -155,10 +154,11 @@ def line_of(placed: Placed, pair: Pair) -> str:
     picture = placed.picture
     x = [picture.x[stop] + placed.middle for stop in picture.stops(pair)]
     first, last = picture.layer_of[pair[0]], picture.layer_of[pair[1]]
-    tops = [placed.top + layer * (HEIGHT + RISE) for layer in range(len(picture.layers))]
+    tops = [layer * (HEIGHT + RISE) for layer in range(len(picture.layers))]
     if last <= first:
-        out, low, high = max(x) + WIDTH * 0.95, tops[first] + HEIGHT, tops[last]
-        return f"M{x[0]:.1f} {low:.1f}C{out:.1f} {low + RISE:.1f} {out:.1f} {high - RISE:.1f} {x[1]:.1f} {high:.1f}"
+        out, low, high = placed.middle + picture.half() - CURVE, tops[first] + HEIGHT * 0.6, tops[last] + HEIGHT * 0.4
+        return (f"M{x[0] + WIDTH / 2:.1f} {low:.1f}H{out - CURVE:.1f}Q{out:.1f} {low:.1f} {out:.1f} {low - CURVE:.1f}"
+                f"V{high + CURVE:.1f}Q{out:.1f} {high:.1f} {out - CURVE:.1f} {high:.1f}H{x[1] + WIDTH / 2:.1f}")
     path = f"M{x[0]:.1f} {tops[first] + HEIGHT:.1f}"
     for step, layer in enumerate(range(first + 1, last + 1), start=1):
         half = tops[layer] - RISE / 2
@@ -181,33 +181,31 @@ def box(role: int, node: Node, x: float, y: float) -> str:
 def boxes_of(placed: Placed, nodes: Sequence[Node]) -> str:
     """The boxes of a hierarchy."""
     picture = placed.picture
-    return "".join(box(role, nodes[role], picture.x[role] + placed.middle, placed.top + layer * (HEIGHT + RISE))
+    return "".join(box(role, nodes[role], picture.x[role] + placed.middle, layer * (HEIGHT + RISE))
                    for role, layer in sorted(picture.layer_of.items()))
 
 
-def alone_rows(roles: Sequence[int], nodes: Sequence[Node], top: float) -> str:
-    """The boxes of roles without seniors and juniors, row by row."""
-    across = (FULL + GAP) // (WIDTH + GAP)
-    return "".join(box(role, nodes[role], WIDTH / 2 + place % across * (WIDTH + GAP), top + place // across * (HEIGHT + GAP))
-                   for place, role in enumerate(roles))
+def svg(drawn: str, width: float, height: float) -> str:
+    """A row of the picture, which a page of paper keeps together."""
+    across, down = width + 2 * MARGIN, height + MARGIN
+    return (f'<svg class="hierarchy" xmlns="http://www.w3.org/2000/svg" width="{across:.0f}" height="{down:.0f}" '
+            f'viewBox="{-MARGIN} {-MARGIN / 2:.0f} {across:.0f} {down:.0f}" role="group" aria-label="Roles, seniors on top">{drawn}</svg>')
 
 
 def hierarchy(nodes: Sequence[Node], pairs: Sequence[Pair], red: FrozenSet[Pair] = frozenset()) -> str:
-    """The SVG of all roles: those with seniors or juniors in layers, the others in rows below; the pairs of `red` drawn
-    as a loop."""
+    """The picture of all roles, row by row: those with seniors or juniors in layers, then the others; the pairs of `red`
+    drawn as a loop."""
     groups = components(len(nodes), pairs)
-    alone = [group[0] for group in groups if len(group) == 1]
-    placed, wide, high = in_rows([Picture(group, [pair for pair in pairs if pair[0] in group]) for group in groups if len(group) > 1])
-    lines = "".join(f'<path class="edge{" loop" if pair in red else ""}" d="{line_of(one, pair)}"/>' for one in placed for pair in one.picture.pairs)
-    drawn = lines + "".join(boxes_of(one, nodes) for one in placed)
-    if alone:
-        if placed:
-            drawn += f'<text class="band" x="0" y="{high + APART:.1f}">Without seniors and juniors</text>'
-            high += APART + GAP
-        across = (FULL + GAP) // (WIDTH + GAP)
-        drawn += alone_rows(alone, nodes, high)
-        high += -(-len(alone) // across) * (HEIGHT + GAP) - GAP
-        wide = max(wide, min(len(alone), across) * (WIDTH + GAP) - GAP)
-    width, height = wide + 2 * MARGIN, high + 2 * MARGIN
-    return (f'<svg class="hierarchy" xmlns="http://www.w3.org/2000/svg" width="{width:.0f}" height="{height:.0f}" '
-            f'viewBox="{-MARGIN} {-MARGIN} {width:.0f} {height:.0f}" role="group" aria-label="The hierarchy of roles, seniors on top">{drawn}</svg>')
+    rows = in_rows([Picture(group, [pair for pair in pairs if pair[0] in group]) for group in groups if len(group) > 1])
+    alone, across = [group[0] for group in groups if len(group) == 1], (FULL + GAP) // (WIDTH + GAP)
+    width = max([min(len(alone), across) * (WIDTH + GAP) - GAP, *(row[-1].middle + row[-1].picture.half() for row in rows)])
+    drawn = []
+    for row in rows:
+        lines = "".join(f'<path class="edge{" loop" if pair in red else ""}" d="{line_of(one, pair)}"/>' for one in row for pair in one.picture.pairs)
+        drawn.append(svg(lines + "".join(boxes_of(one, nodes) for one in row), width, max(one.picture.high() for one in row)))
+    if alone and rows:
+        drawn.append('<p class="sub">Without seniors and juniors</p>')
+    for first in range(0, len(alone), across):
+        boxes = [box(role, nodes[role], WIDTH / 2 + place * (WIDTH + GAP), 0) for place, role in enumerate(alone[first:first + across])]
+        drawn.append(svg("".join(boxes), width, HEIGHT))
+    return f'<div class="hierarchies">{"".join(drawn)}</div>'

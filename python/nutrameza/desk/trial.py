@@ -2,7 +2,7 @@
 kit. What was done is a script that nutrameza_script plays to the same answers."""
 
 import re
-from typing import AbstractSet, Any, Dict, FrozenSet, List, NamedTuple, Optional, Sequence, Tuple
+from typing import Any, Dict, FrozenSet, Iterable, List, NamedTuple, Optional, Tuple
 
 from .. import calls, why
 from ..answers import Answer, Chosen
@@ -99,12 +99,29 @@ class Wish(NamedTuple):
     aims: Optional[Tuple[int, int]] = None
 
 
+def set_of(permissions: Iterable[int]) -> bytes:
+    """The bytes of a permission set."""
+    return calls.bound_bytes("a bound", permissions)
+
+
+def outcome(words: why.Ask, call: Call, answer: Answer) -> Tuple[str, List[why.Holder]]:
+    """What came of a call, in words, and the windows that stood in its way."""
+    if isinstance(answer, Chosen) and answer.done:
+        return f"live: {words.list('role', answer.roles) or 'no role'}", []
+    if answer.done:
+        return "done", []
+    if call.name == "ask" and answer.number == Number.NONE:
+        bounds = (why.members(call.lower), why.members(call.upper))
+        return words.why(*bounds) or "", words.in_the_way(words.obstacle(*bounds))
+    return str(why.CallRefused(answer.number, answer.extra, words.reason(answer))), []
+
+
 class Trial:
     """What was done on a policy, with the ledger before and after each step."""
 
     def __init__(self, loaded: Loaded) -> None:
         self.loaded, self.image = loaded, loaded.image
-        self.everything = frozenset(range(loaded.policy.counts[2]))
+        self.everything = set_of(range(loaded.policy.counts[2]))
         self.reached = closed(loaded.policy).reached
         self.steps: List[Step] = []
         self.ledgers: List[bytes] = [bytes(calls.new_ledger(self.image))]
@@ -115,8 +132,9 @@ class Trial:
         """Makes a call and takes it into the list."""
         ledger = bytearray(self.ledgers[-1])
         answer = make(self.image, ledger, call)
-        told, in_the_way = self.outcome(call, answer)
-        self.steps.append(Step(call, answer, self.described(call, answer), told, in_the_way))
+        words = why.Ask(self.image, self.ledgers[-1], self.loaded.names, call.user, call.session)
+        told, in_the_way = outcome(words, call, answer)
+        self.steps.append(Step(call, answer, self.described(words, call, answer), told, in_the_way))
         self.ledgers.append(bytes(ledger))
         return self.steps[-1]
 
@@ -149,13 +167,16 @@ class Trial:
 
     def ask(self, wish: Wish, permission: int) -> Step:
         """Asks for a permission."""
-        lower, upper = self.bounds(wish, permission)
-        return self.do(Call("ask", wish.user, wish.window or 0, calls.bound_bytes("the lower bound", lower),
-                            calls.bound_bytes("the upper bound", upper), wish.aims))
+        lower, upper = self.bounds(wish, self.kept(wish), permission)
+        return self.do(Call("ask", wish.user, wish.window or 0, lower, upper, wish.aims))
 
-    def bounds(self, wish: Wish, permission: int) -> Tuple[FrozenSet[int], FrozenSet[int]]:
+    def kept(self, wish: Wish) -> FrozenSet[int]:
+        """What is asked for beside the next permission."""
+        return self.asked(wish.user, wish.window) if wish.add else frozenset()
+
+    def bounds(self, wish: Wish, kept: FrozenSet[int], permission: int) -> Tuple[bytes, bytes]:
         """The bounds of an ask for a permission."""
-        lower = frozenset({permission}) | (self.asked(wish.user, wish.window) if wish.add else frozenset())
+        lower = set_of({permission, *kept})
         return lower, lower if wish.narrow else self.everything
 
     def asked(self, user: int, window: Optional[int]) -> FrozenSet[int]:
@@ -170,40 +191,22 @@ class Trial:
 
     # ---- telling ----
 
-    def names(self, call: Call) -> why.Ask:
-        """The words for a call, on the ledger as it is."""
-        return why.Ask(self.image, self.ledgers[-1], self.loaded.names, call.user, call.session)
-
-    def described(self, call: Call, answer: Answer) -> str:
+    def described(self, words: why.Ask, call: Call, answer: Answer) -> str:
         """What a call does, in words."""
-        ask = self.names(call)
-        who = ask.name("user", call.user)
+        who = words.name("user", call.user)
         if call.name == "open":
             return f"{who} opens window {answer.extra}" if answer.done else f"{who} opens a window"
         if call.name != "ask":
             return f"{who} {call.name}s window {call.session}"
-        lower, upper = why.members(call.lower), why.members(call.upper)
-        words = f"{who} asks in window {call.session} for {ask.list('permission', lower, ' and ') or 'no permission'}"
-        if upper == lower:
-            words += " and nothing else"
-        elif upper != self.everything:
-            words += f", within {len(upper)} permissions"
+        what = words.list("permission", why.members(call.lower), " and ") or "no permission"
+        told = f"{who} asks in window {call.session} for {what}"
+        if call.upper == call.lower:
+            told += " and nothing else"
+        elif call.upper != self.everything:
+            told += f", within {len(why.members(call.upper))} permissions"
         if call.aims is not None:
-            words += f", with {AIMS.get(call.aims[0], 'unknown')} permissions, then {AIMS.get(call.aims[1], 'unknown')} roles"
-        return words
-
-    def outcome(self, call: Call, answer: Answer) -> Tuple[str, List[why.Holder]]:
-        """What came of a call, in words, and the windows that stood in its way."""
-        ask = self.names(call)
-        if answer.done:
-            if isinstance(answer, Chosen):
-                return f"live: {ask.list('role', answer.roles) or 'no role'}", []
-            return "done", []
-        if call.name == "ask" and answer.number == Number.NONE:
-            bounds = (why.members(call.lower), why.members(call.upper))
-            found = ask.obstacle(*bounds)
-            return ask.why(*bounds) or "", ask.in_the_way(found)
-        return str(why.CallRefused(answer.number, answer.extra, ask.reason(answer))), []
+            told += f", with {AIMS.get(call.aims[0], 'unknown')} permissions, then {AIMS.get(call.aims[1], 'unknown')} roles"
+        return told
 
     def state(self, wish: Wish) -> Dict[str, Any]:
         """All that the page shows of the trial for one person and window."""
@@ -234,16 +237,10 @@ class Trial:
         """Of each permission: through which roles it is live, or whether an ask for it would be answered now."""
         if wish.window is None or wish.window not in calls.open_sessions(ledger, wish.user):
             return []
-        shown = calls.show(self.image, ledger, wish.user, wish.window)
-        live: AbstractSet[int] = shown.permissions if shown.done else frozenset()
-        return [self.permission(wish, ledger, permission, permission in live) for permission in sorted(self.everything)]
-
-    def permission(self, wish: Wish, ledger: bytes, permission: int, live: bool) -> Dict[str, Any]:
-        """A permission's button."""
-        lower, upper = self.bounds(wish, permission)
-        free = calls.obstacle(self.image, ledger, wish.user, wish.window or 0, lower, upper).number == Number.NONE
-        by: Sequence[int] = ()
-        if live:
-            told = calls.explain(self.image, ledger, wish.user, wish.window or 0, permission)
-            by = (told.role, told.granting_role) if told.done else ()
-        return {"free": free, "by": list(by)}
+        live = calls.show(self.image, ledger, wish.user, wish.window).permissions
+        kept, found = self.kept(wish), []
+        for permission in range(self.loaded.policy.counts[2]):
+            obstacle = calls.obstacle(self.image, ledger, wish.user, wish.window, *self.bounds(wish, kept, permission))
+            by = calls.explain(self.image, ledger, wish.user, wish.window, permission) if permission in live else None
+            found.append({"free": obstacle.number == Number.NONE, "by": [] if by is None else [by.role, by.granting_role]})
+        return found
