@@ -28,16 +28,7 @@ golden() {
 
 # unit MODULE: its tests, each counted
 unit() {
-  local said status
-  said=$(cd "$root/tests/python" && NUTRAMEZA_LIBRARY=$shared NUTRAMEZA_GOLDEN=$work/golden PYTHONPATH=$root/python "$python" run.py "$1" 2>&1)
-  status=$?
-  sed '$d' <<< "$said"
-  if [[ $said =~ ([0-9]+)' passed, '([0-9]+)' failed'$ ]]; then
-    passed=$((passed + BASH_REMATCH[1])) failed=$((failed + BASH_REMATCH[2]))
-  else
-    echo "$said" "($status)"
-    failed=$((failed + 1))
-  fi
+  tally env -C "$root/tests/python" "NUTRAMEZA_LIBRARY=$shared" "NUTRAMEZA_GOLDEN=$work/golden" "PYTHONPATH=$root/python" "$python" run.py "$1"
 }
 
 has_engines() {

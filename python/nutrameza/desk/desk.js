@@ -16,7 +16,7 @@ function made(tag, classes, ...children) {
 // ---- the server ----
 
 async function answer(request) {
-  const reply = await request;
+  const reply = await request.catch(() => { throw new Error("The desk does not answer. Is it still running?"); });
   if (!reply.ok) throw new Error(await reply.text());
   return reply;
 }
@@ -40,7 +40,7 @@ function doing(work) {
       notice("");
       await work(...given);
     } catch (wrong) {
-      notice(wrong.message.trim() || "the desk does not answer; is it still running?");
+      notice(wrong.message.trim());
     }
   };
 }

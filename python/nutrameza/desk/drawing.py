@@ -193,8 +193,8 @@ def svg(drawn: str, width: float, height: float) -> str:
 
 
 def hierarchy(nodes: Sequence[Node], pairs: Sequence[Pair], red: FrozenSet[Pair] = frozenset()) -> str:
-    """The picture of all roles, row by row: those with seniors or juniors in layers, then the others; the pairs of `red`
-    drawn as a loop."""
+    """The picture of all roles, row by row: those with seniors or juniors in layers, then the others; the pairs of
+    `red` drawn as a loop."""
     groups = components(len(nodes), pairs)
     rows = in_rows([Picture(group, [pair for pair in pairs if pair[0] in group]) for group in groups if len(group) > 1])
     alone, across = [group[0] for group in groups if len(group) == 1], (FULL + GAP) // (WIDTH + GAP)
