@@ -4,6 +4,7 @@ import http.client
 import json
 import os
 import re
+import signal
 import subprocess
 import tempfile
 import unittest
@@ -48,13 +49,18 @@ def played(image, script):
     return done.stdout.decode().splitlines()
 
 
+def in_the_foreground():
+    """Ctrl-C ends what is started, wherever the tests themselves are run."""
+    signal.signal(signal.SIGINT, signal.SIG_DFL)
+
+
 class Running:
     """A desk that runs: its process, its address, its folder."""
 
     def __init__(self, path, *words):
         self.folder = tempfile.TemporaryDirectory()
         self.process = subprocess.Popen([COMMAND, "desk", path, *words, "--no-browser"], cwd=self.folder.name, stdout=subprocess.PIPE,
-                                        stderr=subprocess.PIPE, text=True)
+                                        stderr=subprocess.PIPE, text=True, preexec_fn=in_the_foreground)
         self.first = self.process.stdout.readline() + self.process.stdout.readline()
         found = re.search(r"http://(127\.0\.0\.1):(\d+)/([\w-]+)/$", self.first.split("\n")[0])
         if found is None:

@@ -31,7 +31,8 @@ Exit status: 0 written; 1 the policy is refused; 2 wrong usage, no library, or a
 
 def desk(arguments: argparse.Namespace) -> int:
     """Serves the desk until Ctrl-C."""
-    signal.signal(signal.SIGINT, signal.default_int_handler)
+    if signal.getsignal(signal.SIGINT) is not signal.SIG_IGN:  # as in the background of a script
+        signal.signal(signal.SIGINT, signal.default_int_handler)
     served = server.Server(server.Desk(arguments.image, names_of(arguments.names)), arguments.port)
     print(f"{arguments.image}: the desk is at {served.address()}\nCtrl-C ends it", flush=True)
     if not arguments.no_browser and has_screen():

@@ -21,7 +21,7 @@ def many(count: int, one: str, more: str = "") -> str:
 
 def plain(view: View, sort: str, number: int) -> str:
     """A name with its number in brackets, as text of a page."""
-    return f'<span class="named">{escape(called(sort, number, view["names"]))} <small>({number})</small></span>'
+    return f'<span class="named">{escape(called(sort, number, view["names"]))}&nbsp;<small>({number})</small></span>'
 
 
 def chip(view: View, role: int) -> str:
