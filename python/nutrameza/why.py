@@ -1,10 +1,10 @@
 """What stands in the way of an ask, and why a policy stops a user, in words and by names. All that is said comes from
 calls of the library, on the policy or on a part of it."""
 
-from typing import AbstractSet, Dict, FrozenSet, Iterable, List, Optional
+from typing import AbstractSet, Dict, FrozenSet, Iterable, List, Optional, Sequence, Tuple
 
 from . import calls, limits
-from .answers import Obstacle, members
+from .answers import Answer, Obstacle, members
 from .limits import Aim, ExclusionKind, Number, ObstacleKind
 from .policy import (ASSIGNMENT, EXCLUSION, EXCLUSION_KINDS, LIMIT, SENIOR, Entry, Names, Policy, called, meant, named, read,
                      tidied, to_words)
@@ -18,17 +18,11 @@ class CallRefused(Exception):
         super().__init__(f"{said}: {reason}" if reason else f"{said} ({extra})")
 
 
-# ---- why not ----
+class Named:
+    """What is said of users, roles and permissions by the names of a policy."""
 
-class Ask:
-    """A user's ask in a window under an image, with the names of its policy; the ledger is copied."""
-
-    def __init__(self, image: bytes, ledger: calls.Ledger, names: Names, user: int, session: int) -> None:
-        answer = calls.check(image)
-        if not answer.done:
-            raise CallRefused(answer.number, answer.extra)
-        self.image, self.ledger, self.names, self.user, self.session = image, bytes(ledger), names, user, session
-        self.policy = read(to_words(image))
+    def __init__(self, names: Names) -> None:
+        self.names = names
 
     def name(self, sort: str, number: int) -> str:
         """A name with its number in brackets."""
@@ -39,9 +33,27 @@ class Ask:
         named_ones = [self.name(sort, number) for number in sorted(numbers)]
         return last.join([", ".join(named_ones[:-1]), named_ones[-1]] if len(named_ones) > 1 else named_ones)
 
+
+# ---- why not ----
+
+class Ask(Named):
+    """A user's ask in a window under an image, with the names of its policy; the ledger is copied."""
+
+    def __init__(self, image: bytes, ledger: calls.Ledger, names: Names, user: int, session: int) -> None:
+        super().__init__(names)
+        answer = calls.check(image)
+        if not answer.done:
+            raise CallRefused(answer.number, answer.extra)
+        self.image, self.ledger, self.user, self.session = image, bytes(ledger), user, session
+        self.policy = read(to_words(image))
+
     def everything(self) -> FrozenSet[int]:
         """The policy's permissions."""
         return frozenset(range(self.policy.counts[2]))
+
+    def windows(self, users: Iterable[int]) -> List[Tuple[int, int]]:
+        """The windows that these users may have, each behind its user."""
+        return [(user, session) for user in users for session in range(limits.SESSIONS)]
 
     def active(self, user: int, session: int) -> FrozenSet[int]:
         """The active roles of a session; none of one that is not open."""
@@ -51,8 +63,7 @@ class Ask:
     def holding(self, roles: AbstractSet[int], users: Iterable[int]) -> str:
         """The windows, this one left out, in which one of these roles is active, each with those that are."""
         found = []
-        windows = [(user, session) for user in users for session in range(limits.SESSIONS)]
-        for user, session in windows:
+        for user, session in self.windows(users):
             held = roles & self.active(user, session)
             if held and (user, session) != (self.user, self.session):
                 whose = "" if user == self.user else f" of {self.name('user', user)}"
@@ -81,7 +92,7 @@ class Ask:
             return needs + f"which {self.name('user', self.user)} may not switch on"
         return needs + (self.wide(found.roles, upper) if found.kind == ObstacleKind.UPPER else self.limited(found.roles))
 
-    def reason(self, refused: Obstacle) -> str:
+    def reason(self, refused: Answer) -> str:
         """What a refusal says of the names."""
         if refused.number == Number.LINE:
             return f"the line of {self.name('user', calls.unsound_user(refused, self.user))} is not sound"
@@ -89,6 +100,7 @@ class Ask:
         reasons: Dict[int, str] = {
             Number.LEDGER: f"{len(self.ledger)} bytes are no ledger of {users} users", Number.PERSON: f"there is no user {self.user}",
             Number.SESSION: f"there is no window {self.session}", Number.CLOSED: f"window {self.session} is not open",
+            Number.FULL: f"{self.name('user', self.user)} has {limits.SESSIONS} windows open, and that is the most",
             Number.PERMISSION: f"permissions are numbered below {permissions}"}
         return reasons.get(refused.number, "")
 
@@ -165,9 +177,9 @@ def stops(policy: Policy, user: int, line: bytes) -> Optional[bool]:
     return user in answer.users if answer.done else None
 
 
-def reasons(policy: Policy, user: int, line: bytes, names: Names) -> List[str]:
+def reasons(policy: Policy, user: int, line: bytes, names: Names, windows: Sequence[int] = range(limits.SESSIONS)) -> List[str]:
     """Why a policy stops a user with this line, a reason each line: asked of the library by parts of the policy and of
-    the line."""
+    the line. Windows are how the line's sessions are called."""
     active = {session: roles_at(line, 16 + 16 * session) for session in range(limits.SESSIONS)}
     held = sorted({role for roles in active.values() for role in roles})
     users, roles, permissions = policy.counts
@@ -176,7 +188,7 @@ def reasons(policy: Policy, user: int, line: bytes, names: Names) -> List[str]:
         return stops(Policy([users, limits.MAX_ROLES, permissions], entries), user, line)
 
     own = [entry for entry in policy.entries if entry[0] in (ASSIGNMENT, SENIOR)]
-    found = [f"window {session} has {called('role', role, names)}, which is not {called('user', user, names)}'s"
+    found = [f"window {windows[session]} has {called('role', role, names)}, which is not {called('user', user, names)}'s"
              for session in active for role in active[session] if stopping(own, line_with(role))]
     free: List[Entry] = [(ASSIGNMENT, user, role) for role in held]
     if stopping(free, line) is not False:
