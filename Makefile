@@ -54,7 +54,7 @@ files := lib/libnutrameza.a lib/$(notdir $(shared)) $(links) include/nutrameza.h
   bin/nutrameza bin/nutrameza-policy bin/nutrameza_script bin/nutrameza_survey \
   $(package:python/%=lib/python3/%) $(desk:python/%=lib/python3/%) share/bash-completion/completions/nutrameza \
   share/man/man7/nutrameza.7 $(calls:%=share/man/man3/%.3) \
-  $(patsubst %,share/man/man1/%.1,nutrameza nutrameza-policy nutrameza_script nutrameza_survey) \
+  $(patsubst %,share/man/man1/%.1,nutrameza nutrameza-policy nutrameza-store nutrameza_script nutrameza_survey) \
   $(documents:%=share/doc/nutrameza/%) $(pictures:%=share/doc/nutrameza/%) $(patsubst %,share/doc/nutrameza/%,$(wildcard examples/*))
 folders := share/doc/nutrameza/docs share/doc/nutrameza/examples share/doc/nutrameza lib/cmake/nutrameza \
   lib/python3/nutrameza/desk lib/python3/nutrameza

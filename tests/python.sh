@@ -1,11 +1,13 @@
 #!/usr/bin/env bash
 # The Python package: its unit tests, generated calls beside the separate solver's answers, an install by pip without a
-# network, the package and its commands in an install prefix, the page's example. It needs libnutrameza.a
-# (target/staticlib, or the folder that NUTRAMEZA_LIB names) and cargo; PYTHON names another interpreter. The last line
-# is 'N passed, M failed'.
+# network, the package and its commands in an install prefix, the page's example; the store's commands on SQLite and on
+# a PostgreSQL server of its own, where one is installed. It needs libnutrameza.a (target/staticlib, or the folder that
+# NUTRAMEZA_LIB names) and cargo; PYTHON names another interpreter. The last line is 'N passed, M failed'.
 . "$(dirname "${BASH_SOURCE[0]}")/it.sh"
+chmod 755 "$work"
+trap '[ ! -d "$work/pg/data" ] || "$root/tests/store/server.sh" stop "$work/pg"; rm -rf "$work"' EXIT
 export LC_ALL=C.UTF-8 PYTHONDONTWRITEBYTECODE=1
-unset PYTHONPATH LD_LIBRARY_PATH NUTRAMEZA_LIBRARY
+unset PYTHONPATH LD_LIBRARY_PATH NUTRAMEZA_LIBRARY NUTRAMEZA_STORE_LIBRARY NUTRAMEZA_STORE NUTRAMEZA_NAMES
 python=${PYTHON:-python3}
 lib=$(cd "$root" && realpath -m "${NUTRAMEZA_LIB:-target/staticlib}")
 prefix=$work/prefix
@@ -37,6 +39,10 @@ has_engines() {
 
 stored() {
   make -s -C "$root" install-store "PREFIX=$work/stored" "store_out=$work/store" "NUTRAMEZA_LIB=$lib" > "$work/stored_says" 2>&1 || { cat "$work/stored_says"; return 1; }
+}
+
+served() {
+  "$root/tests/store/server.sh" make "$work/pg"
 }
 
 # The sources are read by the grammar of 3.9, whatever interpreter runs.
@@ -111,7 +117,15 @@ unit test_golden
 unit test_command
 if has_engines; then
   it 'the store, with both engines' stored
-  NUTRAMEZA_STORE_LIBRARY=$work/stored/lib/libnutrameza_store.so.0 unit test_store
+  export NUTRAMEZA_STORE_LIBRARY=$work/stored/lib/libnutrameza_store.so.0
+  unit test_store
+  if [ -n "${PGBIN:-}" ] || ls /usr/lib/postgresql/*/bin/initdb > /dev/null 2>&1; then
+    it 'a PostgreSQL server' served
+    export NUTRAMEZA_TEST_POSTGRESQL="postgresql://store@/postgres?host=$work/pg&port=5499"
+  else
+    echo 'not installed: a PostgreSQL server; the command is tested on SQLite alone'
+  fi
+  unit test_store_command
 else
   echo 'not installed: headers of SQLite or PostgreSQL; the store is not called'
 fi

@@ -7,6 +7,7 @@ import argparse
 import os
 import signal
 import sys
+import textwrap
 from typing import Any, Callable, List, NamedTuple, Optional, Sequence, Tuple
 
 from . import __version__, calls, library, limits, policy, why
@@ -316,10 +317,18 @@ def add_arguments(name: str, command: argparse.ArgumentParser) -> None:
         command.add_argument("names", metavar="NAMES", nargs="?", help="a policy text that gives the names")
 
 
+class Paragraphs(argparse.RawDescriptionHelpFormatter):
+    """Help whose paragraphs fit the terminal; a block with an indented line stands as it is."""
+
+    def _fill_text(self, text: str, width: int, indent: str) -> str:
+        blocks = text.strip().split("\n\n")
+        return "\n\n".join(block if "\n " in f"\n{block}" else textwrap.fill(block, width, break_on_hyphens=False) for block in blocks)
+
+
 def command_line(program: str, description: str, overwrites: bool, more: Sequence[Callable[[Any, str], None]] = ()) -> argparse.ArgumentParser:
     """The parser of the command, or of the older one, which overwrites the files that it writes. More: what adds
     sub-commands of its own."""
-    plain = argparse.RawDescriptionHelpFormatter
+    plain = Paragraphs
     parser = argparse.ArgumentParser(prog=program, description=description, formatter_class=plain, allow_abbrev=False)
     parser.add_argument("--version", action="version", version=f"{program} {__version__}")
     commands = parser.add_subparsers(required=True, metavar="COMMAND", dest="command")
@@ -359,14 +368,16 @@ def run(parser: argparse.ArgumentParser, words: Optional[Sequence[str]], prefix:
 def as_program(parser: argparse.ArgumentParser, prefix: str) -> int:
     """Runs the program's own words; a closed pipe and Ctrl-C end it as they end other programs."""
     signal.signal(signal.SIGPIPE, signal.SIG_DFL)
-    signal.signal(signal.SIGINT, signal.SIG_DFL)
+    if signal.getsignal(signal.SIGINT) is not signal.SIG_IGN:  # as in the background of a script
+        signal.signal(signal.SIGINT, signal.SIG_DFL)
     return run(parser, None, prefix)
 
 
 DESCRIPTION = """The session kit for operators and help desks: policies as text and as images, why an ask is
-refused, and whom a new policy stops. Every judgement is the proved library's. 'nutrameza COMMAND
---help' has each command with an example, 'nutrameza build --help' the form of the text. No file
-is overwritten without --force.
+refused, whom a new policy stops, a policy shown and tried in a browser ('nutrameza desk'), and wards in
+a database ('nutrameza store'). Every judgement is the proved library's. 'nutrameza COMMAND --help' has
+each command with an example, 'nutrameza build --help' the form of the text. No file is overwritten
+without --force.
 
 Exit status: 0 done; 1 the text has errors, the image or the call is refused, or the answer is no; 2 wrong usage, a
 name that is not declared, no library, or a file that can't be read or written."""
@@ -384,8 +395,9 @@ def policy_parser() -> argparse.ArgumentParser:
 
 def main() -> int:
     """The command nutrameza."""
-    from .desk import command  # it stands on this module
-    return as_program(command_line("nutrameza", DESCRIPTION, overwrites=False, more=[command.add]), "nutrameza: ")
+    from . import store_cli  # they stand on this module
+    from .desk import command
+    return as_program(command_line("nutrameza", DESCRIPTION, overwrites=False, more=[store_cli.add, command.add]), "nutrameza: ")
 
 
 def policy_main() -> int:

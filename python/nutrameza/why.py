@@ -1,7 +1,7 @@
 """What stands in the way of an ask, and why a policy stops a user, in words and by names. All that is said comes from
 calls of the library, on the policy or on a part of it."""
 
-from typing import AbstractSet, Dict, FrozenSet, Iterable, List, Optional, Tuple
+from typing import AbstractSet, Dict, FrozenSet, Iterable, List, Optional, Sequence, Tuple
 
 from . import calls, limits
 from .answers import Answer, Obstacle, members
@@ -22,17 +22,11 @@ class CallRefused(Exception):
         super().__init__(f"{said}: {reason}" if reason else f"{said} ({extra})")
 
 
-# ---- why not ----
+class Named:
+    """What is said of users, roles and permissions by the names of a policy."""
 
-class Ask:
-    """A user's ask in a window under an image, with the names of its policy; the ledger is copied."""
-
-    def __init__(self, image: bytes, ledger: calls.Ledger, names: Names, user: int, session: int) -> None:
-        answer = calls.check(image)
-        if not answer.done:
-            raise CallRefused(answer.number, answer.extra)
-        self.image, self.ledger, self.names, self.user, self.session = image, bytes(ledger), names, user, session
-        self.policy = read(to_words(image))
+    def __init__(self, names: Names) -> None:
+        self.names = names
 
     def name(self, sort: str, number: int) -> str:
         """A name with its number in brackets."""
@@ -42,6 +36,20 @@ class Ask:
         """Names in the order of their numbers, with this between the last two."""
         named_ones = [self.name(sort, number) for number in sorted(numbers)]
         return last.join([", ".join(named_ones[:-1]), named_ones[-1]] if len(named_ones) > 1 else named_ones)
+
+
+# ---- why not ----
+
+class Ask(Named):
+    """A user's ask in a window under an image, with the names of its policy; the ledger is copied."""
+
+    def __init__(self, image: bytes, ledger: calls.Ledger, names: Names, user: int, session: int) -> None:
+        super().__init__(names)
+        answer = calls.check(image)
+        if not answer.done:
+            raise CallRefused(answer.number, answer.extra)
+        self.image, self.ledger, self.user, self.session = image, bytes(ledger), user, session
+        self.policy = read(to_words(image))
 
     def everything(self) -> FrozenSet[int]:
         """The policy's permissions."""
@@ -196,9 +204,9 @@ def stops(policy: Policy, user: int, line: bytes) -> Optional[bool]:
     return user in answer.users if answer.done else None
 
 
-def reasons(policy: Policy, user: int, line: bytes, names: Names) -> List[str]:
+def reasons(policy: Policy, user: int, line: bytes, names: Names, windows: Sequence[int] = range(limits.SESSIONS)) -> List[str]:
     """Why a policy stops a user with this line, a reason each line: asked of the library by parts of the policy and of
-    the line."""
+    the line. Windows are how the line's sessions are called."""
     active = {session: roles_at(line, 16 + 16 * session) for session in range(limits.SESSIONS)}
     held = sorted({role for roles in active.values() for role in roles})
     users, roles, permissions = policy.counts
@@ -207,7 +215,7 @@ def reasons(policy: Policy, user: int, line: bytes, names: Names) -> List[str]:
         return stops(Policy([users, limits.MAX_ROLES, permissions], entries), user, line)
 
     own = [entry for entry in policy.entries if entry[0] in (ASSIGNMENT, SENIOR)]
-    found = [f"window {session} has {called('role', role, names)}, which is not {called('user', user, names)}'s"
+    found = [f"window {windows[session]} has {called('role', role, names)}, which is not {called('user', user, names)}'s"
              for session in active for role in active[session] if stopping(own, line_with(role))]
     free: List[Entry] = [(ASSIGNMENT, user, role) for role in held]
     if stopping(free, line) is not False:

@@ -16,7 +16,7 @@ and who may take it, how tight the exclusions are; the policy tried on a scratch
 for the record. FILE is a policy text, or an image with the names of NAMES.
 
 It prints an address with a secret in it, opens it where there is a screen, and answers on 127.0.0.1 until Ctrl-C: only
-whoever has the secret, and no page of another origin. It writes no file; what you save, the browser saves. A text that
+whoever has the secret, and no page of another origin. It keeps nothing on disk; what you save, the browser saves. A text that
 is refused is shown with its lines and reasons, and read again when you have mended it. docs/OFFICERS.md is the page for
 those who sit at it.
 
@@ -73,26 +73,23 @@ def port(word: str) -> int:
     return number
 
 
+COMMANDS = {
+    "desk": cli.Command("FILE [NAMES] [--port PORT] [--no-browser]", "a policy shown, tried and compared in a browser", DESK, "ward.policy", desk),
+    "report": cli.Command("FILE [NAMES] -o OUT [--force]", "a policy as one HTML file for the record", REPORT, "ward.policy -o ward.html",
+                          write_report),
+}
+
+
 def add(commands: Any, program: str) -> None:
-    """Adds the two sub-commands to a command line."""
-    shape = {"formatter_class": argparse.RawDescriptionHelpFormatter, "allow_abbrev": False}
-    made = commands.add_parser("desk", help="a policy shown, tried and compared in a browser", description=DESK,
-                               usage=f"{program} desk FILE [NAMES] [--port PORT] [--no-browser]",
-                               epilog=f"example:\n  {program} desk ward.policy", **shape)
-    add_policy(made)
-    made.add_argument("--port", metavar="PORT", type=port, default=0, help="the port to answer on (one that is free)")
-    made.add_argument("--no-browser", action="store_true", help="only print the address")
-    made.set_defaults(run=desk)
-    made = commands.add_parser("report", help="a policy as one HTML file for the record", description=REPORT,
-                               usage=f"{program} report FILE [NAMES] -o OUT [--force]",
-                               epilog=f"example:\n  {program} report ward.policy -o ward.html", **shape)
-    add_policy(made)
-    made.add_argument("-o", "--output", metavar="OUT", required=True, help="the file to write")
-    made.add_argument("-f", "--force", action="store_true", help="overwrite a file that is there already")
-    made.set_defaults(run=write_report)
-
-
-def add_policy(command: argparse.ArgumentParser) -> None:
-    """The arguments that name a policy."""
-    command.add_argument("image", metavar="FILE", help="a policy text or an image")
-    command.add_argument("names", metavar="NAMES", nargs="?", help="a policy text that gives an image's names")
+    """Adds the sub-commands to a command line."""
+    made = {}
+    for name, command in COMMANDS.items():
+        made[name] = commands.add_parser(name, help=command.help, description=command.text, formatter_class=cli.Paragraphs, allow_abbrev=False,
+                                         usage=f"{program} {name} {command.usage}", epilog=f"example:\n  {program} {name} {command.example}")
+        made[name].add_argument("image", metavar="FILE", help="a policy text or an image")
+        made[name].add_argument("names", metavar="NAMES", nargs="?", help="a policy text that gives an image's names")
+        made[name].set_defaults(run=command.run)
+    made["desk"].add_argument("--port", metavar="PORT", type=port, default=0, help="the port to answer on (one that is free)")
+    made["desk"].add_argument("--no-browser", action="store_true", help="only print the address")
+    made["report"].add_argument("-o", "--output", metavar="OUT", required=True, help="the file to write")
+    made["report"].add_argument("-f", "--force", action="store_true", help="overwrite a file that is there already")
