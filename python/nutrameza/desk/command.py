@@ -16,9 +16,9 @@ and who may take it, how tight the exclusions are; the policy tried on a scratch
 for the record. FILE is a policy text, or an image with the names of NAMES.
 
 It prints an address with a secret in it, opens it where there is a screen, and answers on 127.0.0.1 until Ctrl-C: only
-whoever has the secret, and no page of another origin. It keeps nothing on disk; what you save, the browser saves. A text that
-is refused is shown with its lines and reasons, and read again when you have mended it. docs/OFFICERS.md is the page for
-those who sit at it.
+whoever has the secret, and no page of another origin. It keeps nothing on disk; what you save, the browser saves. A
+text that is refused is shown with its lines and reasons, and read again when you have mended it. docs/OFFICERS.md is
+the page for those who sit at it.
 
 Exit status: 0 ended by Ctrl-C; 2 wrong usage, no library, a file that can't be read, or a port that is taken."""
 
