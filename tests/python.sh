@@ -1,6 +1,6 @@
 #!/usr/bin/env bash
 # The Python package: its unit tests, generated calls beside the separate solver's answers, an install by pip without a
-# network, the package and its commands in an install prefix, the page's example; the store's commands on SQLite and on
+# network, the package and its commands in an install prefix, the pages' examples; the store's commands on SQLite and on
 # a PostgreSQL server of its own, where one is installed. It needs libnutrameza.a (target/staticlib, or the folder that
 # NUTRAMEZA_LIB names) and cargo; PYTHON names another interpreter. The last line is 'N passed, M failed'.
 . "$(dirname "${BASH_SOURCE[0]}")/it.sh"
@@ -43,6 +43,39 @@ stored() {
 
 served() {
   "$root/tests/store/server.sh" make "$work/pg"
+}
+
+# The operators' page: its commands by the installed program, each with what it prints, times aside. Before the block
+# about damage a line is changed behind the store's back.
+operators_page() {
+  local blocks number
+  mkdir -p "$work/operators" && cd "$work/operators" && cp "$root"/examples/ward*.policy . && export PATH=$work/stored/bin:$PATH || return 1
+  command -v sqlite3 > /dev/null || sqlite3() { "$python" -c 'import sqlite3, sys; sqlite3.connect(sys.argv[1]).execute(sys.argv[2])' "$@"; }
+  blocks=$(grep -c '^```text operators$' "$root/docs/OPERATORS.md") && [ "$blocks" -ge 8 ] || return 1
+  for number in $(seq "$blocks"); do
+    page OPERATORS.md 'text operators' "$number" > shown && test -s shown || return 1
+    ! grep -q damaged shown || "$python" -c 'import sqlite3; c = sqlite3.connect("ward.db"); c.execute("update line set sum = 0 where usr = 0"); c.commit()' || return 1
+    replayed < shown > said 2>&1
+    diff <(timeless < said) <(timeless < shown) || { echo "block $number"; return 1; }
+  done
+}
+
+# page PAGE NAME NUMBER: of the blocks of that name in a page of docs/, the one of that number, from 1
+page() {
+  awk -v open="\`\`\`$2" -v number="$3" '$0 == "```" { inside = 0 } inside { print } $0 == open { inside = ++seen == number }' "$root/docs/$1"
+}
+
+# replayed: the commands of a transcript, each with what it prints; they share a shell, so that a variable stays
+replayed() {
+  local line
+  while IFS= read -r line; do
+    case $line in '$ '*) echo "$line"; eval "${line#?}" < /dev/null ;; esac
+  done
+}
+
+# timeless: times, tokens, who runs it and the widths of columns as if they were always the same
+timeless() {
+  sed -E 's/[0-9]{4}-[0-9]{2}-[0-9]{2}[ T][0-9:]{8}(\.[0-9]{6}Z)?/TIME/g; s/[0-9a-f]{32}$/TOKEN/; s/nutrameza:[^ ]*@[^] ,]*/nutrameza:LOGIN@MACHINE/g; s/ {2,}/  /g'
 }
 
 # The sources are read by the grammar of 3.9, whatever interpreter runs.
@@ -126,6 +159,7 @@ if has_engines; then
     echo 'not installed: a PostgreSQL server; the command is tested on SQLite alone'
   fi
   unit test_store_command
+  it "the operators' page says what the command says" operators_page
 else
   echo 'not installed: headers of SQLite or PostgreSQL; the store is not called'
 fi

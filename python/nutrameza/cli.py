@@ -361,7 +361,9 @@ def run(parser: argparse.ArgumentParser, words: Optional[Sequence[str]], prefix:
         print(f"{prefix}{wrong}", file=sys.stderr)
         return 2
     except OSError as wrong:
-        print(f"{prefix}{wrong.filename}: {wrong.strerror}", file=sys.stderr)
+        print(f"{prefix}{wrong.filename or 'standard output'}: {wrong.strerror}", file=sys.stderr)
+        if wrong.filename is None:
+            os.dup2(os.open(os.devnull, os.O_WRONLY), sys.stdout.fileno())  # nothing more is written at the end
         return 2
 
 

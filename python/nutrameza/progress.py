@@ -5,20 +5,30 @@ import contextlib
 import os
 import signal
 import sys
+import textwrap
 import threading
 import time
-from typing import Iterator
+from typing import Iterator, TextIO
 
 # Seconds until the line is shown, and between two of them.
 FIRST, NEXT = 1.0, 0.2
 
 
-def width() -> int:
-    """The columns of the terminal on standard error."""
+def width(file: TextIO) -> int:
+    """The columns of the terminal that a file is."""
     try:
-        return os.get_terminal_size(sys.stderr.fileno()).columns or 80
+        return os.get_terminal_size(file.fileno()).columns or 80
     except (OSError, ValueError):
         return 80
+
+
+def folded(text: str, file: TextIO) -> str:
+    """A text as a reader of this file has it: on a terminal no word is broken at its edge."""
+    if not file.isatty():
+        return text
+    room = max(20, width(file) - 1)
+    return "\n".join(textwrap.fill(line, room, drop_whitespace=False, break_on_hyphens=False).replace(" \n", "\n") if len(line) > room else line
+                     for line in text.split("\n"))
 
 
 class Progress:
@@ -49,16 +59,21 @@ class Progress:
     def write(self, text: str) -> None:
         """Puts a text in the place of the line that is there."""
         with self.lock:
-            text = text[:max(1, width() - 1)]
-            if text or self.there:
-                sys.stderr.write(f"\r{text:<{self.there}}" + ("" if text else "\r"))
-                sys.stderr.flush()
-            self.there = len(text)
+            self.put(text)
+
+    def put(self, text: str) -> None:
+        """The same, for who has the lock."""
+        text = text[:max(1, width(sys.stderr) - 1)]
+        if text or self.there:
+            sys.stderr.write(f"\r{text:<{self.there}}" + ("" if text else "\r"))
+            sys.stderr.flush()
+        self.there = len(text)
 
     def print(self, text: str) -> None:
         """Prints a line of the command's own output, the progress out of its way."""
-        self.write("")
-        print(text, flush=self.shown)
+        with self.lock:
+            self.put("")
+            print(text, flush=self.shown)
 
 
 @contextlib.contextmanager

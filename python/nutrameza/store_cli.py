@@ -8,8 +8,9 @@ import textwrap
 from typing import Any, Callable, Dict, List, NamedTuple, Sequence
 
 from . import cli, store_journal, store_wards, store_windows
+from .progress import folded
 from .store import Store, StoreFailed, StoreUsage
-from .store_ward import NAMES_VARIABLE, REFUSED, STORE_VARIABLE, USAGE, Failed, connected, default_host, plain
+from .store_ward import NAMES_VARIABLE, REFUSED, STATUS, STORE_VARIABLE, USAGE, Failed, connected, default_host, failure
 
 DESCRIPTION = f"""Wards in SQLite or PostgreSQL: make and change them, see who has windows open, why an ask was
 refused, what was done. STORE is "sqlite:PATH" or "postgresql://..", by --store or {STORE_VARIABLE}; a password is
@@ -176,7 +177,7 @@ SUBS = {
 COMMON = [
     argument("-s", "--store", metavar="STORE", help=f"sqlite:PATH or postgresql://.. ({STORE_VARIABLE})"),
     argument("--names", metavar="FILE", help=f"the policy text that gives the names ({NAMES_VARIABLE}); '' for none"),
-    argument("--host", metavar="NAME", help="the host that windows and entries are put down to"),
+    argument("--host", metavar="NAME", help="the host that windows and entries are put down to (nutrameza:LOGIN@MACHINE)"),
 ]
 
 
@@ -192,11 +193,14 @@ def run(sub: str, arguments: argparse.Namespace) -> int:
         with connected(arguments, making=sub == "make") as store:
             return SUBS[sub].run(arguments, store)
     except Failed as failed:
-        print(failed if failed.status == REFUSED else f"nutrameza: {failed}", file=sys.stderr)
-        return failed.status
-    except (StoreFailed, StoreUsage) as failed:
-        print(f"nutrameza: {plain(str(failed))}", file=sys.stderr)
-        return USAGE
+        words, status = str(failed), failed.status
+    except StoreFailed as failed:
+        words, status = failure(failed.answer), STATUS.get(failed.answer.number, REFUSED)
+    except (StoreUsage, UnicodeEncodeError) as failed:
+        words, status = str(failed) if isinstance(failed, StoreUsage) else "a word of the command line is no UTF-8", USAGE
+    sys.stdout.flush()
+    print(folded(words if status == REFUSED else f"nutrameza: {words}", sys.stderr), file=sys.stderr)
+    return status
 
 
 def add(commands: Any, program: str) -> None:

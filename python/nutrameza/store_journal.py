@@ -11,7 +11,7 @@ from . import limits
 from .answers import members
 from .limits import Aim, Number
 from .policy import called
-from .progress import Progress, ctrl_c
+from .progress import Progress, ctrl_c, folded
 from .store import Entry, Store, word_of
 from .store_ward import Ward, counted, counts_of, local_time, plain, utc_time
 
@@ -148,7 +148,7 @@ def printing(ward: Ward, as_csv: bool) -> Callable[[Entry], None]:
     """How an entry is printed."""
     lines = Lines(ward)
     if not as_csv:
-        return lambda entry: print(lines.line(entry))
+        return lambda entry: print(folded(lines.line(entry), sys.stdout))
     writer = csv.writer(sys.stdout, lineterminator="\n")
     writer.writerow(COLUMNS)
     return lambda entry: writer.writerow(lines.row(entry)) and None

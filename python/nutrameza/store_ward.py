@@ -26,9 +26,9 @@ STATUS: Dict[int, int] = {
     StoreNumber.WARD: USAGE, StoreNumber.BUSY: STORAGE, StoreNumber.FAILED: STORAGE, StoreNumber.SCHEMA: STORAGE,
     StoreNumber.UNFIT: STORAGE, StoreNumber.UNKNOWN: UNKNOWN}
 
-# How many of the entries in which a text differs from a ward's policy are told, and the longest name of a host.
+# How many of the entries in which a text differs from a ward's policy are told; the longest name of a ward or a host.
 DIFFERENCES = 6
-HOST_BYTES = 63
+NAME_BYTES = 63
 
 MICRO = 1000000
 
@@ -84,7 +84,7 @@ def default_host() -> str:
         login = getpass.getuser()
     except (KeyError, OSError):
         login = str(os.getuid())
-    return f"nutrameza:{login}@{os.uname().nodename}".encode()[:HOST_BYTES].decode(errors="ignore")
+    return f"nutrameza:{login}@{os.uname().nodename}".encode()[:NAME_BYTES].decode(errors="ignore")
 
 
 def without_password(name: str) -> str:
@@ -109,8 +109,9 @@ def connected(arguments: argparse.Namespace, making: bool = False) -> Iterator[S
     path = name[len("sqlite:"):]
     if name.startswith("sqlite:") and not making and not os.path.exists(path):
         raise Failed(f"{path}: No such file or directory; 'nutrameza store make' makes a store", USAGE)
-    if len(host.encode()) > HOST_BYTES:
-        raise Failed(f"the host's name has {len(host.encode())} bytes; {HOST_BYTES} are the most", USAGE)
+    for what, word in (("the host", host), ("the ward", getattr(arguments, "ward", "-"))):
+        if not 1 <= len(word.encode()) <= NAME_BYTES:
+            raise Failed(f"the name of {what} has {len(word.encode())} bytes; it has 1 to {NAME_BYTES}", USAGE)
     with Store(name, host) as store:
         told, unmade = store.connected, (StoreNumber.SCHEMA, 0)
         if not told.done and not (making and (told.number, told.extra) == unmade):
@@ -120,14 +121,14 @@ def connected(arguments: argparse.Namespace, making: bool = False) -> Iterator[S
 
 def failure(answer: StoreAnswer) -> str:
     """A failure of the storage in words."""
-    said = {
+    said: Dict[int, str] = {
         StoreNumber.BUSY: "busy: others have held the lock for 10 s, and nothing is changed; try again",
         StoreNumber.FAILED: "the storage failed, and nothing is changed",
         StoreNumber.UNKNOWN: "the storage failed within the commit, so that it may be done or not",
         StoreNumber.UNFIT: "unfit storage"}
     if answer.number == StoreNumber.SCHEMA:
         return "no tables; 'nutrameza store make' makes them" if answer.extra == 0 else f"tables of version {answer.extra}, for another library"
-    return said.get(StoreNumber(answer.number), answer.word) + (f": {plain(answer.error.strip())}" if answer.error else "")
+    return said.get(answer.number, answer.word) + (f": {plain(answer.error.strip())}" if answer.error else "")
 
 
 # ---- a ward ----
@@ -164,7 +165,7 @@ class Ward(why.Named):
             return names
         more = [f".. and {counted(len(others) - DIFFERENCES, 'more line')}"] if len(others) > DIFFERENCES else []
         raise Failed("\n".join([
-            f"{path} is not the policy of {plain(self.called)}, version {self.images[-1].version}; only the text has '-', only the ward '+':",
+            f"{path} is not the policy of {plain(self.called)}, version {self.images[-1].version}.", "Only the text has '-', only the ward '+':",
             *others[:DIFFERENCES], *more, "Name the text that is in place by --names, or none: --names ''"]), USAGE)
 
     def number(self, sort: str, word: str) -> int:
@@ -194,7 +195,7 @@ class Ward(why.Named):
             StoreNumber.OVERTAKEN: "it was done, and what it gave is no longer in force",
             StoreNumber.SHRINKS: f"the ward has {self.said().counts[0]} users; one who leaves keeps the number"}
         if answer.number == StoreNumber.DAMAGED and answer.extra:
-            reasons[StoreNumber.DAMAGED] = (f"the line of {self.name('user', answer.extra - 1)} is not as the store wrote it; "
+            reasons[StoreNumber.DAMAGED] = (f"the line of {self.name('user', answer.extra - 1)} is not as the store wrote it;\n"
                                             "see 'nutrameza store verify' and 'nutrameza store mend'")
         reason = reasons.get(answer.number) or plain(answer.error) or f"{answer.extra}"
         return Failed(f"refused: {answer.number} {answer.word}: {reason}", status)

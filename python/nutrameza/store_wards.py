@@ -4,13 +4,14 @@ every change and judges every image, ledger and journal; nothing that is lost go
 import argparse
 import os
 import sys
-from typing import FrozenSet, List, Optional
+import threading
+from typing import Callable, FrozenSet, List, Optional
 
 from . import calls, cli, limits, policy, why
 from .limits import Number
 from .policy import Names, Policy
 from .progress import Progress, ctrl_c, end_by_ctrl_c
-from .store import Finding, GoOn, Report, Session, Store, StoreAnswer, StoreFailed, StoreNumber, StorePolicy
+from .store import Finding, GoOn, Report, Session, Store, StoreAnswer, StoreFailed, StoreNumber, StorePolicy, Verified
 from .store_ward import REFUSED, STATUS, USAGE, Failed, Ward, counted, counts_of, failure, local_time, plain, table
 
 SECONDS = {"": 1, "s": 1, "m": 60, "h": 3600, "d": 86400, "w": 604800}
@@ -50,11 +51,12 @@ def not_created(arguments: argparse.Namespace, answer: StoreAnswer, users: int, 
         return Failed(f"there is a ward {plain(arguments.ward)} already", USAGE)
     if answer.number == Number.LEDGER:
         size = os.path.getsize(arguments.ledger)
-        return Failed(f"{refused}: {arguments.ledger} has {size} bytes; for {counted(users, 'user')} they are {line * users}, or {old * users} where "
-                      f"it is of a version before 0.6", REFUSED)
+        return Failed(f"{refused}: {arguments.ledger} has {size} bytes; a ledger of {counted(users, 'user')} has {line * users},\n"
+                      f"or {old * users} before version 0.6", REFUSED)
     if answer.number == Number.LINE:
         return Failed(f"{refused}: the line of {named.name('user', answer.extra)} in {arguments.ledger} is not sound under {arguments.image}", REFUSED)
-    return Failed(failure(answer) if answer.number >= StoreNumber.BUSY else refused, STATUS.get(answer.number, REFUSED))
+    look = "\n'nutrameza store wards' says whether it is there." if answer.number == StoreNumber.UNKNOWN else ""
+    return Failed(failure(answer) + look if answer.number >= StoreNumber.BUSY else refused, STATUS.get(answer.number, REFUSED))
 
 
 def create(arguments: argparse.Namespace, store: Store) -> int:
@@ -147,7 +149,7 @@ def not_changed(ward: Ward, answer: StorePolicy, go_on: GoOn, names: Names) -> F
     if go_on == GoOn.CLOSING:
         way = "To close their windows does not free them; --regardless goes on, and they are stopped."
     who = why.Named(names).list("user", answer.stopped, " and ")
-    return Failed(f"refused: {answer.number} {answer.word}: {who}\n{plain(ward.called)} is unchanged, version {version}. {way}", REFUSED)
+    return Failed(f"refused: {answer.number} {answer.word}: {who}\n{plain(ward.called)} is unchanged, version {version}.\n{way}", REFUSED)
 
 
 def change_policy(arguments: argparse.Namespace, store: Store) -> int:
@@ -161,8 +163,8 @@ def change_policy(arguments: argparse.Namespace, store: Store) -> int:
     if arguments.dry_run:
         return REFUSED if moved or users else 0
     if moved and not arguments.renamed:
-        raise Failed(f"{called} is unchanged, version {ward.images[-1].version}. A number stays with its user, role or permission: write new "
-                     "names behind the others. --renamed goes on where only the spelling is another.", REFUSED)
+        raise Failed(f"{called} is unchanged, version {ward.images[-1].version}.\nA number stays with its user, role or permission: write new "
+                     "names behind the others.\n--renamed goes on where only the spelling is another.", REFUSED)
     go_on = GoOn.REGARDLESS if arguments.regardless else GoOn.CLOSING if arguments.close_windows else GoOn.IF_NONE
     answer = store.policy(ward.called, said.image(), go_on)
     if not answer.done:
@@ -189,40 +191,55 @@ def replayed(ward: Ward, report: Report) -> str:
             f"{counted(report.incidents, 'incident')}")
 
 
+def replay(ward: Ward, found: Callable[[Finding], None], progress: Progress, pressed: threading.Event) -> Verified:
+    """A replay of the journal, ended by Ctrl-C; raises Failed where there was none."""
+    def step(report: Report) -> bool:
+        progress.words = counted(report.calls, "entry", "entries") + " replayed"
+        return not pressed.is_set()
+
+    answer = ward.store.verify(ward.called, step, found)
+    if not answer.done and answer.number != StoreNumber.ENDED and not answer.report.differences:
+        raise ward.failed(answer)
+    return answer
+
+
+def ended(ward: Ward, answer: Verified) -> int:
+    """Tells how far a replay came that Ctrl-C has ended, and ends as it does."""
+    print(f"{replayed(ward, answer.report)} so far: ended by Ctrl-C", file=sys.stderr)
+    return end_by_ctrl_c()
+
+
 def verify(arguments: argparse.Namespace, store: Store) -> int:
-    """Replays the journal; Ctrl-C ends it, and it tells how far it came."""
+    """Replays the journal."""
     ward = Ward(store, arguments)
     with ctrl_c() as pressed, Progress("replaying the journal") as progress:
-        def step(report: Report) -> bool:
-            progress.words = counted(report.calls, "entry", "entries") + " replayed"
-            return not pressed.is_set()
-
-        answer = store.verify(ward.called, step, lambda finding: progress.print(finding_line(ward, finding)))
+        answer = replay(ward, lambda finding: progress.print(finding_line(ward, finding)), progress, pressed)
     if answer.number == StoreNumber.ENDED:
-        print(f"{replayed(ward, answer.report)} so far: ended by Ctrl-C", file=sys.stderr)
-        return end_by_ctrl_c()
-    if not answer.done and answer.number != StoreNumber.DAMAGED:
-        raise ward.failed(answer)
-    if not answer.done and not answer.report.differences:
-        raise ward.failed(answer)  # no replay: an image or a row that can't be read
+        return ended(ward, answer)
     print(replayed(ward, answer.report))
     return 0 if answer.done else REFUSED
 
 
+def tell_damage(ward: Ward, user: int) -> int:
+    """Tells what a replay finds of a user's line, and changes nothing."""
+    found: List[Finding] = []
+    with ctrl_c() as pressed, Progress("replaying the journal") as progress:
+        answer = replay(ward, found.append, progress, pressed)
+    if answer.number == StoreNumber.ENDED:
+        return ended(ward, answer)
+    own = [finding for finding in found if finding.user == user and not finding.incident]
+    print("\n".join(finding_line(ward, finding) for finding in own) or f"nothing is wrong with the line of {ward.name('user', user)}")
+    if own:
+        print(f"Nothing is changed. --yes writes the line of {ward.name('user', user)} anew from the journal.", file=sys.stderr)
+    return REFUSED if own else 0
+
+
 def mend(arguments: argparse.Namespace, store: Store) -> int:
-    """Writes a damaged line anew; without --yes it only tells what the replay finds of that user."""
+    """Writes a damaged line anew; without --yes it only tells what is wrong with it."""
     ward = Ward(store, arguments)
     user = ward.number("user", arguments.user)
-    called = ward.name("user", user)
     if not arguments.yes:
-        found: List[Finding] = []
-        with Progress("replaying the journal"):
-            store.verify(ward.called, found=found.append)
-        own = [finding for finding in found if finding.user == user and not finding.incident]
-        print("\n".join(finding_line(ward, finding) for finding in own) or f"nothing is wrong with the line of {called}")
-        if own:
-            print(f"Nothing is changed. --yes writes the line of {called} anew from the journal.", file=sys.stderr)
-        return REFUSED if own else 0
+        return tell_damage(ward, user)
     with Progress("replaying the journal"):
         answer = store.mend(ward.called, user)
     if answer.number == Number.PERSON:
@@ -231,7 +248,7 @@ def mend(arguments: argparse.Namespace, store: Store) -> int:
         raise Failed(f"refused: {answer.number} {answer.word}: the journal itself does not replay; 'nutrameza store verify' tells where", REFUSED)
     if not answer.done:
         raise ward.failed(answer, "Mend again: a line that is well is left as it is.")
-    print(f"the line of {called} " + ("is written anew" if answer.extra else "was well, and is left as it is"))
+    print(f"the line of {ward.name('user', user)} " + ("is written anew" if answer.extra else "was well, and is left as it is"))
     return 0
 
 
@@ -256,8 +273,8 @@ def cut(arguments: argparse.Namespace, store: Store) -> int:
     """Cuts the journal; without --yes it only tells what that would do."""
     ward = Ward(store, arguments)
     if not arguments.yes:
-        print(f"Nothing is changed. --yes verifies the journal of {plain(ward.called)}, and what is older than {arguments.age:,} s then gives way to "
-              "one entry a user; a request that is repeated after that is a new one.", file=sys.stderr)
+        print("Nothing is changed. --yes verifies the journal, then puts one entry a user in\n"
+              f"the place of those older than {arguments.age:,} s. A request repeated later is a new one.", file=sys.stderr)
         return REFUSED
     with Progress("verifying and cutting the journal"):
         answer = store.cut(ward.called, arguments.age)

@@ -7,6 +7,7 @@ from typing import List, Optional, Tuple
 
 from .answers import Chosen
 from .limits import Aim, Number
+from .progress import folded
 from .store import Session, Store, StoreAnswer
 from .store_ward import REFUSED, USAGE, Failed, Ward, WindowAsk, counted, local_time, plain, table
 
@@ -44,7 +45,7 @@ def release(arguments: argparse.Namespace, store: Store) -> int:
         return 0
     print("\n".join(window_rows(ward, own, roles=True)))
     if not arguments.yes:
-        print(f"Nothing is changed. --yes closes {counted(len(own), 'window')}: be sure that {host} is dead, or that every role in "
+        print(f"Nothing is changed. --yes closes {counted(len(own), 'window')}.\nBe sure that {host} is dead, or that every role in "
               f"{'it' if len(own) == 1 else 'them'} is off there.", file=sys.stderr)
         return REFUSED
     answer = store.release(ward.called, arguments.dead)
@@ -84,8 +85,8 @@ def own_window(arguments: argparse.Namespace, asked: WindowAsk) -> None:
     """Raises Failed for a window of another host, unless that is meant: what is live there would not follow."""
     for each in asked.ward.sessions([asked.user]):
         if each.window == asked.session and each.host != arguments.host and not arguments.any_host:
-            raise Failed(f"window {each.window} belongs to {plain(each.host)}, which would not be told, and nothing is changed; "
-                         "--any-host goes on, once every role of the window is off there", REFUSED)
+            raise Failed(f"window {each.window} belongs to {plain(each.host)}, which would not be told. Nothing is changed.\n"
+                         "--any-host goes on: have every role of the window off there first.", REFUSED)
 
 
 def bounds(arguments: argparse.Namespace, asked: WindowAsk) -> Tuple[List[int], List[int]]:
@@ -167,5 +168,5 @@ def explain(arguments: argparse.Namespace, store: Store) -> int:
 def obstacle(arguments: argparse.Namespace, store: Store) -> int:
     """What stands in the way of an ask."""
     asked = named_window(arguments, store)
-    print(asked.why(*bounds(arguments, asked)) or "nothing stands in the way")
+    print(folded(asked.why(*bounds(arguments, asked)) or "nothing stands in the way", sys.stdout))
     return 0

@@ -13,10 +13,12 @@ import signal
 import sqlite3
 import subprocess
 import sys
+import tempfile
 import time
+import traceback
 import unittest
 
-from nutrameza import policy, store_cli, store_journal
+from nutrameza import cli, policy, store_cli, store_journal
 from nutrameza.store import Store
 from test_command import COMMAND, COMPLETION, NEXT, WARD, Folder
 
@@ -33,6 +35,40 @@ TIME = r"\d{4}-\d\d-\d\d \d\d:\d\d:\d\d"
 def timeless(text):
     """A text with TIME for each time in it."""
     return re.sub(TIME, "TIME", text)
+
+
+def forked(words, folder, environment):
+    """Exit status, output and errors of the command in a child of this process, which needs no start of its own."""
+    with tempfile.TemporaryFile() as out, tempfile.TemporaryFile() as err:
+        child = os.fork()
+        if child == 0:
+            os.chdir(folder)
+            os.environ.update(environment)
+            os.dup2(out.fileno(), 1)
+            os.dup2(err.fileno(), 2)
+            sys.stdout, sys.stderr = (open(number, "w", encoding="utf-8", closefd=False) for number in (1, 2))
+            sys.argv = ["nutrameza", *words]
+            os._exit(ended(cli.main))
+        status = os.waitpid(child, 0)[1]
+        said = []
+        for file in (out, err):
+            file.seek(0)
+            said.append(file.read().decode())
+    return (os.WEXITSTATUS(status) if os.WIFEXITED(status) else -os.WTERMSIG(status), *said)
+
+
+def ended(main):
+    """The exit status of a program's main function, all that it said written."""
+    try:
+        status = main()
+    except SystemExit as end:
+        status = end.code or 0
+    except BaseException:
+        traceback.print_exc()
+        status = 99
+    sys.stdout.flush()
+    sys.stderr.flush()
+    return status
 
 
 class OnStore(Folder):
@@ -53,7 +89,7 @@ class OnStore(Folder):
 
     def store(self, *words, names=WARD, **environment):
         """Exit status, output and errors of a sub-command."""
-        return self.run_it("store", *words, **{"NUTRAMEZA_STORE": self.name, "NUTRAMEZA_NAMES": names, **environment})
+        return forked(["store", *words], self.folder.name, {"NUTRAMEZA_STORE": self.name, "NUTRAMEZA_NAMES": names, **environment})
 
     def done(self, *words, **environment):
         """What a sub-command prints that is done."""
@@ -109,7 +145,7 @@ class Story(OnStore):
         self.assertEqual(timeless(self.done("who", NAME, "ANNA", "--roles")).splitlines()[1:],
                          [f"{window}       ANNA (0)  TIME  desk-7  Doctor (0)", f"{other}      ANNA (0)  TIME  desk-8  -"])
         status, out, err = self.store("release", NAME, "desk-7")
-        self.assertEqual((status, len(out.splitlines()), err), (1, 2, "Nothing is changed. --yes closes 1 window: be sure that desk-7 is "
+        self.assertEqual((status, len(out.splitlines()), err), (1, 2, "Nothing is changed. --yes closes 1 window.\nBe sure that desk-7 is "
                                                                 "dead, or that every role in it is off there.\n"))
         self.assertEqual(len(self.done("who", NAME).splitlines()), 3)
         self.assertEqual(self.done("release", NAME, "desk-7", "--yes").splitlines()[-1], "closed 1 window of desk-7")
@@ -122,7 +158,7 @@ class Story(OnStore):
                  f"  window {window} has Data_Manager, which is not ANNA's\n  window {window} is open since TIME at desk-7\n")
         status, out, err = self.store("policy", NAME, NEXT)
         self.assertEqual((status, timeless(out)), (1, shown))
-        self.assertEqual(err, "refused: 135 policy stops users: ANNA (0)\nward 3 is unchanged, version 1. --close-windows closes their windows "
+        self.assertEqual(err, "refused: 135 policy stops users: ANNA (0)\nward 3 is unchanged, version 1.\n--close-windows closes their windows "
                               "first: have every role in them switched off.\n")
         status, out, err = self.store("policy", NAME, NEXT, "--dry-run")
         self.assertEqual((status, err), (1, ""))
@@ -209,8 +245,8 @@ class Wards(OnStore):
 
     def test_a_ledger_that_does_not_fit_is_refused(self):
         self.path("short", bytes(100))
-        self.assertEqual(self.refused("import", "w", WARD, "short"), "refused: 9 ledger: short has 100 bytes; for 1 user they are 144, or 80 where "
-                                                                     "it is of a version before 0.6\n")
+        self.assertEqual(self.refused("import", "w", WARD, "short"), "refused: 9 ledger: short has 100 bytes; a ledger of 1 user has 144,\n"
+                                                                     "or 80 before version 0.6\n")
         self.path("bad", bytes([255]) * 144)
         self.assertEqual(self.refused("import", "w", WARD, "bad"), f"refused: 11 line: the line of ANNA (0) in bad is not sound under {WARD}\n")
         self.assertEqual(self.done("wards", "-q"), "ward 3\n")
@@ -233,7 +269,7 @@ class Wards(OnStore):
         window = self.opened("Prescribe")
         self.assertEqual(self.done("mend", NAME, "ANNA"), "nothing is wrong with the line of ANNA (0)\n")
         self.damage()
-        told = ("refused: 137 damaged: the line of ANNA (0) is not as the store wrote it; see 'nutrameza store verify' and "
+        told = ("refused: 137 damaged: the line of ANNA (0) is not as the store wrote it;\nsee 'nutrameza store verify' and "
                 "'nutrameza store mend'\n")
         self.assertEqual(self.refused("show", NAME, "ANNA", window), told)
         self.assertEqual(self.refused("export", NAME, "a", "b"), told)
@@ -259,8 +295,8 @@ class Wards(OnStore):
     def test_a_cut_needs_its_flag(self):
         self.opened("Prescribe")
         self.assertEqual(self.store("cut", NAME, "2h"), (1, "", (
-            "Nothing is changed. --yes verifies the journal of ward 3, and what is older than 7,200 s then gives way to one entry a user; a request "
-            "that is repeated after that is a new one.\n")))
+            "Nothing is changed. --yes verifies the journal, then puts one entry a user in\nthe place of those older than 7,200 s. "
+            "A request repeated later is a new one.\n")))
         self.assertEqual(self.done("cut", NAME, "1w", "--yes"), "ward 3: no entry cut\n")
         self.assertEqual(self.done("cut", NAME, "0", "--yes"), "ward 3: 1 entry cut\n")
         self.assertEqual(len(self.done("journal", NAME).splitlines()), 1)
@@ -275,7 +311,7 @@ class Wards(OnStore):
             text = self.path("past.policy", file.read().replace("ms-dmer", "ms-hmer").encode())
         status, out, err = self.store("policy", NAME, text, "--close-windows")
         self.assertEqual((status, timeless(out).splitlines()[:3]), (1, ["every number is kept", "ANNA (0) is stopped:", "  exclude ms-hmer 2 Doctor Data_Manager"]))
-        self.assertEqual(err, "refused: 135 policy stops users: ANNA (0)\nward 3 is unchanged, version 1. To close their windows does not free them; "
+        self.assertEqual(err, "refused: 135 policy stops users: ANNA (0)\nward 3 is unchanged, version 1.\nTo close their windows does not free them; "
                               "--regardless goes on, and they are stopped.\n")
         self.assertEqual(len(self.done("who", NAME).splitlines()), 2)
         status, out, err = self.store("policy", NAME, text, "--regardless")
@@ -290,7 +326,7 @@ class Wards(OnStore):
         moved = self.path("moved.policy", ward.replace("user ANNA", "user BEN ANNA").encode())
         status, out, err = self.store("policy", NAME, moved)
         self.assertEqual((status, out), (1, "user ANNA had number 0 and has 1 now\nnobody is stopped\n"))
-        self.assertEqual(err, "ward 3 is unchanged, version 1. A number stays with its user, role or permission: write new names behind the others. "
+        self.assertEqual(err, "ward 3 is unchanged, version 1.\nA number stays with its user, role or permission: write new names behind the others.\n"
                               "--renamed goes on where only the spelling is another.\n")
         respelt = self.path("respelt.policy", ward.replace("ANNA", "ANNE").encode())
         self.assertEqual(self.done("policy", NAME, respelt, "--renamed").splitlines(),
@@ -321,7 +357,7 @@ class Windows(OnStore):
         self.assertEqual(self.refused("ask", NAME, "ANNA", window, "Send", status=2), "nutrameza: unknown permission Send (did you mean Send_data?)\n")
 
     def test_a_text_that_is_not_the_wards_is_not_taken_for_names(self):
-        told = ("nutrameza: {} is not the policy of ward 3, version 1; only the text has '-', only the ward '+':\n- 2 users, 3 roles, 5 permissions\n"
+        told = ("nutrameza: {} is not the policy of ward 3, version 1.\nOnly the text has '-', only the ward '+':\n- 2 users, 3 roles, 5 permissions\n"
                 "+ 1 user, 2 roles, 5 permissions\n+ assign ANNA Data_Manager\n- assign BEN Nurse\n- grant Nurse Read_id\n- grant Nurse Read_prescription\n"
                 "Name the text that is in place by --names, or none: --names ''\n").format(NEXT)
         self.assertEqual(self.refused("who", NAME, status=2, names=NEXT), told)
@@ -333,8 +369,8 @@ class Windows(OnStore):
     def test_a_window_of_another_host_is_changed_by_its_flag_alone(self):
         window = self.opened("Prescribe")
         for words in (("ask", NAME, "ANNA", window, "Send_data"), ("close", NAME, "ANNA", window)):
-            self.assertEqual(self.refused(*words), f"window {window} belongs to desk-7, which would not be told, and nothing is changed; --any-host "
-                                                   "goes on, once every role of the window is off there\n")
+            self.assertEqual(self.refused(*words), f"window {window} belongs to desk-7, which would not be told. Nothing is changed.\n--any-host "
+                                                   "goes on: have every role of the window off there first.\n")
         self.assertEqual(self.done("show", NAME, "ANNA", window), DOCTOR)
         self.assertEqual(self.done("ask", NAME, "ANNA", window, "Send_data", "--any-host"), MANAGER)
         self.assertEqual(self.done("close", NAME, "ANNA", window, "--host", "desk-7"), "")
@@ -529,19 +565,20 @@ class Connecting(OnStore):
     def test_wrong_usage(self):
         for words, told in ((("wards", "--store", ""), "no store is named: --store or NUTRAMEZA_STORE, as sqlite:PATH or postgresql://.."),
                             (("wards", "--store", "ward.db"), "ward.db names no store: sqlite:PATH or postgresql://.."),
-                            (("make", "--host", "h" * 64), "the host's name has 64 bytes; 63 are the most")):
+                            (("make", "--host", "h" * 64), "the name of the host has 64 bytes; it has 1 to 63"),
+                            (("who", "w" * 64, "--names", ""), "the name of the ward has 64 bytes; it has 1 to 63"),
+                            (("create", "", WARD), "the name of the ward has 0 bytes; it has 1 to 63"),
+                            (("create", os.fsdecode(b"ward \xff"), WARD), "a word of the command line is no UTF-8")):
             self.assertEqual(self.refused(*words, status=2, NUTRAMEZA_STORE="" if words[2] == "" else self.name), f"nutrameza: {told}\n")
-        self.done("make")
-        self.assertEqual(self.refused("create", "", WARD, status=2), "nutrameza: create: wrong use\n")
-        self.assertEqual(self.refused("create", "w" * 64, WARD, status=2), "nutrameza: create: wrong use\n")
+            self.path("ward.db", b"")
         for words in ((), ("whom",), ("who",), ("who", NAME, "--role"), ("show", NAME, "ANNA", "eight"), ("ask", NAME, "ANNA", "8"),
                       ("journal", NAME, "--lines", "few"), ("ask", NAME, "ANNA", "8", "Read_id", "--roles", "some")):
             status, out, err = self.store(*words)
             self.assertEqual((status, out, err[:17]), (2, "", "usage: nutrameza "), words)
 
     def test_without_the_stores_library_it_says_so(self):
-        self.assertEqual(self.refused("make", status=2, NUTRAMEZA_STORE_LIBRARY="/nowhere"),
-                         "nutrameza: /nowhere: there is no such file, and NUTRAMEZA_STORE_LIBRARY names it\n")
+        told = "nutrameza: /nowhere: there is no such file, and NUTRAMEZA_STORE_LIBRARY names it\n"
+        self.assertEqual(self.run_it("store", "make", "--store", self.name, NUTRAMEZA_STORE_LIBRARY="/nowhere"), (2, "", told))
 
 
 class Help(OnStore):
