@@ -1,6 +1,7 @@
 """What stands in the way of an ask, and why a policy stops a user, in words and by names. All that is said comes from
 calls of the library, on the policy or on a part of it."""
 
+import copy
 from typing import AbstractSet, Dict, FrozenSet, Iterable, List, Optional, Sequence, Tuple
 
 from . import calls, limits
@@ -50,6 +51,12 @@ class Ask(Named):
             raise CallRefused(answer.number, answer.extra)
         self.image, self.ledger, self.user, self.session = image, bytes(ledger), user, session
         self.policy = read(to_words(image))
+
+    def at(self, ledger: calls.Ledger, user: int, session: int) -> "Ask":
+        """An ask under the same image and by the same names, on another ledger, of another user or window."""
+        other = copy.copy(self)
+        other.ledger, other.user, other.session = bytes(ledger), user, session
+        return other
 
     def everything(self) -> FrozenSet[int]:
         """The policy's permissions."""
@@ -116,7 +123,8 @@ class Ask(Named):
             Number.LEDGER: f"{len(self.ledger)} bytes are no ledger of {users} users", Number.PERSON: f"there is no user {self.user}",
             Number.SESSION: f"there is no window {self.session}", Number.CLOSED: f"window {self.session} is not open",
             Number.FULL: f"{self.name('user', self.user)} has {limits.SESSIONS} windows open, and that is the most",
-            Number.PERMISSION: f"permissions are numbered below {permissions}"}
+            Number.PERMISSION: f"permissions are numbered below {permissions}",
+            Number.BOUNDS: "what is asked for is not within the upper bound", Number.AIM: f"an aim is at most {int(Aim.MOST)}"}
         return reasons.get(refused.number, "")
 
     def wide(self, roles: AbstractSet[int], upper: AbstractSet[int]) -> str:

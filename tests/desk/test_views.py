@@ -208,10 +208,19 @@ class Try(unittest.TestCase):
         tried = self.story()
         state = tried.state(trial.Wish(0, 1))
         told = "Send_data (4) needs Data_Manager (1), which ms-dmer 2 of Doctor (0), Data_Manager (1) bars while window 0 holds Doctor (0)"
-        self.assertEqual([step["told"] for step in state["steps"]], ["done", "live: Doctor (0)", "done", told])
+        self.assertEqual([step["told"] for step in state["steps"]], ["no role is live in it yet", "live: Doctor (0)", "no role is live in it yet", told])
         self.assertEqual(state["in_the_way"], [[0, 0, [0]]])
         self.assertEqual([one["free"] for one in state["permissions"]], [True] * 4 + [False])
         self.assertEqual(tried.state(trial.Wish(0, 0))["permissions"][2], {"free": True, "by": [0, 0]})
+
+    def test_refusals_before_20_have_their_reason(self):
+        tried = trial.Trial(loaded(WARD))
+        tried.play("open 7\nclose 0 3\nclose 0 9\n" + "open 0\n" * 9 + "ask 0 0 3 1\nask 0 0 20 3f\nask 0 0 1 1f 3 0\nclose 0 0\n")
+        told = [(step.answer.number, step.told) for step in tried.steps if not step.answer.done]
+        self.assertEqual(told, [
+            (10, "there is no user 7"), (13, "window 3 is not open"), (12, "there is no window 9"), (14, "ANNA (0) has 8 windows open, and that is the most"),
+            (17, "what is asked for is not within the upper bound"), (16, "permissions are numbered below 5"), (18, "an aim is at most 2")])
+        self.assertEqual((tried.steps[0].done, tried.steps[-1].told), ("user7 (7) opens a window", "its roles are off, its past stays"))
 
     def test_undo_takes_the_last_step_back(self):
         tried = self.story()

@@ -16,7 +16,7 @@ LINE = re.compile(r"(?:(?P<call>open) (?P<user>\d{1,9})"
                   r"(?: (?P<first>\d{1,9}) (?P<second>\d{1,9}))?)", re.ASCII)
 
 # The most lines that a script may have here.
-MOST_LINES = 10000
+MOST_LINES = 2000
 
 # The aims in words.
 AIMS: Dict[int, str] = {Aim.ANY: "any", Aim.FEWEST: "the fewest", Aim.MOST: "the most"}
@@ -109,11 +109,11 @@ def outcome(words: why.Ask, call: Call, answer: Answer) -> Tuple[str, List[why.H
     if isinstance(answer, Chosen) and answer.done:
         return f"live: {words.list('role', answer.roles) or 'no role'}", []
     if answer.done:
-        return "done", []
+        return "no role is live in it yet" if call.name == "open" else "its roles are off, its past stays", []
     if call.name == "ask" and answer.number == Number.NONE:
         bounds = (why.members(call.lower), why.members(call.upper))
         return words.why(*bounds) or "", words.in_the_way(words.obstacle(*bounds))
-    return str(why.CallRefused(answer.number, answer.extra, words.reason(answer))), []
+    return words.reason(answer) or f"extra {answer.extra}", []
 
 
 class Trial:
@@ -125,6 +125,7 @@ class Trial:
         self.reached = closed(loaded.policy).reached
         self.steps: List[Step] = []
         self.ledgers: List[bytes] = [bytes(calls.new_ledger(self.image))]
+        self.words = why.Ask(self.image, self.ledgers[0], loaded.names, 0, 0)
 
     # ---- doing ----
 
@@ -132,7 +133,7 @@ class Trial:
         """Makes a call and takes it into the list."""
         ledger = bytearray(self.ledgers[-1])
         answer = make(self.image, ledger, call)
-        words = why.Ask(self.image, self.ledgers[-1], self.loaded.names, call.user, call.session)
+        words = self.words.at(self.ledgers[-1], call.user, call.session)
         told, in_the_way = outcome(words, call, answer)
         self.steps.append(Step(call, answer, self.described(words, call, answer), told, in_the_way))
         self.ledgers.append(bytes(ledger))
