@@ -11,6 +11,7 @@
 #   make survey                surveys the ward example: what its exclusion allows, and how its script is answered
 #   make host                  runs the ward example as a C host of the library
 #   make test                  the gate: every proof and every test
+#   make desk-test             the desk in a real browser, which it installs (apt-get)
 #   make fuzz                  the fuzzer beside the separate solver, an hour long (FUZZ_SECONDS)
 #   make bench                 the kit beside plain Rust, as ratios; fails where the worst is over 1.25 (NUTRAMEZA_BAR)
 #
@@ -34,7 +35,9 @@ prefix := $(abspath $(PREFIX))
 to := $(DESTDIR)$(prefix)
 sources := crates.txt $(shell find crates -name '*.rt' -o -name '*.antt')
 documents := $(wildcard docs/*.md) CHANGELOG.md
+pictures := $(wildcard docs/*.png)
 package := $(wildcard python/nutrameza/*.py) python/nutrameza/py.typed
+desk := $(foreach kind,py html css js,$(wildcard python/nutrameza/desk/*.$(kind)))
 open := (
 calls := $(shell sed -nE 's/^uint64_t (nutrameza_[a-z_]+)[$(open)].*/\1/p' include/nutrameza.h)
 
@@ -49,13 +52,14 @@ files := lib/libnutrameza.a lib/$(notdir $(shared)) $(links) include/nutrameza.h
   lib/pkgconfig/nutrameza.pc lib/pkgconfig/nutrameza-static.pc \
   lib/cmake/nutrameza/nutrameza-config.cmake lib/cmake/nutrameza/nutrameza-config-version.cmake \
   bin/nutrameza bin/nutrameza-policy bin/nutrameza_script bin/nutrameza_survey \
-  $(package:python/%=lib/python3/%) share/bash-completion/completions/nutrameza \
+  $(package:python/%=lib/python3/%) $(desk:python/%=lib/python3/%) share/bash-completion/completions/nutrameza \
   share/man/man7/nutrameza.7 $(calls:%=share/man/man3/%.3) \
-  $(patsubst %,share/man/man1/%.1,nutrameza nutrameza-policy nutrameza_script nutrameza_survey) \
-  $(documents:%=share/doc/nutrameza/%) $(patsubst %,share/doc/nutrameza/%,$(wildcard examples/*))
-folders := share/doc/nutrameza/docs share/doc/nutrameza/examples share/doc/nutrameza lib/cmake/nutrameza lib/python3/nutrameza
+  $(patsubst %,share/man/man1/%.1,nutrameza nutrameza-policy nutrameza-store nutrameza_script nutrameza_survey) \
+  $(documents:%=share/doc/nutrameza/%) $(pictures:%=share/doc/nutrameza/%) $(patsubst %,share/doc/nutrameza/%,$(wildcard examples/*))
+folders := share/doc/nutrameza/docs share/doc/nutrameza/examples share/doc/nutrameza lib/cmake/nutrameza \
+  lib/python3/nutrameza/desk lib/python3/nutrameza
 
-.PHONY: lib install uninstall man dist ward survey host test fuzz bench always
+.PHONY: lib install uninstall man dist ward survey host test desk-test fuzz bench always
 
 lib:
 	@tools/quiet target/make/lib $(RT) staticlib nutrameza
@@ -93,19 +97,20 @@ install: $(library) $(shared) $(programs) man
 	@$(call filled,cmake/nutrameza-config-version.cmake.in,lib/cmake/nutrameza/nutrameza-config-version.cmake)
 	@install -m 755 python/bin/nutrameza python/bin/nutrameza-policy '$(to)/bin/'
 	@install -m 644 $(package) '$(to)/lib/python3/nutrameza/'
+	@install -m 644 $(desk) '$(to)/lib/python3/nutrameza/desk/'
 	@install -m 644 python/completion/nutrameza '$(to)/share/bash-completion/completions/nutrameza'
 	@for p in $(program) $(surveyor); do [ ! -x $$p ] || install -m 755 $$p '$(to)/bin/' || exit 1; done
 	@install -m 644 target/man/*.1 '$(to)/share/man/man1/'
 	@install -m 644 target/man/*.3 '$(to)/share/man/man3/'
 	@install -m 644 target/man/*.7 '$(to)/share/man/man7/'
-	@install -m 644 $(wildcard docs/*.md) '$(to)/share/doc/nutrameza/docs/'
+	@install -m 644 $(wildcard docs/*.md) $(pictures) '$(to)/share/doc/nutrameza/docs/'
 	@install -m 644 CHANGELOG.md '$(to)/share/doc/nutrameza/'
 	@install -m 644 examples/* '$(to)/share/doc/nutrameza/examples/'
 	@echo 'nutrameza $(VERSION) is installed below $(to)'
 
 uninstall:
 	@rm -f $(patsubst %,'$(to)/%',$(files))
-	@rm -rf '$(to)/lib/python3/nutrameza/__pycache__'
+	@rm -rf '$(to)/lib/python3/nutrameza/__pycache__' '$(to)/lib/python3/nutrameza/desk/__pycache__'
 	@for f in $(folders); do [ ! -d '$(to)'/$$f ] || rmdir --ignore-fail-on-non-empty '$(to)'/$$f; done
 
 # The commit's time on every file, so that a tarball has the commit's bytes and no day of its own.
@@ -152,6 +157,10 @@ host: $(library)
 
 test:
 	bash .ci/run
+
+desk-test: $(library) $(programs)
+	apt-get install -y chromium chromium-driver python3-selenium
+	NUTRAMEZA_LIB='$(abspath $(NUTRAMEZA_LIB))' bash tests/desk.sh
 
 fuzz: $(library)
 	NUTRAMEZA_LIB='$(abspath $(NUTRAMEZA_LIB))' bash tests/fuzz/run $(FUZZ_SECONDS) target/fuzz/corpus

@@ -46,7 +46,9 @@ def metadata():
 
 def sources():
     """The package's files, by their paths in this folder."""
-    return sorted(f"nutrameza/{name}" for name in os.listdir(os.path.join(HERE, "nutrameza")) if name.endswith((".py", ".typed")))
+    kinds = (".py", ".typed", ".html", ".css", ".js")
+    return sorted(f"{folder}/{name}" for folder in ("nutrameza", "nutrameza/desk") for name in os.listdir(os.path.join(HERE, folder))
+                  if name.endswith(kinds))
 
 
 def described():

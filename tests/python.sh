@@ -1,11 +1,13 @@
 #!/usr/bin/env bash
 # The Python package: its unit tests, generated calls beside the separate solver's answers, an install by pip without a
-# network, the package and its commands in an install prefix, the page's example. It needs libnutrameza.a
-# (target/staticlib, or the folder that NUTRAMEZA_LIB names) and cargo; PYTHON names another interpreter. The last line
-# is 'N passed, M failed'.
+# network, the package and its commands in an install prefix, the pages' examples; the store's commands on SQLite and on
+# a PostgreSQL server of its own, where one is installed. It needs libnutrameza.a (target/staticlib, or the folder that
+# NUTRAMEZA_LIB names) and cargo; PYTHON names another interpreter. The last line is 'N passed, M failed'.
 . "$(dirname "${BASH_SOURCE[0]}")/it.sh"
+chmod 755 "$work"
+trap '[ ! -d "$work/pg/data" ] || "$root/tests/store/server.sh" stop "$work/pg"; rm -rf "$work"' EXIT
 export LC_ALL=C.UTF-8 PYTHONDONTWRITEBYTECODE=1
-unset PYTHONPATH LD_LIBRARY_PATH NUTRAMEZA_LIBRARY
+unset PYTHONPATH LD_LIBRARY_PATH NUTRAMEZA_LIBRARY NUTRAMEZA_STORE_LIBRARY NUTRAMEZA_STORE NUTRAMEZA_NAMES
 python=${PYTHON:-python3}
 lib=$(cd "$root" && realpath -m "${NUTRAMEZA_LIB:-target/staticlib}")
 prefix=$work/prefix
@@ -28,16 +30,7 @@ golden() {
 
 # unit MODULE: its tests, each counted
 unit() {
-  local said status
-  said=$(cd "$root/tests/python" && NUTRAMEZA_LIBRARY=$shared NUTRAMEZA_GOLDEN=$work/golden PYTHONPATH=$root/python "$python" run.py "$1" 2>&1)
-  status=$?
-  sed '$d' <<< "$said"
-  if [[ $said =~ ([0-9]+)' passed, '([0-9]+)' failed'$ ]]; then
-    passed=$((passed + BASH_REMATCH[1])) failed=$((failed + BASH_REMATCH[2]))
-  else
-    echo "$said" "($status)"
-    failed=$((failed + 1))
-  fi
+  tally env -C "$root/tests/python" "NUTRAMEZA_LIBRARY=$shared" "NUTRAMEZA_GOLDEN=$work/golden" "PYTHONPATH=$root/python" "$python" run.py "$1"
 }
 
 has_engines() {
@@ -48,9 +41,46 @@ stored() {
   make -s -C "$root" install-store "PREFIX=$work/stored" "store_out=$work/store" "NUTRAMEZA_LIB=$lib" > "$work/stored_says" 2>&1 || { cat "$work/stored_says"; return 1; }
 }
 
+served() {
+  "$root/tests/store/server.sh" make "$work/pg"
+}
+
+# The operators' page: its commands by the installed program, each with what it prints, times aside. Before the block
+# about damage a line is changed behind the store's back.
+operators_page() {
+  local blocks number
+  mkdir -p "$work/operators" && cd "$work/operators" && cp "$root"/examples/ward*.policy . && export PATH=$work/stored/bin:$PATH || return 1
+  command -v sqlite3 > /dev/null || sqlite3() { "$python" -c 'import sqlite3, sys; sqlite3.connect(sys.argv[1]).execute(sys.argv[2])' "$@"; }
+  blocks=$(grep -c '^```text operators$' "$root/docs/OPERATORS.md") && [ "$blocks" -ge 8 ] || return 1
+  for number in $(seq "$blocks"); do
+    page OPERATORS.md 'text operators' "$number" > shown && test -s shown || return 1
+    ! grep -q damaged shown || "$python" -c 'import sqlite3; c = sqlite3.connect("ward.db"); c.execute("update line set sum = 0 where usr = 0"); c.commit()' || return 1
+    replayed < shown > said 2>&1
+    diff <(timeless < said) <(timeless < shown) || { echo "block $number"; return 1; }
+  done
+}
+
+# page PAGE NAME NUMBER: of the blocks of that name in a page of docs/, the one of that number, from 1
+page() {
+  awk -v open="\`\`\`$2" -v number="$3" '$0 == "```" { inside = 0 } inside { print } $0 == open { inside = ++seen == number }' "$root/docs/$1"
+}
+
+# replayed: the commands of a transcript, each with what it prints; they share a shell, so that a variable stays
+replayed() {
+  local line
+  while IFS= read -r line; do
+    case $line in '$ '*) echo "$line"; eval "${line#?}" < /dev/null ;; esac
+  done
+}
+
+# timeless: times, tokens, who runs it and the widths of columns as if they were always the same
+timeless() {
+  sed -E 's/[0-9]{4}-[0-9]{2}-[0-9]{2}[ T][0-9:]{8}(\.[0-9]{6}Z)?/TIME/g; s/[0-9a-f]{32}$/TOKEN/; s/nutrameza:[^ ]*@[^] ,]*/nutrameza:LOGIN@MACHINE/g; s/ {2,}/  /g'
+}
+
 # The sources are read by the grammar of 3.9, whatever interpreter runs.
 old_grammar() {
-  "$python" - "$root"/python/*.py "$root"/python/nutrameza/*.py "$root"/python/bin/* "$root/examples/ward.py" <<'PY'
+  "$python" - "$root"/python/*.py "$root"/python/nutrameza/*.py "$root"/python/nutrameza/desk/*.py "$root"/python/bin/* "$root/examples/ward.py" <<'PY'
 import ast, sys
 for path in sys.argv[1:]:
     ast.parse(open(path, encoding="utf-8").read(), path, feature_version=(3, 9))
@@ -58,7 +88,7 @@ PY
 }
 
 standard_library_alone() {
-  "$python" - "$root"/python/*.py "$root"/python/nutrameza/*.py <<'PY'
+  "$python" - "$root"/python/*.py "$root"/python/nutrameza/*.py "$root"/python/nutrameza/desk/*.py <<'PY'
 import ast, sys
 known = getattr(sys, "stdlib_module_names", None)
 for path in sys.argv[1:]:
@@ -120,7 +150,16 @@ unit test_golden
 unit test_command
 if has_engines; then
   it 'the store, with both engines' stored
-  NUTRAMEZA_STORE_LIBRARY=$work/stored/lib/libnutrameza_store.so.0 unit test_store
+  export NUTRAMEZA_STORE_LIBRARY=$work/stored/lib/libnutrameza_store.so.0
+  unit test_store
+  if [ -n "${PGBIN:-}" ] || ls /usr/lib/postgresql/*/bin/initdb > /dev/null 2>&1; then
+    it 'a PostgreSQL server' served
+    export NUTRAMEZA_TEST_POSTGRESQL="postgresql://store@/postgres?host=$work/pg&port=5499"
+  else
+    echo 'not installed: a PostgreSQL server; the command is tested on SQLite alone'
+  fi
+  unit test_store_command
+  it "the operators' page says what the command says" operators_page
 else
   echo 'not installed: headers of SQLite or PostgreSQL; the store is not called'
 fi

@@ -7,7 +7,8 @@ import argparse
 import os
 import signal
 import sys
-from typing import Callable, List, NamedTuple, Optional, Sequence, Tuple
+import textwrap
+from typing import Any, Callable, List, NamedTuple, Optional, Sequence, Tuple
 
 from . import __version__, calls, library, limits, policy, why
 from .policy import SORTS, Errors, Names, Policy, Refused
@@ -80,9 +81,8 @@ def names_in(path: Optional[str]) -> Names:
 def load(path: str, names: Names) -> Tuple[Policy, Optional[Names]]:
     """The policy of an image or of a text, and the names that a text declares; None for those of an image."""
     data = read_bytes(path)
-    lines = [line.split() for line in data.split(b"\n")]
-    if any(line and line[0].decode("latin-1") in SORTS for line in lines):
-        return policy.parse(policy.read_text(path), path)
+    if policy.is_text(data):
+        return policy.parse(policy.text_of(data, path), path)
     return policy.read(policy.check(data, names)), None
 
 
@@ -168,17 +168,16 @@ def tell_stopped(arguments: argparse.Namespace) -> int:
     if loaded is None:
         return 2
     (said, own), = loaded
-    names, ledger, line = names if own is None else own, read_bytes(arguments.ledger), limits.LINE_BYTES
-    added = said.counts[0] - len(ledger) // line
-    if len(ledger) % line == 0 and added > 0:
-        ledger += bytes(line * added)
+    names, line = names if own is None else own, limits.LINE_BYTES
+    ledger, added = why.grown(said, read_bytes(arguments.ledger))
+    if added:
         print(f"{added} zero line{'' if added == 1 else 's'} added for new users")
     answer = calls.stopped(said.image(), ledger)
     if not answer.done:
         print(f"{arguments.ledger}: {len(ledger)} bytes; {said.counts[0]} users have {line * said.counts[0]}", file=sys.stderr)
         return 2
     for user in sorted(answer.users):
-        reasons = why.reasons(said, user, ledger[line * user:line * (user + 1)], names)
+        reasons = why.reasons(said, user, why.line_of(ledger, user), names)
         print("\n  ".join([f"{policy.called('user', user, names)} ({user}) is stopped:", *reasons]))
     if not answer.users:
         print("nobody is stopped")
@@ -318,9 +317,18 @@ def add_arguments(name: str, command: argparse.ArgumentParser) -> None:
         command.add_argument("names", metavar="NAMES", nargs="?", help="a policy text that gives the names")
 
 
-def command_line(program: str, description: str, overwrites: bool) -> argparse.ArgumentParser:
-    """The parser of the command, or of the older one, which overwrites the files that it writes."""
-    plain = argparse.RawDescriptionHelpFormatter
+class Paragraphs(argparse.RawDescriptionHelpFormatter):
+    """Help whose paragraphs fit the terminal; a block with an indented line stands as it is."""
+
+    def _fill_text(self, text: str, width: int, indent: str) -> str:
+        blocks = text.strip().split("\n\n")
+        return "\n\n".join(block if "\n " in f"\n{block}" else textwrap.fill(block, width, break_on_hyphens=False) for block in blocks)
+
+
+def command_line(program: str, description: str, overwrites: bool, more: Sequence[Callable[[Any, str], None]] = ()) -> argparse.ArgumentParser:
+    """The parser of the command, or of the older one, which overwrites the files that it writes. More: what adds
+    sub-commands of its own."""
+    plain = Paragraphs
     parser = argparse.ArgumentParser(prog=program, description=description, formatter_class=plain, allow_abbrev=False)
     parser.add_argument("--version", action="version", version=f"{program} {__version__}")
     commands = parser.add_subparsers(required=True, metavar="COMMAND", dest="command")
@@ -331,6 +339,8 @@ def command_line(program: str, description: str, overwrites: bool) -> argparse.A
         made.set_defaults(run=command.run, force=overwrites)
         if name in WRITING and not overwrites:
             made.add_argument("-f", "--force", action="store_true", help="overwrite a file that is there already")
+    for add in more:
+        add(commands, program)
     return parser
 
 
@@ -351,21 +361,25 @@ def run(parser: argparse.ArgumentParser, words: Optional[Sequence[str]], prefix:
         print(f"{prefix}{wrong}", file=sys.stderr)
         return 2
     except OSError as wrong:
-        print(f"{prefix}{wrong.filename}: {wrong.strerror}", file=sys.stderr)
+        print(f"{prefix}{wrong.filename or 'standard output'}: {wrong.strerror}", file=sys.stderr)
+        if wrong.filename is None:
+            os.dup2(os.open(os.devnull, os.O_WRONLY), sys.stdout.fileno())  # nothing more is written at the end
         return 2
 
 
 def as_program(parser: argparse.ArgumentParser, prefix: str) -> int:
     """Runs the program's own words; a closed pipe and Ctrl-C end it as they end other programs."""
     signal.signal(signal.SIGPIPE, signal.SIG_DFL)
-    signal.signal(signal.SIGINT, signal.SIG_DFL)
+    if signal.getsignal(signal.SIGINT) is not signal.SIG_IGN:  # as in the background of a script
+        signal.signal(signal.SIGINT, signal.SIG_DFL)
     return run(parser, None, prefix)
 
 
 DESCRIPTION = """The session kit for operators and help desks: policies as text and as images, why an ask is
-refused, and whom a new policy stops. Every judgement is the proved library's. 'nutrameza COMMAND
---help' has each command with an example, 'nutrameza build --help' the form of the text. No file
-is overwritten without --force.
+refused, whom a new policy stops, a policy shown and tried in a browser ('nutrameza desk'), and wards in
+a database ('nutrameza store'). Every judgement is the proved library's. 'nutrameza COMMAND --help' has
+each command with an example, 'nutrameza build --help' the form of the text. No file is overwritten
+without --force.
 
 Exit status: 0 done; 1 the text has errors, the image or the call is refused, or the answer is no; 2 wrong usage, a
 name that is not declared, no library, or a file that can't be read or written."""
@@ -383,7 +397,9 @@ def policy_parser() -> argparse.ArgumentParser:
 
 def main() -> int:
     """The command nutrameza."""
-    return as_program(command_line("nutrameza", DESCRIPTION, overwrites=False), "nutrameza: ")
+    from . import store_cli  # they stand on this module
+    from .desk import command
+    return as_program(command_line("nutrameza", DESCRIPTION, overwrites=False, more=[store_cli.add, command.add]), "nutrameza: ")
 
 
 def policy_main() -> int:

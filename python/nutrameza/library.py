@@ -6,7 +6,7 @@ several threads come one after the other."""
 import ctypes
 import functools
 import os
-from typing import Any, Dict, Iterator, List, Union
+from typing import Any, Dict, Iterator, List, Optional, Union
 
 # The library's name by its major version, and the variable that names another file.
 NAME = "libnutrameza.so.1"
@@ -41,6 +41,16 @@ class NoLibrary(Exception):
     """There is no library to call, and why."""
 
 
+def lib_folder() -> Optional[str]:
+    """The folder lib of the prefix that the package stands in; None where it stands in none."""
+    folder = os.path.dirname(os.path.realpath(__file__))
+    while os.path.dirname(folder) != folder:
+        folder = os.path.dirname(folder)
+        if os.path.basename(folder) in ("lib", "lib64"):
+            return folder
+    return None
+
+
 class Shared:
     """A shared library: its file's name, and the variable that names another file."""
 
@@ -50,13 +60,10 @@ class Shared:
     def places(self) -> Iterator[str]:
         """The files that may be it, in this order: beside the package, then in the prefix that the package stands
         in."""
-        folder = os.path.dirname(os.path.realpath(__file__))
-        yield os.path.join(folder, self.name)
-        while os.path.dirname(folder) != folder:
-            folder = os.path.dirname(folder)
-            if os.path.basename(folder) in ("lib", "lib64"):
-                yield os.path.join(folder, self.name)
-                return
+        yield os.path.join(os.path.dirname(os.path.realpath(__file__)), self.name)
+        folder = lib_folder()
+        if folder is not None:
+            yield os.path.join(folder, self.name)
 
     def found(self) -> str:
         """Its path, or its bare name where the loader has to find it."""

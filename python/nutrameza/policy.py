@@ -45,6 +45,7 @@ import struct
 from typing import Any, Dict, FrozenSet, Iterable, List, Optional, Sequence, Set, Tuple
 
 from . import calls, limits
+from .answers import Table
 from .limits import Number
 
 # The kinds of words, and the widths of their fields from bit 27 down; the rest of a word is spare.
@@ -304,13 +305,22 @@ def chain_of(data: bytes) -> List[int]:
     return [chain[-1], *chain]
 
 
-def reached(policy: Policy, user: int) -> FrozenSet[int]:
-    """The roles that a user may switch on: by the library's table of a policy in which each role grants itself."""
+def lower_roles(policy: Policy) -> Table:
+    """The roles at or below each role: the library's table of a policy in which each role grants itself."""
     roles = policy.counts[1]
     pairs = sorted({entry for entry in policy.entries if entry[0] == SENIOR})
-    table = calls.table(Policy([1, roles, roles], [(GRANT, role, role) for role in range(roles)] + pairs).image())
-    own = {entry[2] for entry in policy.entries if entry[:2] == (ASSIGNMENT, user)}
-    return frozenset(below for role in own for below in table.carried_by(role))
+    return calls.table(Policy([1, roles, roles], [(GRANT, role, role) for role in range(roles)] + pairs).image())
+
+
+def assigned(policy: Policy, user: int) -> FrozenSet[int]:
+    """The roles that a user's assignments name."""
+    return frozenset(entry[2] for entry in policy.entries if entry[:2] == (ASSIGNMENT, user))
+
+
+def reached(policy: Policy, user: int) -> FrozenSet[int]:
+    """The roles that a user may switch on: the assigned ones and those below them."""
+    table = lower_roles(policy)
+    return frozenset(lower for role in assigned(policy, user) for lower in table.carried_by(role))
 
 
 def too_many(user: int, count: int, names: Names) -> str:
@@ -373,11 +383,17 @@ class Wrong(Exception):
 
 
 class Errors(Exception):
-    """All errors of a text, each as 'FILE:LINE: what is wrong'."""
+    """All errors of a text, each as 'FILE:LINE: what is wrong'; `found` has them as line and reason, the line 0 for
+    what is about no line."""
+
+    def __init__(self, told: str, found: Sequence[Tuple[int, str]] = ()) -> None:
+        super().__init__(told)
+        self.found = list(found)
 
 
-def parse(text: str, name: str = "policy") -> Tuple[Policy, Names]:
-    """The policy that a text says, which the library accepts, and its names; `name` is how the errors call the file."""
+def understood(text: str) -> Tuple["Parser", "Judgement", List[Tuple[int, str]]]:
+    """What the lines of a text declare and say, how the library judges it, and every error: its line, or 0, and what is
+    wrong."""
     parser = Parser()
     lines = [(number, line.split("#", 1)[0].split()) for number, line in enumerate(text.split("\n"), start=1)]
     lines = [(number, words) for number, words in lines if words]
@@ -389,11 +405,16 @@ def parse(text: str, name: str = "policy") -> Tuple[Policy, Names]:
                     parser.line(number, keyword, words)
             except Wrong as wrong:
                 errors.append((number, str(wrong)))
-    errors += Judgement(parser).errors
-    found = [f"{name}:{number}: {what}" for number, what in sorted(errors, key=lambda error: error[0])]
-    found += [f"{name}: declares no {sort}" for sort in SORTS if not parser.names[sort]]
-    if found:
-        raise Errors("\n".join(found))
+    judgement = Judgement(parser)
+    errors = sorted(errors + judgement.errors, key=lambda error: error[0])
+    return parser, judgement, errors + [(0, f"declares no {sort}") for sort in SORTS if not parser.names[sort]]
+
+
+def parse(text: str, name: str = "policy") -> Tuple[Policy, Names]:
+    """The policy that a text says, which the library accepts, and its names; `name` is how the errors call the file."""
+    parser, _, errors = understood(text)
+    if errors:
+        raise Errors("\n".join(f"{name}{f':{line}' if line else ''}: {what}" for line, what in errors), errors)
     return Policy(parser.counts(), [said.entry for said in parser.said]), parser.declared()
 
 
@@ -402,15 +423,25 @@ def build(text: str, name: str = "policy") -> bytes:
     return parse(text, name)[0].image()
 
 
-def read_text(path: str) -> str:
-    """A text file; raises Errors with the line that is no UTF-8."""
-    with open(path, "rb") as file:
-        data = file.read()
+def is_text(data: bytes) -> bool:
+    """Bytes are taken for a policy text, and not for an image, where a line of them declares a name."""
+    lines = [line.split() for line in data.split(b"\n")]
+    return any(line and line[0].decode("latin-1") in SORTS for line in lines)
+
+
+def text_of(data: bytes, name: str) -> str:
+    """The text that bytes are; raises Errors with the line that is no UTF-8."""
     try:
         return data.decode("utf-8-sig")
     except UnicodeDecodeError as wrong:
         line = data.count(b"\n", 0, wrong.start) + 1
-        raise Errors(f"{path}:{line}: not UTF-8 text") from None
+        raise Errors(f"{name}:{line}: not UTF-8 text", [(line, "not UTF-8 text")]) from None
+
+
+def read_text(path: str) -> str:
+    """A text file; raises Errors with the line that is no UTF-8."""
+    with open(path, "rb") as file:
+        return text_of(file.read(), path)
 
 
 def load(path: str) -> Tuple[Policy, Names]:
@@ -514,7 +545,8 @@ class Parser:
 
 class Judgement:
     """The library's refusals of what a text says, each as the line that it is about and the reason: what is refused is
-    left out, with what stands behind it in its line, and the rest judged again. A loop or a reach ends it."""
+    left out, with what stands behind it in its line, and the rest judged again. A loop or a reach ends it; `answer` is
+    the library's last one, on the entries that `said` still has."""
 
     def __init__(self, parser: Parser) -> None:
         self.counts = [max(1, count) for count in parser.counts()]
@@ -533,7 +565,7 @@ class Judgement:
     def refused(self) -> bool:
         """Tells one refusal, if there is one; whether there may be more."""
         image = self.image(self.said)
-        answer = calls.check(image)
+        self.answer = answer = calls.check(image)
         if answer.number == Number.LOOP:
             self.errors.append(self.loop(image))
         elif answer.number == Number.REACH:

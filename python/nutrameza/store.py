@@ -17,7 +17,7 @@ import dataclasses
 import enum
 import functools
 import os
-from typing import Any, Callable, FrozenSet, List, Optional, Tuple, Type, TypeVar
+from typing import Any, Callable, Dict, FrozenSet, List, Optional, Tuple, Type, TypeVar
 
 from . import limits
 from .answers import Answer, Chosen, Explained, Obstacle, members
@@ -128,7 +128,7 @@ PARAMETERS = {
     "policies": "tf", "journal": "tf", "journal_from": "tnnnf", "release": "tt", "adopt_all": "ttf", "policy": "tbip",
     "verify": "tp", "verify_watched": "tpp", "mend": "tnp", "cut": "tnp", "export": "tpppp",
 }
-TYPES = {"t": [ctypes.c_char_p], "n": [ctypes.c_uint64], "b": [ctypes.c_void_p, ctypes.c_size_t], "p": [ctypes.c_void_p],
+TYPES: Dict[str, List[Any]] = {"t": [ctypes.c_char_p], "n": [ctypes.c_uint64], "b": [ctypes.c_void_p, ctypes.c_size_t], "p": [ctypes.c_void_p],
          "i": [ctypes.c_int], "f": [ctypes.c_void_p, ctypes.c_void_p]}
 
 
@@ -403,10 +403,10 @@ class Store:
         """The answer of what C returned; raises StoreUsage for a handle used wrongly. A refused policy too tells whom
         it stops."""
         answer, extra = returned % 256, returned // 256
-        if answer == StoreNumber.USAGE:
-            raise StoreUsage(f"{name}: {word_of(answer)}")
         said = library().nutrameza_store_error(self.handle) if answer >= StoreNumber.BUSY and self.handle.value else b""
         told = Told((said or b"").decode(errors="replace"))
+        if answer == StoreNumber.USAGE:
+            raise StoreUsage(f"{name}: {told.error or word_of(answer)}")
         if reply is not None:
             told = Told(told.error, reply.window, reply.order, reply.version, bool(reply.again), bytes(reply.token))
         return kind(name, answer, extra, filled if answer == 0 or kind is StorePolicy else b"", told, **more)

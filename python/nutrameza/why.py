@@ -1,13 +1,18 @@
 """What stands in the way of an ask, and why a policy stops a user, in words and by names. All that is said comes from
 calls of the library, on the policy or on a part of it."""
 
-from typing import AbstractSet, Dict, FrozenSet, Iterable, List, Optional
+import copy
+from typing import AbstractSet, Dict, FrozenSet, Iterable, List, Optional, Sequence, Tuple
 
 from . import calls, limits
-from .answers import Obstacle, members
+from .answers import Answer, Obstacle, members
 from .limits import Aim, ExclusionKind, Number, ObstacleKind
 from .policy import (ASSIGNMENT, EXCLUSION, EXCLUSION_KINDS, LIMIT, SENIOR, Entry, Names, Policy, called, meant, named, read,
                      tidied, to_words)
+
+
+# A window that holds roles: its user, its session, those roles.
+Holder = Tuple[int, int, FrozenSet[int]]
 
 
 class CallRefused(Exception):
@@ -18,17 +23,11 @@ class CallRefused(Exception):
         super().__init__(f"{said}: {reason}" if reason else f"{said} ({extra})")
 
 
-# ---- why not ----
+class Named:
+    """What is said of users, roles and permissions by the names of a policy."""
 
-class Ask:
-    """A user's ask in a window under an image, with the names of its policy; the ledger is copied."""
-
-    def __init__(self, image: bytes, ledger: calls.Ledger, names: Names, user: int, session: int) -> None:
-        answer = calls.check(image)
-        if not answer.done:
-            raise CallRefused(answer.number, answer.extra)
-        self.image, self.ledger, self.names, self.user, self.session = image, bytes(ledger), names, user, session
-        self.policy = read(to_words(image))
+    def __init__(self, names: Names) -> None:
+        self.names = names
 
     def name(self, sort: str, number: int) -> str:
         """A name with its number in brackets."""
@@ -39,25 +38,59 @@ class Ask:
         named_ones = [self.name(sort, number) for number in sorted(numbers)]
         return last.join([", ".join(named_ones[:-1]), named_ones[-1]] if len(named_ones) > 1 else named_ones)
 
+
+# ---- why not ----
+
+class Ask(Named):
+    """A user's ask in a window under an image, with the names of its policy; the ledger is copied."""
+
+    def __init__(self, image: bytes, ledger: calls.Ledger, names: Names, user: int, session: int) -> None:
+        super().__init__(names)
+        answer = calls.check(image)
+        if not answer.done:
+            raise CallRefused(answer.number, answer.extra)
+        self.image, self.ledger, self.user, self.session = image, bytes(ledger), user, session
+        self.policy = read(to_words(image))
+
+    def at(self, ledger: calls.Ledger, user: int, session: int) -> "Ask":
+        """An ask under the same image and by the same names, on another ledger, of another user or window."""
+        other = copy.copy(self)
+        other.ledger, other.user, other.session = bytes(ledger), user, session
+        return other
+
     def everything(self) -> FrozenSet[int]:
         """The policy's permissions."""
         return frozenset(range(self.policy.counts[2]))
+
+    def windows(self, users: Iterable[int]) -> List[Tuple[int, int]]:
+        """The windows that these users may have, each behind its user."""
+        return [(user, session) for user in users for session in range(limits.SESSIONS)]
 
     def active(self, user: int, session: int) -> FrozenSet[int]:
         """The active roles of a session; none of one that is not open."""
         shown = calls.show(self.image, self.ledger, user, session)
         return shown.roles if shown.done else frozenset()
 
-    def holding(self, roles: AbstractSet[int], users: Iterable[int]) -> str:
+    def holders(self, roles: AbstractSet[int], users: Iterable[int]) -> List[Holder]:
         """The windows, this one left out, in which one of these roles is active, each with those that are."""
+        held = [(user, session, roles & self.active(user, session)) for user, session in self.windows(users)]
+        return [one for one in held if one[2] and one[:2] != (self.user, self.session)]
+
+    def holding(self, roles: AbstractSet[int], users: Iterable[int]) -> str:
+        """The same in words."""
         found = []
-        windows = [(user, session) for user in users for session in range(limits.SESSIONS)]
-        for user, session in windows:
-            held = roles & self.active(user, session)
-            if held and (user, session) != (self.user, self.session):
-                whose = "" if user == self.user else f" of {self.name('user', user)}"
-                found.append(f"window {session}{whose} holds {self.list('role', held, ' and ')}")
+        for user, session, held in self.holders(roles, users):
+            whose = "" if user == self.user else f" of {self.name('user', user)}"
+            found.append(f"window {session}{whose} holds {self.list('role', held, ' and ')}")
         return " and ".join(found)
+
+    def in_the_way(self, found: Obstacle) -> List[Holder]:
+        """The windows by which an exclusion or a limit stands in the way; none where it is no window that does."""
+        if found.kind == ObstacleKind.LIMIT:
+            return self.holders(found.roles, range(self.policy.counts[0]))
+        if found.kind != ObstacleKind.EXCLUSION or found.exclusion_kind != ExclusionKind.MS_DMER:
+            return []
+        return self.holders(found.roles, [self.user])
 
     def obstacle(self, lower: AbstractSet[int], upper: AbstractSet[int]) -> Obstacle:
         """The obstacle of an ask with these bounds."""
@@ -81,7 +114,7 @@ class Ask:
             return needs + f"which {self.name('user', self.user)} may not switch on"
         return needs + (self.wide(found.roles, upper) if found.kind == ObstacleKind.UPPER else self.limited(found.roles))
 
-    def reason(self, refused: Obstacle) -> str:
+    def reason(self, refused: Answer) -> str:
         """What a refusal says of the names."""
         if refused.number == Number.LINE:
             return f"the line of {self.name('user', calls.unsound_user(refused, self.user))} is not sound"
@@ -89,7 +122,9 @@ class Ask:
         reasons: Dict[int, str] = {
             Number.LEDGER: f"{len(self.ledger)} bytes are no ledger of {users} users", Number.PERSON: f"there is no user {self.user}",
             Number.SESSION: f"there is no window {self.session}", Number.CLOSED: f"window {self.session} is not open",
-            Number.PERMISSION: f"permissions are numbered below {permissions}"}
+            Number.FULL: f"{self.name('user', self.user)} has {limits.SESSIONS} windows open, and that is the most",
+            Number.PERMISSION: f"permissions are numbered below {permissions}",
+            Number.BOUNDS: "what is asked for is not within the upper bound", Number.AIM: f"an aim is at most {int(Aim.MOST)}"}
         return reasons.get(refused.number, "")
 
     def wide(self, roles: AbstractSet[int], upper: AbstractSet[int]) -> str:
@@ -147,6 +182,18 @@ class Ask:
 # A user's line of a ledger: eight bytes of open sessions, eight of the past, then for each session eight of active
 # roles and eight of its past.
 
+def line_of(ledger: bytes, user: int) -> bytes:
+    """A user's line of a ledger."""
+    return ledger[limits.LINE_BYTES * user:limits.LINE_BYTES * (user + 1)]
+
+
+def grown(policy: Policy, ledger: bytes) -> Tuple[bytes, int]:
+    """A ledger that is shorter than a policy's by whole lines, with zero lines for the new users, and how many."""
+    lines, rest = divmod(len(ledger), limits.LINE_BYTES)
+    added = policy.counts[0] - lines
+    return (ledger + bytes(limits.LINE_BYTES * added), added) if rest == 0 and added > 0 else (ledger, 0)
+
+
 def roles_at(line: bytes, place: int) -> List[int]:
     """The roles of the set that stands at a place of a line, ascending."""
     return sorted(members(line[place:place + limits.ROLES_BYTES]))
@@ -165,9 +212,9 @@ def stops(policy: Policy, user: int, line: bytes) -> Optional[bool]:
     return user in answer.users if answer.done else None
 
 
-def reasons(policy: Policy, user: int, line: bytes, names: Names) -> List[str]:
+def reasons(policy: Policy, user: int, line: bytes, names: Names, windows: Sequence[int] = range(limits.SESSIONS)) -> List[str]:
     """Why a policy stops a user with this line, a reason each line: asked of the library by parts of the policy and of
-    the line."""
+    the line. Windows are how the line's sessions are called."""
     active = {session: roles_at(line, 16 + 16 * session) for session in range(limits.SESSIONS)}
     held = sorted({role for roles in active.values() for role in roles})
     users, roles, permissions = policy.counts
@@ -176,7 +223,7 @@ def reasons(policy: Policy, user: int, line: bytes, names: Names) -> List[str]:
         return stops(Policy([users, limits.MAX_ROLES, permissions], entries), user, line)
 
     own = [entry for entry in policy.entries if entry[0] in (ASSIGNMENT, SENIOR)]
-    found = [f"window {session} has {called('role', role, names)}, which is not {called('user', user, names)}'s"
+    found = [f"window {windows[session]} has {called('role', role, names)}, which is not {called('user', user, names)}'s"
              for session in active for role in active[session] if stopping(own, line_with(role))]
     free: List[Entry] = [(ASSIGNMENT, user, role) for role in held]
     if stopping(free, line) is not False:

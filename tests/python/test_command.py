@@ -146,8 +146,8 @@ class Help(Folder):
 
     def test_completion(self):
         self.path("one.img", b"")
-        self.assertEqual(set(self.completed("nutrameza", "")), {*cli.COMMANDS, "--help", "--version"})
-        self.assertEqual(self.completed("nutrameza", "s"), ["same", "stopped"])
+        self.assertEqual(set(self.completed("nutrameza", "")), {*cli.COMMANDS, "store", "desk", "report", "--help", "--version"})
+        self.assertEqual(self.completed("nutrameza", "s"), ["same", "stopped", "store"])
         self.assertEqual(self.completed("nutrameza", "tidy", "-"), ["--help", "--output", "--force"])
         self.assertEqual(self.completed("nutrameza", "check", "on"), ["one.img"])
         asked = ["nutrameza", "why", "policy.img", "ledger", WARD]
