@@ -179,6 +179,7 @@ class Story(OnStore):
                 window = host.open(NAME, user).window
                 host.short_ask(NAME, user, window, [wish], range(5))
                 host.close(NAME, user, window)
+                time.sleep(0.01)  # SQLite's clock has milliseconds
         said = [timeless(line) for line in self.done("journal", NAME, names=NEXT).splitlines()]
         self.assertEqual(said, [
             "TIME BEN (1) open window 8 [desk-7]", "TIME BEN (1) ask window 8 for Read_id (0): Nurse (2) [desk-7]",
@@ -210,14 +211,10 @@ class OnPostgresql(Story):
         subprocess.run(["psql", "-q", POSTGRESQL, "-c", f"create database {name}"], check=True)
         return POSTGRESQL.replace("/postgres?", f"/{name}?")
 
-    def test_a_store_without_tables_and_a_server_that_is_not_there(self):
+    def test_a_database_without_tables(self):
         name = self.new_store()
         self.assertEqual(self.refused("wards", "--store", name, status=3),
                          f"nutrameza: {name}: no tables; 'nutrameza store make' makes them\n")
-        gone = "postgresql://anna:secret@/none?host=/nowhere&port=1"
-        said = self.refused("who", NAME, "--store", gone, status=3)
-        self.assertTrue(said.startswith("nutrameza: postgresql://anna:***@/none?host=/nowhere&port=1: the storage failed, and nothing is changed: "))
-        self.assertNotIn("secret", said)
 
 
 class Wards(OnStore):
@@ -561,6 +558,12 @@ class Connecting(OnStore):
     def test_a_storage_that_fails(self):
         self.path("ward.db", b"this is no database, but a text that is long enough to be looked at as one" * 20)
         self.assertEqual(self.refused("wards", status=3), f"nutrameza: {self.name}: the storage failed, and nothing is changed: sqlite: file is not a database (26)\n")
+
+    def test_a_server_that_is_not_there_and_no_password_is_shown(self):
+        gone = "postgresql://anna:secret@/none?host=/nowhere&port=1"
+        said = self.refused("who", NAME, "--store", gone, status=3)
+        self.assertTrue(said.startswith("nutrameza: postgresql://anna:***@/none?host=/nowhere&port=1: the storage failed, and nothing is changed: "))
+        self.assertNotIn("secret", said)
 
     def test_wrong_usage(self):
         for words, told in ((("wards", "--store", ""), "no store is named: --store or NUTRAMEZA_STORE, as sqlite:PATH or postgresql://.."),
