@@ -109,6 +109,21 @@ class OnStore(Folder):
         self.addCleanup(made.disconnect)
         return made
 
+    def on_terminal(self, *words):
+        """Exit status and output of the command on a terminal of its own, where progress is shown at once."""
+        program = "import sys; from nutrameza import cli, progress; progress.FIRST = progress.NEXT = 0.01; sys.exit(cli.main())"
+        pid, terminal = pty.fork()
+        if pid == 0:
+            os.environ.update(NUTRAMEZA_STORE=self.name, NUTRAMEZA_NAMES=WARD)
+            os.execv(sys.executable, [sys.executable, "-B", "-c", program, "store", *words])
+        said = b""
+        try:
+            while True:
+                said += os.read(terminal, 4096)
+        except OSError:
+            os.close(terminal)
+        return os.waitpid(pid, 0)[1], said.decode()
+
     def opened(self, *words, host="desk-7"):
         """The number of a window that a host opens for ANNA, with an ask for these permissions in it."""
         window = self.done("open", NAME, "ANNA", "--host", host).strip()
@@ -385,6 +400,13 @@ class Windows(OnStore):
             "ask window 8 for Read_health_records (1) (most permissions, fewest roles): Doctor (0)",
             "ask window 8 for Read_health_records (1) (fewest permissions, any roles): Data_Manager (1)"])
 
+    def test_on_a_terminal_no_word_is_broken(self):
+        window, other = self.opened("Prescribe"), self.opened()
+        told = f"Send_data (4) needs Data_Manager (1), which ms-dmer 2 of Doctor (0),\nData_Manager (1) bars while window {window} holds Doctor (0)\n"
+        self.assertEqual(self.on_terminal("obstacle", NAME, "ANNA", other, "Send_data"), (0, told.replace("\n", "\r\n")))
+        lines = self.on_terminal("journal", NAME)[1].splitlines()
+        self.assertEqual((timeless(lines[1]), lines[2]), ("TIME ANNA (0) ask window 8 for Prescribe (2): Doctor (0)", "  [desk-7]"))
+
     def test_a_token_names_a_request(self):
         token = "00112233445566778899aabbccddeeff"
         window = self.done("open", NAME, "ANNA", "--token", token)
@@ -493,21 +515,6 @@ class Long(OnStore):
             other.execute("insert into journal with recursive n(nr) as (select 2 union all select nr + 1 from n where nr < ?) select ward, usr, n.nr, "
                           "turn, version, null, 4, 9, x'', 13, null, host, at from n, journal where ward = 1 and usr = 0 and journal.nr = 1",
                           [self.entries])
-
-    def on_terminal(self, *words):
-        """Exit status and output of the command on a terminal of its own, where progress is shown at once."""
-        program = "import sys; from nutrameza import cli, progress; progress.FIRST = progress.NEXT = 0.01; sys.exit(cli.main())"
-        pid, terminal = pty.fork()
-        if pid == 0:
-            os.environ.update(NUTRAMEZA_STORE=self.name, NUTRAMEZA_NAMES=WARD)
-            os.execv(sys.executable, [sys.executable, "-B", "-c", program, "store", *words])
-        said = b""
-        try:
-            while True:
-                said += os.read(terminal, 4096)
-        except OSError:
-            os.close(terminal)
-        return os.waitpid(pid, 0)[1], said.decode()
 
     def test_progress_is_on_a_terminal_alone_and_goes(self):
         last = f"ward 3: {self.entries:,} entries replayed, 1 difference, no incident"
