@@ -109,6 +109,21 @@ class OnStore(Folder):
         self.addCleanup(made.disconnect)
         return made
 
+    def on_terminal(self, *words):
+        """Exit status and output of the command on a terminal of its own, where progress is shown at once."""
+        program = "import sys; from nutrameza import cli, progress; progress.FIRST = progress.NEXT = 0.01; sys.exit(cli.main())"
+        pid, terminal = pty.fork()
+        if pid == 0:
+            os.environ.update(NUTRAMEZA_STORE=self.name, NUTRAMEZA_NAMES=WARD)
+            os.execv(sys.executable, [sys.executable, "-B", "-c", program, "store", *words])
+        said = b""
+        try:
+            while True:
+                said += os.read(terminal, 4096)
+        except OSError:
+            os.close(terminal)
+        return os.waitpid(pid, 0)[1], said.decode()
+
     def opened(self, *words, host="desk-7"):
         """The number of a window that a host opens for ANNA, with an ask for these permissions in it."""
         window = self.done("open", NAME, "ANNA", "--host", host).strip()
@@ -179,6 +194,7 @@ class Story(OnStore):
                 window = host.open(NAME, user).window
                 host.short_ask(NAME, user, window, [wish], range(5))
                 host.close(NAME, user, window)
+                time.sleep(0.01)  # SQLite's clock has milliseconds
         said = [timeless(line) for line in self.done("journal", NAME, names=NEXT).splitlines()]
         self.assertEqual(said, [
             "TIME BEN (1) open window 8 [desk-7]", "TIME BEN (1) ask window 8 for Read_id (0): Nurse (2) [desk-7]",
@@ -210,14 +226,10 @@ class OnPostgresql(Story):
         subprocess.run(["psql", "-q", POSTGRESQL, "-c", f"create database {name}"], check=True)
         return POSTGRESQL.replace("/postgres?", f"/{name}?")
 
-    def test_a_store_without_tables_and_a_server_that_is_not_there(self):
+    def test_a_database_without_tables(self):
         name = self.new_store()
         self.assertEqual(self.refused("wards", "--store", name, status=3),
                          f"nutrameza: {name}: no tables; 'nutrameza store make' makes them\n")
-        gone = "postgresql://anna:secret@/none?host=/nowhere&port=1"
-        said = self.refused("who", NAME, "--store", gone, status=3)
-        self.assertTrue(said.startswith("nutrameza: postgresql://anna:***@/none?host=/nowhere&port=1: the storage failed, and nothing is changed: "))
-        self.assertNotIn("secret", said)
 
 
 class Wards(OnStore):
@@ -388,6 +400,13 @@ class Windows(OnStore):
             "ask window 8 for Read_health_records (1) (most permissions, fewest roles): Doctor (0)",
             "ask window 8 for Read_health_records (1) (fewest permissions, any roles): Data_Manager (1)"])
 
+    def test_on_a_terminal_no_word_is_broken(self):
+        window, other = self.opened("Prescribe"), self.opened()
+        told = f"Send_data (4) needs Data_Manager (1), which ms-dmer 2 of Doctor (0),\nData_Manager (1) bars while window {window} holds Doctor (0)\n"
+        self.assertEqual(self.on_terminal("obstacle", NAME, "ANNA", other, "Send_data"), (0, told.replace("\n", "\r\n")))
+        lines = self.on_terminal("journal", NAME)[1].splitlines()
+        self.assertEqual((timeless(lines[1]), lines[2]), ("TIME ANNA (0) ask window 8 for Prescribe (2): Doctor (0)", "  [desk-7]"))
+
     def test_a_token_names_a_request(self):
         token = "00112233445566778899aabbccddeeff"
         window = self.done("open", NAME, "ANNA", "--token", token)
@@ -497,21 +516,6 @@ class Long(OnStore):
                           "turn, version, null, 4, 9, x'', 13, null, host, at from n, journal where ward = 1 and usr = 0 and journal.nr = 1",
                           [self.entries])
 
-    def on_terminal(self, *words):
-        """Exit status and output of the command on a terminal of its own, where progress is shown at once."""
-        program = "import sys; from nutrameza import cli, progress; progress.FIRST = progress.NEXT = 0.01; sys.exit(cli.main())"
-        pid, terminal = pty.fork()
-        if pid == 0:
-            os.environ.update(NUTRAMEZA_STORE=self.name, NUTRAMEZA_NAMES=WARD)
-            os.execv(sys.executable, [sys.executable, "-B", "-c", program, "store", *words])
-        said = b""
-        try:
-            while True:
-                said += os.read(terminal, 4096)
-        except OSError:
-            os.close(terminal)
-        return os.waitpid(pid, 0)[1], said.decode()
-
     def test_progress_is_on_a_terminal_alone_and_goes(self):
         last = f"ward 3: {self.entries:,} entries replayed, 1 difference, no incident"
         status, said = self.on_terminal("verify", NAME)
@@ -561,6 +565,12 @@ class Connecting(OnStore):
     def test_a_storage_that_fails(self):
         self.path("ward.db", b"this is no database, but a text that is long enough to be looked at as one" * 20)
         self.assertEqual(self.refused("wards", status=3), f"nutrameza: {self.name}: the storage failed, and nothing is changed: sqlite: file is not a database (26)\n")
+
+    def test_a_server_that_is_not_there_and_no_password_is_shown(self):
+        gone = "postgresql://anna:secret@/none?host=/nowhere&port=1"
+        said = self.refused("who", NAME, "--store", gone, status=3)
+        self.assertTrue(said.startswith("nutrameza: postgresql://anna:***@/none?host=/nowhere&port=1: the storage failed, and nothing is changed: "))
+        self.assertNotIn("secret", said)
 
     def test_wrong_usage(self):
         for words, told in ((("wards", "--store", ""), "no store is named: --store or NUTRAMEZA_STORE, as sqlite:PATH or postgresql://.."),
