@@ -770,6 +770,13 @@ class Commands(Folder):
                 "permission Send had number 2 and is gone\n")
         self.assertEqual(self.run_tool("same", start, turned), (3, told, ""))
 
+    def test_same_names_what_is_taken_by_the_old_text_and_what_is_added_by_the_new_one(self):
+        start = self.path("start", (START + "assign BERT Nurse\n").encode())
+        turned = self.path("turned", b"user BERT ANNA\nrole Doctor Clerk Nurse\npermission Read Write Send Print\nassign BERT Clerk\n")
+        told = ("+ assign BERT Clerk\n- assign BERT Nurse\nuser ANNA had number 0 and has 1 now\nuser BERT had number 1 and has 0 now\n"
+                "role Nurse had number 1 and has 2 now\nrole Clerk had number 2 and has 1 now\n")
+        self.assertEqual(self.run_tool("same", start, turned), (3, told, ""))
+
     def test_same_gives_status_2_for_a_text_with_an_error(self):
         start, bad = self.path("start", START.encode()), self.path("bad", b"user ANNA\nassign ANNA Doctor\n")
         status, out, err = self.run_tool("same", start, bad)

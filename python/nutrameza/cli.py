@@ -153,7 +153,7 @@ def same_images(arguments: argparse.Namespace) -> int:
     if loaded is None:
         return 2
     (first, old), (second, new) = loaded
-    lines = policy.differences(first, second, names if new is None else new)
+    lines = policy.differences(first, second, names if new is None else new, old)
     print("\n".join(lines) if lines else "the same")
     gone = policy.moved(old, new) if old and new else []
     if old and new:

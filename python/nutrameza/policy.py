@@ -348,15 +348,16 @@ def tidy_place(entry: Entry) -> Entry:
     return (*entry[:3], sum(1 << role for role in entry[3])) if entry[0] == EXCLUSION else entry
 
 
-def differences(first: Policy, second: Policy, names: Names) -> List[str]:
+def differences(first: Policy, second: Policy, names: Names, before: Optional[Names] = None) -> List[str]:
     """A line for each thing that two policies don't share, '-' for the first and '+' for the second; none if they mean
-    the same."""
+    the same. Before: the names of the first, where it has names of its own."""
     one, other = meant(first), meant(second)
+    first_names = names if before is None else before
     lines = []
     if first.counts != second.counts:
         lines += [f"- {counted(first.counts)}", f"+ {counted(second.counts)}"]
     for entry in sorted(one ^ other, key=tidy_place):
-        lines.append(f"{'-' if entry in one else '+'} {' '.join(named(entry, names))}")
+        lines.append(f"- {' '.join(named(entry, first_names))}" if entry in one else f"+ {' '.join(named(entry, names))}")
     return lines
 
 

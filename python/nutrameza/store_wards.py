@@ -158,7 +158,7 @@ def change_policy(arguments: argparse.Namespace, store: Store) -> int:
     said, own = cli.load(arguments.image, ward.names)
     names, called = own or ward.names, plain(ward.called)
     if arguments.dry_run:
-        print("\n".join(policy.differences(ward.said(), said, names)) or "the policy says the same")
+        print("\n".join(policy.differences(ward.said(), said, names, ward.names if ward.names["user"] else None)) or "the policy says the same")
     moved, users = tell_moved(ward, own), tell_stopped(ward, said, names)
     if arguments.dry_run:
         return REFUSED if moved or users else 0

@@ -15,18 +15,13 @@ def named(loaded: Loaded, sort: str, number: int) -> str:
 
 def compared(old: Loaded, new: Loaded, ledger: Optional[bytes]) -> Dict[str, Any]:
     """The comparison; without a ledger nobody is looked up."""
-    lines = policy.differences(old.policy, new.policy, joined(old, new))
+    lines = policy.differences(old.policy, new.policy, new.names, old.names)
     return {
         "old": old.file, "new": new.file, "same": not lines,
         "taken": [line[2:] for line in lines if line[0] == "-"], "added": [line[2:] for line in lines if line[0] == "+"],
         "moved": policy.moved(old.names, new.names), "people": people(old, new),
         "stopped": None if ledger is None else stopped(new, ledger),
     }
-
-
-def joined(old: Loaded, new: Loaded) -> policy.Names:
-    """The new policy's names, and the old one's for numbers that the new one has no more."""
-    return {sort: [*new.names[sort], *old.names[sort][len(new.names[sort]):]] for sort in policy.SORTS}
 
 
 def people(old: Loaded, new: Loaded) -> List[Dict[str, Any]]:
