@@ -300,6 +300,8 @@ class Try(Browsing):
                  for place in range(1, TIMES + 1)]
         self.assertLess(min(times), CLICK)
         self.assertEqual(self.permission("Cardiology_Diagnose").text, "Cardiology_Diagnose (8)\nby Cardiology_Consultant (1) through Cardiology_Doctor (2)")
+        shown = self.js('[...document.querySelectorAll("#picture .node")].filter((n) => n.getBoundingClientRect().height > 0).map((n) => Number(n.dataset.role))')
+        self.assertTrue(set(range(7)) <= set(shown) and len(shown) < 24, shown)
         self.one("#find-permission").send_keys("surgery_bill")
         self.until('[...document.querySelectorAll(".permission")].filter((b) => !b.hidden).length === 1')
 

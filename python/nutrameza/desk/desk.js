@@ -270,6 +270,7 @@ function drawSteps() {
   for (const id of ["undo", "save-script", "restart"]) byId(id).disabled = !trial.steps.length;
 }
 
+// The roles that are live, in the rows of the picture that have a role of the person's.
 function drawPicture() {
   const windows = trial.people[at.user];
   const here = new Set(windows.filter((one) => one.window === at.window).flatMap((one) => one.roles));
@@ -282,6 +283,10 @@ function drawPicture() {
     node.classList.toggle("own", own.has(role));
     node.classList.toggle("away", !own.has(role));
   }
+  for (const row of all("#picture svg")) row.toggleAttribute("hidden", !row.querySelector(".own"));
+  byId("left-out").hidden = !all("#picture svg[hidden]").length;
+  const alone = byId("picture").querySelector(".hierarchies > .sub");
+  if (alone) alone.hidden = !all("#picture .sub ~ svg").some((row) => row.querySelector(".own"));
 }
 
 // A field that hides what does not have its words.
