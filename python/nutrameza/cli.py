@@ -369,12 +369,12 @@ def run(parser: argparse.ArgumentParser, words: Optional[Sequence[str]], prefix:
         return 2
 
 
-def as_program(parser: argparse.ArgumentParser, prefix: str) -> int:
+def as_program(parser: Callable[[], argparse.ArgumentParser], prefix: str) -> int:
     """Runs the program's own words; a closed pipe and Ctrl-C end it as they end other programs."""
     signal.signal(signal.SIGPIPE, signal.SIG_DFL)
     if signal.getsignal(signal.SIGINT) is not signal.SIG_IGN:  # as in the background of a script
         signal.signal(signal.SIGINT, signal.SIG_DFL)
-    return run(parser, None, prefix)
+    return run(parser(), None, prefix)
 
 
 DESCRIPTION = """The session kit for operators and help desks: policies as text and as images, why an ask is
@@ -396,12 +396,17 @@ def policy_parser() -> argparse.ArgumentParser:
     return command_line(program, f"{POLICY}\n\n{TEXT_FORM}", overwrites=True)
 
 
+def parser() -> argparse.ArgumentParser:
+    """The command line of nutrameza."""
+    from . import store_cli  # it stands on this module
+    return command_line("nutrameza", DESCRIPTION, overwrites=False, more=[store_cli.add])
+
+
 def main() -> int:
     """The command nutrameza."""
-    from . import store_cli  # it stands on this module
-    return as_program(command_line("nutrameza", DESCRIPTION, overwrites=False, more=[store_cli.add]), "nutrameza: ")
+    return as_program(parser, "nutrameza: ")
 
 
 def policy_main() -> int:
     """The command nutrameza-policy."""
-    return as_program(policy_parser(), "")
+    return as_program(policy_parser, "")

@@ -14,6 +14,7 @@ import sqlite3
 import subprocess
 import sys
 import tempfile
+import threading
 import time
 import traceback
 import unittest
@@ -476,6 +477,9 @@ class Journals(OnStore):
         """The command at work."""
         environment = {**os.environ, "NUTRAMEZA_STORE": self.name, "NUTRAMEZA_NAMES": WARD}
         began = subprocess.Popen([*COMMAND, "store", *words], env=environment, stdout=subprocess.PIPE, stderr=subprocess.PIPE, text=True)
+        ending = threading.Timer(60, began.kill)  # so that no line is waited for in vain
+        ending.start()
+        self.addCleanup(ending.cancel)
         self.addCleanup(lambda: (began.kill(), began.communicate()) if began.poll() is None else None)
         return began
 
