@@ -370,7 +370,9 @@ def run(parser: argparse.ArgumentParser, words: Optional[Sequence[str]], prefix:
 
 
 def as_program(parser: Callable[[], argparse.ArgumentParser], prefix: str) -> int:
-    """Runs the program's own words; a closed pipe and Ctrl-C end it as they end other programs."""
+    """Runs the program's own words; a closed pipe and Ctrl-C end it as they end other programs. Where it is started
+    without an output, nobody reads what it says."""
+    sys.stdout, sys.stderr = (file or open(os.devnull, "w", encoding="utf-8") for file in (sys.stdout, sys.stderr))
     signal.signal(signal.SIGPIPE, signal.SIG_DFL)
     if signal.getsignal(signal.SIGINT) is not signal.SIG_IGN:  # as in the background of a script
         signal.signal(signal.SIGINT, signal.SIG_DFL)
