@@ -14,11 +14,13 @@ import sqlite3
 import subprocess
 import sys
 import tempfile
+import threading
 import time
 import traceback
 import unittest
+import unittest.mock
 
-from nutrameza import cli, policy, store_cli, store_journal
+from nutrameza import cli, policy, store, store_cli, store_journal
 from nutrameza.store import Store
 from test_command import COMMAND, COMPLETION, NEXT, WARD, Folder
 
@@ -415,6 +417,31 @@ class Windows(OnStore):
                          "refused: 132 token of another request: this token is on record for another request\n")
         self.assertEqual(self.refused("open", NAME, "ANNA", "--token", "12", status=2), "nutrameza: 12 is no token: 32 digits from 0 to f\n")
 
+    def test_a_storage_that_fails_within_a_call(self):
+        window = self.done("open", NAME, "ANNA").strip()
+        lost = {"error": "sqlite: disk I/O error", "token": bytes(range(16))}
+        unknown = "nutrameza: the storage failed within the commit, so that it may be done or not: sqlite: disk I/O error\n"
+        repeat = "Repeat it with --token 000102030405060708090a0b0c0d0e0f until another answer comes.\n"
+        for call, kind, words in (("open", store.StoreOpened, ("open", NAME, "ANNA")), ("short_ask", store.StoreChosen, ("ask", NAME, "ANNA", window, "Read_id")),
+                                  ("close", store.StoreAnswer, ("close", NAME, "ANNA", window))):
+            self.assertEqual(self.answered(call, kind(call, 130, 0, b"", store.Told(**lost)), *words), (4, "", unknown + repeat))
+        busy = store.StoreAnswer("close", 128, 0, b"", store.Told())
+        self.assertEqual(self.answered("close", busy, "close", NAME, "ANNA", window),
+                         (3, "", "nutrameza: busy: others have held the lock for 10 s, and nothing is changed; try again\n"))
+        changed = store.StorePolicy("policy", 130, 0, bytes(8), store.Told(**lost))
+        self.assertEqual(self.answered("policy", changed, "policy", NAME, WARD)[::2],
+                         (4, unknown + "'nutrameza store policies' says whether version 2 is in place.\n"))
+        made = store.StoreAnswer("create", 130, 0, b"", store.Told(**lost))
+        self.assertEqual(self.answered("create", made, "create", "w", WARD), (4, "", unknown + "'nutrameza store wards' says whether it is there.\n"))
+        replayed = store.Verified("verify", 129, 0, b"", store.Told(**lost))
+        self.assertEqual(self.answered("verify", replayed, "mend", NAME, "ANNA"),
+                         (3, "", "nutrameza: the storage failed, and nothing is changed: sqlite: disk I/O error\n"))
+
+    def answered(self, call, answer, *words):
+        """What a sub-command says where a call of the store gives this answer."""
+        with unittest.mock.patch.object(Store, call, lambda *_: answer):
+            return self.store(*words)
+
     def test_refusals_in_words(self):
         window = self.done("open", NAME, "ANNA").strip()
         for words, told in (
@@ -476,6 +503,9 @@ class Journals(OnStore):
         """The command at work."""
         environment = {**os.environ, "NUTRAMEZA_STORE": self.name, "NUTRAMEZA_NAMES": WARD}
         began = subprocess.Popen([*COMMAND, "store", *words], env=environment, stdout=subprocess.PIPE, stderr=subprocess.PIPE, text=True)
+        ending = threading.Timer(60, began.kill)  # so that no line is waited for in vain
+        ending.start()
+        self.addCleanup(ending.cancel)
         self.addCleanup(lambda: (began.kill(), began.communicate()) if began.poll() is None else None)
         return began
 
