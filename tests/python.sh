@@ -4,6 +4,7 @@
 # (target/staticlib, or the folder that NUTRAMEZA_LIB names) and cargo; PYTHON names another interpreter. The last line
 # is 'N passed, M failed'.
 . "$(dirname "${BASH_SOURCE[0]}")/it.sh"
+. "$root/tests/golden.sh"
 export LC_ALL=C.UTF-8 PYTHONDONTWRITEBYTECODE=1
 unset PYTHONPATH LD_LIBRARY_PATH NUTRAMEZA_LIBRARY
 python=${PYTHON:-python3}
@@ -20,28 +21,12 @@ installed() {
     cmp "$root/python/completion/nutrameza" "$prefix/share/bash-completion/completions/nutrameza"
 }
 
-# The features are those of the gate, so that cargo has it built already.
-golden() {
-  cargo run --quiet --release --offline --manifest-path "$root/tests/Cargo.toml" --features asks,script,survey --bin golden_calls "$runs" \
-    > "$work/golden"
-}
+golden() { golden_calls "$runs"; }
 
 # unit MODULE: its tests, each counted
-unit() {
-  local said status
-  said=$(cd "$root/tests/python" && NUTRAMEZA_LIBRARY=$shared NUTRAMEZA_GOLDEN=$work/golden PYTHONPATH=$root/python "$python" run.py "$1" 2>&1)
-  status=$?
-  sed '$d' <<< "$said"
-  if [[ $said =~ ([0-9]+)' passed, '([0-9]+)' failed'$ ]]; then
-    passed=$((passed + BASH_REMATCH[1])) failed=$((failed + BASH_REMATCH[2]))
-  else
-    echo "$said" "($status)"
-    failed=$((failed + 1))
-  fi
-}
-
-has_engines() {
-  printf '#include <sqlite3.h>\n#include <libpq-fe.h>\n' | cc -E "-I$(pg_config --includedir 2> /dev/null)" - > /dev/null 2>&1
+unit() { counts tests_of "$1"; }
+tests_of() {
+  cd "$root/tests/python" && NUTRAMEZA_LIBRARY=$shared NUTRAMEZA_GOLDEN=$work/golden PYTHONPATH=$root/python "$python" run.py "$1"
 }
 
 stored() {
