@@ -113,6 +113,41 @@ installed() {
 }
 removed() { make -s -C "$root" uninstall-java "PREFIX=$work/prefix" && ! find "$work/prefix" -name '*.jar' | grep .; }
 
+# block FENCE PAGE: the page's block with this fence
+block() { awk -v fence="\`\`\`$1" '$0 == fence { on = 1; next } /^```/ { if (on) exit } on' "$root/docs/$2"; }
+
+# shown FENCE PAGE FILE: the page shows ten lines or so of the file as they are there
+shown() {
+  block "$1" "$2" > "$work/block" && [ "$(wc -l < "$work/block")" -ge 10 ] && [ "$(wc -l < "$work/block")" -le 11 ] &&
+    python3 -c 'import sys; sys.exit(open(sys.argv[1]).read() not in open(sys.argv[2]).read())' "$work/block" "$root/examples/$3"
+}
+policy() {
+  make -s -C "$root" install "PREFIX=$work/kit" "NUTRAMEZA_LIB=$lib" && "$work/kit/bin/nutrameza" build "$root/examples/ward.policy" -o "$work/policy.img"
+}
+ward_in_java() {
+  "$home/bin/java" $native_access -cp "$jar" "$root/examples/Ward.java" "$work/policy.img" > "$work/ward_says" && diff "$work/ward_says" <(block 'text java' LANGUAGES.md) &&
+    diff "$work/ward_says" <(block 'text ward' JAVA.md) && shown 'java ward' LANGUAGES.md Ward.java && shown 'java ward' JAVA.md Ward.java
+}
+ward_in_c() {
+  cc -std=c99 -Wall -Wextra -Werror -pedantic "-I$root/include" "$root/examples/ward.c" "$lib/libnutrameza.a" -o "$work/ward" &&
+    "$work/ward" < "$work/policy.img" > "$work/ward_says" && diff "$work/ward_says" <(block 'text c' LANGUAGES.md) && shown 'c ward' LANGUAGES.md ward.c
+}
+ward_in_python() {
+  PYTHONDONTWRITEBYTECODE=1 PYTHONPATH=$work/kit/lib/python3 python3 "$root/examples/ward.py" > "$work/ward_says" && diff "$work/ward_says" <(block 'text python' LANGUAGES.md) &&
+    shown 'python ward' LANGUAGES.md ward.py
+}
+# The page's lines on the store, in a class around them.
+store_lines() {
+  mkdir -p "$work/page" && cd "$work/page" && {
+    echo 'import nutrameza.*; public class Page { public static void main(String[] words) throws Exception {'
+    echo 'Policy policy = Policy.read(java.nio.file.Path.of(words[0]));'
+    block 'java store' JAVA.md | sed 's/^}$/System.out.println(answer.roles());\n}/'
+    echo '} }'
+  } > Page.java && [ "$("$home/bin/java" $native_access -cp "$jar" Page.java "$work/policy.img")" = '{1}' ] &&
+    python3 -c 'import sys; lines = [" * " + l for l in sys.stdin]; sys.exit("".join(lines) not in open(sys.argv[1]).read())' \
+      "$root/java/src/nutrameza/Store.java" < <(block 'java store' JAVA.md)
+}
+
 without=JAVA_STORE=
 if has_engines; then without=''; else echo 'not installed: headers of SQLite or PostgreSQL; the store is not called'; fi
 it 'the jar and the tests are built, without a warning' built
@@ -140,6 +175,11 @@ if [ -z "$without" ]; then
     echo 'not installed: a PostgreSQL server'
   fi
 fi
+it "an image of the ward's text" policy
+it 'the ward of ten lines in Java, as the pages have it, says what they say' ward_in_java
+it 'the ward of ten lines in C' ward_in_c
+it 'the ward of ten lines in Python' ward_in_python
+[ -n "$without" ] || it 'the lines on the store of docs/JAVA.md run, and the class shows the same' store_lines
 it 'make install-java puts the jars there' installed
 it 'make uninstall-java takes them away' removed
 counted

@@ -6,6 +6,8 @@ import static nutrameza.tests.Check.thrown;
 
 import java.nio.ByteBuffer;
 import java.nio.ReadOnlyBufferException;
+import java.nio.file.Files;
+import java.nio.file.Path;
 import java.util.Arrays;
 import java.util.List;
 import java.util.function.Function;
@@ -136,6 +138,24 @@ public final class BufferTest {
         same(18L, Kit.ask(image, ledger, 0, 0, ByteBuffer.wrap(PRESCRIBE), ByteBuffer.wrap(ALL), 0, -1, ByteBuffer.allocate(40)));
         same(19L, Kit.ask(image, ledger, 0, 0, ByteBuffer.wrap(PRESCRIBE), ByteBuffer.wrap(ALL), 0, 0, ByteBuffer.allocate(41)));
         same(10L, Kit.close(image, ledger, -1, 0));
+    }
+
+    /** A copy of an image that is left behind at each call would be a third of a gigabyte. */
+    public void noMemoryGrows() throws Exception {
+        ByteBuffer image = ByteBuffer.wrap(new byte[16384]);
+        ByteBuffer out = ByteBuffer.allocate(16384);
+        long[] resident = new long[2];
+        for (int times = 0; times < 2; times++) {
+            for (int call = 0; call < 10000 * (1 + times); call++) {
+                same(2L, Kit.check(image));
+                thrown(IllegalArgumentException.class, () -> Kit.tidy(image, image.duplicate()));
+                same(2L, Kit.tidy(image, out));
+            }
+            for (String line : Files.readAllLines(Path.of("/proc/self/status"))) {
+                resident[times] = line.startsWith("VmRSS:") ? Long.parseLong(line.replaceAll("[^0-9]", "")) : resident[times];
+            }
+        }
+        that(resident[1] - resident[0] < 150000, resident[0] + " kB, then " + resident[1]);
     }
 
     public void nullAndReadOnly() {
