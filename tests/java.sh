@@ -19,6 +19,7 @@ if [ ! -x "$home/bin/javac" ]; then
 fi
 jar=$work/out/nutrameza.jar
 native=META-INF/native/linux-x86_64
+# Without a disk below it a sync takes no time.
 place=$(mktemp -d --tmpdir="$([ -w /dev/shm ] && echo /dev/shm || echo "${TMPDIR:-/tmp}")")
 chmod 755 "$place"
 ended() {
@@ -65,7 +66,7 @@ documented() { make -s -C "$root" javadoc "java_out=$work/out" "JAVA_HOME=$home"
 
 # run WORD.. : the tests of these classes, checked by the virtual machine; what it warns of is a failure
 run() {
-  "$home/bin/java" -Xcheck:jni -Xmx256m "-Djava.io.tmpdir=$place" "-Dnutrameza.root=$root" "-Dnutrameza.golden=$work/golden" \
+  timeout 290 "$home/bin/java" -Xcheck:jni -Xmx256m "-Djava.io.tmpdir=$work" "-Dnutrameza.root=$root" "-Dnutrameza.golden=$work/golden" \
     "-Dnutrameza.damage=$root/tests/java/damage" $native_access -cp "$jar:$work/tests" "$@" > "$work/ran" 2>&1
   local status=$?
   sed '$d' "$work/ran"
@@ -99,7 +100,7 @@ loading() {
     loads kit "not loaded: it can't be copied out of the jar" "-Djava.io.tmpdir=$work/nowhere" &&
     loads twice '^not loaded' -Dos.name=Plan9 && [ "$(loads twice . -Dos.name=Plan9 | grep -c 'for plan9-x86_64')" -eq 2 ]
 }
-loading_store() { loads store '^loaded with databases$' "-Djava.io.tmpdir=$place"; }
+loading_store() { loads store '^loaded with databases$' "-Djava.io.tmpdir=$work"; }
 another_version() { # a library of another version is refused
   sed 's/define NUTRAMEZA_VERSION_MINOR 0/define NUTRAMEZA_VERSION_MINOR 7/' "$root/include/nutrameza.h" > "$work/out/include/nutrameza.h" &&
     mkdir -p "$work/other" && cc -std=c99 -shared -fPIC "-I$work/out/include" "-I$home/include" "-I$home/include/linux" "-I$root/java/native" \

@@ -4,9 +4,14 @@ import static nutrameza.tests.Check.same;
 import static nutrameza.tests.Check.that;
 import static nutrameza.tests.Check.thrown;
 
+import java.nio.ByteBuffer;
+import java.util.ArrayList;
 import java.util.BitSet;
 import java.util.List;
 import java.util.Optional;
+import java.util.Queue;
+import java.util.concurrent.ConcurrentLinkedQueue;
+import java.util.function.IntFunction;
 import nutrameza.Aim;
 import nutrameza.Answer;
 import nutrameza.ExclusionKind;
@@ -254,32 +259,56 @@ public final class KitTest {
         same(Optional.of(Refusal.LENGTH), Policy.of(new byte[1 << 20]).check().refusal());
     }
 
-    public void manyThreadsOnOneLedger() throws Exception {
-        Thread[] threads = new Thread[8];
-        String[] wrong = new String[1];
-        for (int k = 0; k < threads.length; k++) {
-            threads[k] = new Thread(() -> {
-                for (int round = 0; round < 300; round++) {
-                    Answer.Opened opened = ledger.open(ward, 0);
-                    if (opened.isDone()) {
-                        Session own = ledger.session(ward, 0, opened.session());
-                        Answer.Chosen asked = own.shortAsk(PermissionSet.of(Images.PRESCRIBE), ALL);
-                        if (!asked.isDone() || !asked.roles().equals(RoleSet.of(0)) || !own.close().isDone()) {
-                            wrong[0] = asked.toString();
-                        }
-                    } else if (!opened.refusedBy(Refusal.FULL)) {
-                        wrong[0] = opened.toString();
+    /** Runs as many threads as there are users, each with its number; what one of them sees wrong fails the test. */
+    private static void threads(int count, IntFunction<Answer> work) throws Exception {
+        Queue<Object> wrong = new ConcurrentLinkedQueue<>();
+        List<Thread> threads = new ArrayList<>();
+        for (int k = 0; k < count; k++) {
+            int own = k;
+            threads.add(new Thread(() -> {
+                for (int round = 0; round < 1500; round++) {
+                    Answer answer = work.apply(own);
+                    if (!answer.isDone() && !answer.refusedBy(Refusal.FULL)) {
+                        wrong.add(answer);
                     }
                 }
-            });
+            }));
         }
-        for (Thread thread : threads) {
-            thread.start();
-        }
+        threads.forEach(Thread::start);
         for (Thread thread : threads) {
             thread.join();
         }
-        same(null, wrong[0]);
+        same(List.of(), List.copyOf(wrong));
+    }
+
+    /** Opens, asks, closes: the first answer that is refused, or the last. */
+    private static Answer day(Policy policy, Ledger ledger, int user) {
+        Answer.Opened opened = ledger.open(policy, user);
+        if (!opened.isDone()) {
+            return opened;
+        }
+        Session own = ledger.session(policy, user, opened.session());
+        Answer.Chosen asked = own.shortAsk(PermissionSet.of(Images.PRESCRIBE), ALL);
+        Answer.Chosen shown = own.show();
+        return !asked.isDone() ? asked : !shown.isDone() ? shown : own.close();
+    }
+
+    public void manyThreadsOnOneUser() throws Exception {
+        threads(6, user -> day(ward, ledger, 0));
         same(new BitSet(), ledger.openSessions(0));
+    }
+
+    /** Of a ledger on the heap each call copies all lines in and out: two at once would lose one's. */
+    public void manyThreadsOnOneLedger() throws Exception {
+        Images images = new Images(64, 2, 5).grant(0, 0, 1, 2, 3).grant(1, 1, 4);
+        for (int user = 0; user < 64; user++) {
+            images.assign(user, 0).assign(user, 1);
+        }
+        Policy policy = images.policy();
+        Ledger heap = Ledger.over(ByteBuffer.allocate(64 * 144));
+        threads(6, user -> day(policy, heap, 10 * user));
+        for (int user = 0; user < 64; user++) {
+            same(new BitSet(), heap.openSessions(user));
+        }
     }
 }

@@ -73,7 +73,7 @@ final class Library {
         } catch (IOException wrong) {
             throw told("it can't be copied out of the jar: " + wrong, wrong);
         } catch (UnsatisfiedLinkError wrong) {
-            throw folder == null ? wrong : told(wrong.getMessage() + elsewhere(), wrong);
+            throw folder == null ? wrong : told(wrong.getMessage() + otherwise(), wrong);
         } finally {
             delete(folder);
         }
@@ -87,6 +87,11 @@ final class Library {
 
     private static String elsewhere() {
         return "; -D" + PROPERTY + "=FOLDER names a folder that has one (docs/JAVA.md says how it is built)";
+    }
+
+    private static String otherwise() {
+        return "; what it needs has to be installed, and where files of " + System.getProperty("java.io.tmpdir")
+            + " may not be run, -D" + PROPERTY + "=FOLDER names a folder to load it from";
     }
 
     private static UnsatisfiedLinkError told(String words, Throwable cause) {

@@ -12,7 +12,7 @@ import java.util.Arrays;
  * them at every call, and {@link #check} tells what it says. Any thread may use it.
  */
 public final class Policy {
-    /** Direct and read-only, so that no call copies it. */
+    /** Read alone, from here and by the calls; direct of an array, so that no call copies it. */
     private final ByteBuffer image;
 
     private Policy(ByteBuffer image) {
@@ -26,7 +26,7 @@ public final class Policy {
      * @return the policy
      */
     public static Policy of(byte[] image) {
-        return new Policy(Ledger.direct(image).asReadOnlyBuffer());
+        return new Policy(Ledger.direct(image));
     }
 
     /**
@@ -37,7 +37,7 @@ public final class Policy {
      * @return the policy
      */
     public static Policy over(ByteBuffer image) {
-        return new Policy(image.slice().asReadOnlyBuffer());
+        return new Policy(image.slice());
     }
 
     /**
