@@ -168,7 +168,7 @@ it 'a library of another version is not taken' another_version
 counts run $tests
 if [ -z "$without" ]; then
   it 'the store brings the databases along' loading_store
-  counts run "-Dnutrameza.store=sqlite:$place/a.db" $stores
+  counts run "-Dnutrameza.store=sqlite:$place/a.db" $stores nutrameza.StoreHeaderTest
   if [ -n "${PGBIN:-}" ] || ls /usr/lib/postgresql/*/bin/initdb > /dev/null 2>&1; then
     it 'a PostgreSQL server is started' "$server" make "$place/pg"
     counts run "-Dnutrameza.store=postgresql://store@/postgres?host=$place/pg&port=5499" $stores
