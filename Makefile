@@ -169,3 +169,4 @@ bench: $(library) $(program) $(surveyor)
 	NUTRAMEZA_LIB='$(abspath $(NUTRAMEZA_LIB))' NUTRAMEZA_PROGRAM='$(abspath $(program))' NUTRAMEZA_SURVEY='$(abspath $(surveyor))' cargo run --release --offline --manifest-path bench/Cargo.toml --features programs
 
 include store/store.mk
+include java/java.mk

@@ -6,6 +6,7 @@
 . "$(dirname "${BASH_SOURCE[0]}")/it.sh"
 chmod 755 "$work"
 trap '[ ! -d "$work/pg/data" ] || "$root/tests/store/server.sh" stop "$work/pg"; rm -rf "$work"' EXIT
+. "$root/tests/golden.sh"
 export LC_ALL=C.UTF-8 PYTHONDONTWRITEBYTECODE=1
 unset PYTHONPATH LD_LIBRARY_PATH NUTRAMEZA_LIBRARY NUTRAMEZA_STORE_LIBRARY NUTRAMEZA_STORE NUTRAMEZA_NAMES
 python=${PYTHON:-python3}
@@ -22,19 +23,11 @@ installed() {
     cmp "$root/python/completion/nutrameza" "$prefix/share/bash-completion/completions/nutrameza"
 }
 
-# The features are those of the gate, so that cargo has it built already.
-golden() {
-  cargo run --quiet --release --offline --manifest-path "$root/tests/Cargo.toml" --features asks,script,survey --bin golden_calls "$runs" \
-    > "$work/golden"
-}
+golden() { golden_calls "$runs"; }
 
 # unit MODULE: its tests, each counted
 unit() {
   tally env -C "$root/tests/python" "NUTRAMEZA_LIBRARY=$shared" "NUTRAMEZA_GOLDEN=$work/golden" "PYTHONPATH=$root/python" "$python" run.py "$1"
-}
-
-has_engines() {
-  printf '#include <sqlite3.h>\n#include <libpq-fe.h>\n' | cc -E "-I$(pg_config --includedir 2> /dev/null)" - > /dev/null 2>&1
 }
 
 stored() {
