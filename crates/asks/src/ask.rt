@@ -22,6 +22,7 @@ use ledger::bytes::put_line;
 use ledger_change::put_in;
 use limits_left::roles_left;
 use model::Line;
+use model::refusals;
 use query_rank::Job;
 use search::Choice;
 use sessions::answer::fill;
@@ -102,7 +103,7 @@ fn put_best(
     let l = line_of(ledger, u);
     let choice = best(&rows, authorized, xs, rules.count, l, k, wanted);
     let Choice::Roles(s) = choice else {
-        return 20;
+        return refusals::NONE;
     };
     let next = put_in(l, k, s);
     put_line(ledger, u, next);

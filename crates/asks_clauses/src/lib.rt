@@ -24,6 +24,7 @@ use asks_request::request::limited_refusal;
 use clauses_hard::question::Question;
 use ledger::bytes::line_of;
 use limits_left::roles_left;
+use model::refusals;
 
 // The length of the clause text of an ask on a line that meets every exclusion; it is written to the front of the
 // buffer if it fits.
@@ -78,7 +79,7 @@ fn told(size: usize, room: usize) -> u64
     ensures { λ r. ⌜ r ≡ pick (ltb room size) 19 (size * 256 % 2 ^ 64) ⌝ }
 {
     if room < size {
-        return 19;
+        return refusals::ROOM;
     }
     (size as u64) << 8
 }

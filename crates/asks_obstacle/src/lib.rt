@@ -22,6 +22,7 @@ use asks_request::request::Request;
 use asks_request::request::limited_refusal;
 use ledger::bytes::line_of;
 use limits_left::roles_left;
+use model::refusals;
 use obstacles::Roles;
 use obstacles::obstacle;
 use obstacles_lacks::found::Found;
@@ -46,7 +47,7 @@ fn told(found: Found, roles: &mut [u8]) -> u64
     ensures { λ r. ⌜ Tells (foundOf found) r (now (roles .entry)) (now (roles .exit)) ⌝ }
 {
     let Found::One(t) = found else {
-        return 20;
+        return refusals::NONE;
     };
     fill(roles, t.first, t.second);
     256 * ((t.kind as u64) + 8 * (t.about as u64))
@@ -113,7 +114,7 @@ pub fn ask_obstacle(
         return n;
     }
     if roles.len() != 16 {
-        return 19;
+        return refusals::ROOM;
     }
     let rules = request.rules;
     let window = request.window;

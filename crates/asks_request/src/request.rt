@@ -14,6 +14,7 @@ use ledger::bytes::line_of;
 use ledger_change::is_open;
 use model::Line;
 use model::SESSIONS;
+use model::refusals;
 use sessions::first::first_refusal;
 use sessions::given::Rules;
 use sessions::given::Window;
@@ -33,10 +34,10 @@ pub fn session_refusal(l: Line, session: u64) -> u64
     ensures { λ r. ⌜ r ≡ sessionRefusal SESSIONS l session ⌝ }
 {
     if SESSIONS as u64 <= session {
-        return 12;
+        return refusals::SESSION;
     }
     if !is_open(l, session as usize) {
-        return 13;
+        return refusals::CLOSED;
     }
     0
 }
@@ -54,22 +55,22 @@ fn bounds_refusal(
     ensures { λ r. ⌜ r ≡ boundsRefusal permissions (value lower) (value upper) first second room ⌝ }
 {
     if !below(lower, permissions) {
-        return 16;
+        return refusals::PERMISSION;
     }
     if !below(upper, permissions) {
-        return 16;
+        return refusals::PERMISSION;
     }
     if !sets::perm_within(lower, upper) {
-        return 17;
+        return refusals::BOUNDS;
     }
     if 2 < first {
-        return 18;
+        return refusals::AIM;
     }
     if 2 < second {
-        return 18;
+        return refusals::AIM;
     }
     if room != 40 {
-        return 19;
+        return refusals::ROOM;
     }
     0
 }
@@ -80,7 +81,7 @@ fn query_refusal(bounds: Bounds, permissions: u16, first: u64, second: u64, room
 {
     let sized = bounds.sized;
     if !sized {
-        return 15;
+        return refusals::SET;
     }
     let lower = bounds.lower;
     let upper = bounds.upper;

@@ -14,6 +14,7 @@ use hierarchy::member::joined;
 use ledger::bytes::LINE;
 use limits_lines::lines::line_sound;
 use model::Checked;
+use model::refusals;
 use sessions::given::Rules;
 
 // The users whose line is not sound, user u as bit u.
@@ -46,10 +47,10 @@ fn tell(
 {
     let lines = rules.head.users as usize;
     if ledger.len() != LINE * lines {
-        return 9;
+        return refusals::LEDGER;
     }
     if users.len() != 8 {
-        return 19;
+        return refusals::ROOM;
     }
     let set = stopped_set(ledger, rules, authorized, xs);
     octets::put_u64(users, 0, set);

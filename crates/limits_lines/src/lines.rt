@@ -12,6 +12,7 @@ use ledger::bytes::LINE;
 use ledger::bytes::line_of;
 use ledger::sound::sound;
 use limits_left::has_limits;
+use model::refusals;
 use sessions::first::roles_of;
 use sessions::given::Rules;
 
@@ -39,9 +40,9 @@ fn blamed(user: u64, v: usize) -> u64
     ensures { λ r. ⌜ r ≡ blamedFor user v ⌝ }
 {
     if v as u64 == user {
-        return 11;
+        return refusals::LINE;
     }
-    11 + 256 * (v as u64 + 1)
+    refusals::LINE + 256 * (v as u64 + 1)
 }
 
 // The refusal for the lowest line that is not sound, else 0.

@@ -8,6 +8,7 @@ ghost use Rattle.model.specs.Run.{returned};
 ghost use Rattle.model.specs.Moves.{moveAnswer, resizedLines, moveOn};
 ghost use Rattle.exclusion_rows.specs.Rows.{exclusionsIn};
 ghost use Rattle.sessions.specs.Calls.{Known, Gives};
+use model::refusals;
 use moves_line::line_bytes;
 use moves_line::line_fault;
 use moves_line::line_size;
@@ -72,10 +73,10 @@ pub fn move_lines(
 {
     let users = rules.head.users as usize;
     if old.len() != line_size(from) * users {
-        return 9;
+        return refusals::LEDGER;
     }
     if new.len() != line_size(to) * users {
-        return 19;
+        return refusals::ROOM;
     }
     let n = first_fault(old, from, to, rules, authorized, xs);
     if n != 0 {

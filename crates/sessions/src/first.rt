@@ -10,6 +10,7 @@ use crate::given::Rules;
 use ledger::bytes::LINE;
 use ledger::bytes::line_of;
 use ledger::sound::sound;
+use model::refusals;
 
 // A word, with what its type says of it, which nothing says of a word behind a reference.
 fn word(row: u64) -> u64
@@ -41,16 +42,16 @@ pub fn first_refusal(
     let head = rules.head;
     let users = head.users as usize;
     if ledger.len() != LINE * users {
-        return 9;
+        return refusals::LEDGER;
     }
     if users as u64 <= user {
-        return 10;
+        return refusals::PERSON;
     }
     let u = user as usize;
     let l = line_of(ledger, u);
     let own = roles_of(authorized, u);
     if !sound(l, head.roles, own, xs, rules.count) {
-        return 11;
+        return refusals::LINE;
     }
     0
 }

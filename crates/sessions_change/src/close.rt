@@ -12,6 +12,7 @@ use ledger::bytes::put_line;
 use ledger_change::closed;
 use ledger_change::is_open;
 use model::SESSIONS;
+use model::refusals;
 use sessions::first::first_refusal;
 use sessions::given::Rules;
 use sessions::given::Window;
@@ -35,13 +36,13 @@ pub fn close_session(
         return n;
     }
     if SESSIONS as u64 <= session {
-        return 12;
+        return refusals::SESSION;
     }
     let u = user as usize;
     let k = session as usize;
     let l = line_of(ledger, u);
     if !is_open(l, k) {
-        return 13;
+        return refusals::CLOSED;
     }
     let next = closed(l, k);
     put_line(ledger, u, next);

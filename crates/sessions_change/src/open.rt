@@ -12,6 +12,7 @@ use ledger::bytes::put_line;
 use ledger_change::lowest_closed;
 use ledger_change::opened;
 use model::SESSIONS;
+use model::refusals;
 use sessions::first::first_refusal;
 use sessions::given::Rules;
 
@@ -34,7 +35,7 @@ pub fn open_session(
     let u = user as usize;
     let l = line_of(ledger, u);
     if sets::size(l.opened) == SESSIONS as u32 {
-        return 14;
+        return refusals::FULL;
     }
     let k = lowest_closed(l);
     let next = opened(l, k);

@@ -12,6 +12,7 @@ use ledger::bytes::line_of;
 use ledger_change::is_open;
 use model::Permission;
 use model::SESSIONS;
+use model::refusals;
 use sessions::first::first_refusal;
 use sessions::given::Rules;
 use sessions::given::Window;
@@ -41,16 +42,16 @@ pub fn explain_session(
         return n;
     }
     if SESSIONS as u64 <= session {
-        return 12;
+        return refusals::SESSION;
     }
     let u = user as usize;
     let k = session as usize;
     let l = line_of(ledger, u);
     if !is_open(l, k) {
-        return 13;
+        return refusals::CLOSED;
     }
     if rules.head.permissions as u64 <= permission {
-        return 16;
+        return refusals::PERMISSION;
     }
     let shown = l.sessions[k];
     let active = shown.active;

@@ -11,6 +11,7 @@ ghost use Rattle.sessions.specs.Calls.{Known, Shows};
 use ledger::bytes::line_of;
 use ledger_change::is_open;
 use model::SESSIONS;
+use model::refusals;
 use sessions::answer::fill;
 use sessions::first::first_refusal;
 use sessions::given::Rules;
@@ -42,16 +43,16 @@ pub fn show_session(
         return n;
     }
     if SESSIONS as u64 <= session {
-        return 12;
+        return refusals::SESSION;
     }
     let u = user as usize;
     let k = session as usize;
     let l = line_of(ledger, u);
     if !is_open(l, k) {
-        return 13;
+        return refusals::CLOSED;
     }
     if answer.len() != 40 {
-        return 19;
+        return refusals::ROOM;
     }
     let shown = l.sessions[k];
     let active = shown.active;
