@@ -16,14 +16,14 @@ use model::Line;
 use model::SESSIONS;
 use model::refusals;
 use sessions::first::first_refusal;
-use sessions::given::Rules;
-use sessions::given::Window;
+use sessions::given::Sizes;
+use sessions::given::UserSession;
 
 // What is asked under a policy: its sizes, the session of a user, the bounds, and the objectives (01: aims) on
 // permissions and on roles.
 pub struct Request {
-    pub rules: Rules,
-    pub window: Window,
+    pub sizes: Sizes,
+    pub who: UserSession,
     pub bounds: Bounds,
     pub first: u64,
     pub second: u64,
@@ -96,23 +96,23 @@ pub fn ask_refusal(
     request: Request,
     room: usize,
 ) -> u64
-    requires { ⌜ (request .rules .head .users ≤ 64) × (request .rules .count ≤ 32) × (length (now xs) ≡ 32) ⌝ }
-    ensures { λ r. ⌜ ((p : Policy) → Known (request .rules .head) (now (authorized .entry)) (exclusionsIn (now (xs .entry)) (request .rules .count)) p
-        → r ≡ askRefusal SESSIONS p (now (ledger .entry)) (request .window .user) (request .window .session) (request .bounds .sized)
+    requires { ⌜ (request .sizes .head .users ≤ 64) × (request .sizes .count ≤ 32) × (length (now xs) ≡ 32) ⌝ }
+    ensures { λ r. ⌜ ((p : Policy) → Known (request .sizes .head) (now (authorized .entry)) (exclusionsIn (now (xs .entry)) (request .sizes .count)) p
+        → r ≡ askRefusal SESSIONS p (now (ledger .entry)) (request .who .user) (request .who .session) (request .bounds .sized)
         (value (request .bounds .lower)) (value (request .bounds .upper)) (request .first) (request .second) room) ⌝ }
 {
-    let rules = request.rules;
-    let window = request.window;
-    let n = first_refusal(ledger, rules, authorized, xs, window.user);
+    let sizes = request.sizes;
+    let who = request.who;
+    let n = first_refusal(ledger, sizes, authorized, xs, who.user);
     if n != 0 {
         return n;
     }
-    let l = line_of(ledger, window.user as usize);
-    let m = session_refusal(l, window.session);
+    let l = line_of(ledger, who.user as usize);
+    let m = session_refusal(l, who.session);
     if m != 0 {
         return m;
     }
-    let head = rules.head;
+    let head = sizes.head;
     let bounds = request.bounds;
     query_refusal(
         bounds,
@@ -132,15 +132,15 @@ pub fn limited_refusal(
     request: Request,
     room: usize,
 ) -> u64
-    requires { ⌜ (request .rules .head .users ≤ 64) × (request .rules .count ≤ 32) × (length (now xs) ≡ 32) × (length (now limits) ≡ 64) ⌝ }
-    ensures { λ r. ⌜ ((p : Policy) → Known (request .rules .head) (now (authorized .entry)) (exclusionsIn (now (xs .entry)) (request .rules .count)) p
+    requires { ⌜ (request .sizes .head .users ≤ 64) × (request .sizes .count ≤ 32) × (length (now xs) ≡ 32) × (length (now limits) ≡ 64) ⌝ }
+    ensures { λ r. ⌜ ((p : Policy) → Known (request .sizes .head) (now (authorized .entry)) (exclusionsIn (now (xs .entry)) (request .sizes .count)) p
         → p .limits ≡ now (limits .entry)
-        → r ≡ limitedRefusal SESSIONS p (now (ledger .entry)) (request .window .user) (request .window .session) (request .bounds .sized)
+        → r ≡ limitedRefusal SESSIONS p (now (ledger .entry)) (request .who .user) (request .who .session) (request .bounds .sized)
         (value (request .bounds .lower)) (value (request .bounds .upper)) (request .first) (request .second) room) ⌝ }
 {
-    let rules = request.rules;
-    let window = request.window;
-    let n = limits_lines::lines::refusal(ledger, rules, authorized, limits, xs, window.user);
+    let sizes = request.sizes;
+    let who = request.who;
+    let n = limits_lines::lines::refusal(ledger, sizes, authorized, limits, xs, who.user);
     if n != 0 {
         return n;
     }

@@ -13,7 +13,7 @@ ghost use Rattle.model_stopped.specs.Stopped.{stoppedCall};
 ghost use Rattle.model_tidy.specs.Tidy.{tidyCall};
 ghost use Rattle.grant_table.specs.TableCalls.{tableCall};
 ghost use Rattle.grant_table_turned.specs.Calls.{turnCall, unturnCall};
-use sessions::given::Window;
+use sessions::given::UserSession;
 
 pub mod clauses; // clauses.rt: the clause text of an ask
 pub mod obstacle; // obstacle.rt: what stands in the way of an ask
@@ -130,11 +130,11 @@ pub extern "C" fn nutrameza_ask(
         (step SESSIONS (now (image .entry)) (now (ledger .entry))
         (askBy user session (now (lower .entry)) (now (upper .entry)) «permission_aim» «role_aim» (length (now (answer .entry)))) .reply)) ⌝ }
 {
-    let window = Window { user, session };
+    let who = UserSession { user, session };
     calls_session::ask_roles(
         image,
         ledger,
-        window,
+        who,
         lower,
         upper,
         permission_aim,

@@ -6,7 +6,7 @@ ghost use Rattle.model.specs.Line.{SESSIONS};
 ghost use Rattle.model.specs.Policy.{Policy};
 ghost use Rattle.exclusion_rows.specs.Rows.{exclusionsIn};
 ghost use Rattle.sessions.specs.Calls.{Known, firstRefusal};
-use crate::given::Rules;
+use crate::given::Sizes;
 use ledger::bytes::LINE;
 use ledger::bytes::line_of;
 use ledger::sound::sound;
@@ -30,16 +30,16 @@ pub fn roles_of(authorized: &[u64; 64], u: usize) -> u64
 // 9 for a ledger that does not fit, 10 for a user without a line, 11 for a line that is not sound, else 0.
 pub fn first_refusal(
     ledger: &[u8],
-    rules: Rules,
+    sizes: Sizes,
     authorized: &[u64; 64],
     xs: &[[u64; 2]; 32],
     user: u64,
 ) -> u64
-    requires { ⌜ (rules .head .users ≤ 64) × (rules .count ≤ 32) × (length (now xs) ≡ 32) ⌝ }
-    ensures { λ r. ⌜ ((p : Policy) → Known (rules .head) (now (authorized .entry)) (exclusionsIn (now (xs .entry)) (rules .count)) p
+    requires { ⌜ (sizes .head .users ≤ 64) × (sizes .count ≤ 32) × (length (now xs) ≡ 32) ⌝ }
+    ensures { λ r. ⌜ ((p : Policy) → Known (sizes .head) (now (authorized .entry)) (exclusionsIn (now (xs .entry)) (sizes .count)) p
         → r ≡ firstRefusal SESSIONS p (now (ledger .entry)) user) ⌝ }
 {
-    let head = rules.head;
+    let head = sizes.head;
     let users = head.users as usize;
     if ledger.len() != LINE * users {
         return refusals::LEDGER;
@@ -50,7 +50,7 @@ pub fn first_refusal(
     let u = user as usize;
     let l = line_of(ledger, u);
     let own = roles_of(authorized, u);
-    if !sound(l, head.roles, own, xs, rules.count) {
+    if !sound(l, head.roles, own, xs, sizes.count) {
         return refusals::LINE;
     }
     0

@@ -14,7 +14,7 @@ use Rattle.sessions_show.proofs.show.show_session.Tie as tie
 -- where the line is sound
 passed : (c : tie.Else1)
     → (let a = c .before .before .before .before .args in
-    Passed SESSIONS (a .rules .head) (a .authorized .now) (exclusionsIn (a .xs .now) (a .rules .count)) (a .ledger .now) (a .window .user))
+    Passed SESSIONS (a .sizes .head) (a .authorized .now) (exclusionsIn (a .xs .now) (a .sizes .count)) (a .ledger .now) (a .who .user))
 passed c = passes _ _ _ _ _ _ _ (c .before .first-refusal .ensures) (c .if1 .left)
 
 returns : tie.Need-returns
