@@ -19,11 +19,9 @@ pub extern "C" fn nutrameza_clauses(
     role_aim: u64,
     out: &mut [u8],
 ) -> u64
-    ensures { λ r. ⌜ (r ≡ returned (step SESSIONS (now (image .entry)) (now (ledger .entry))
-        (clausesBy user session (now (lower .entry)) (now (upper .entry)) «permission_aim» «role_aim» (length (now (out .entry)))) .reply))
-        × (now (out .exit) ≡ written (now (out .entry))
-        (step SESSIONS (now (image .entry)) (now (ledger .entry))
-        (clausesBy user session (now (lower .entry)) (now (upper .entry)) «permission_aim» «role_aim» (length (now (out .entry)))) .reply)) ⌝ }
+    ensures { λ r. ⌜ (let e = step SESSIONS (now (image .entry)) (now (ledger .entry))
+        (clausesBy user session (now (lower .entry)) (now (upper .entry)) «permission_aim» «role_aim» (length (now (out .entry)))) in
+        (r ≡ returned (e .reply)) × (now (out .exit) ≡ written (now (out .entry)) (e .reply))) ⌝ }
 {
     let who = UserSession { user, session };
     calls_session::ask_clauses(
