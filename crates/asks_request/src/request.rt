@@ -1,4 +1,4 @@
-// What refuses an ask before any role set is looked for: the refusals 12 to 19.
+// What refuses an ask before any role set is looked for: the refusals 9 to 19.
 ghost use mathlib.Core.Path.{_≡_};
 ghost use Prim.Native.Nat.{_≤_};
 ghost use lib.ListN.{length};
@@ -7,15 +7,13 @@ ghost use Rattle.model.specs.Policy.{Policy};
 ghost use Rattle.sessions.specs.Calls.{Known};
 ghost use Rattle.sets.specs.Words.{value};
 ghost use Rattle.exclusion_rows.specs.Rows.{exclusionsIn};
-ghost use Rattle.asks_request.specs.Refusals.{sessionRefusal, boundsRefusal, queryRefusal, askRefusal, limitedRefusal};
+ghost use Rattle.asks_request.specs.Refusals.{boundsRefusal, queryRefusal, askRefusal, limitedRefusal};
 use crate::bounds::Bounds;
 use crate::bounds::below;
 use ledger::bytes::line_of;
-use ledger_change::is_open;
-use model::Line;
-use model::SESSIONS;
 use model::refusals;
 use sessions::first::first_refusal;
+use sessions::first::session_refusal;
 use sessions::given::Sizes;
 use sessions::given::UserSession;
 
@@ -27,19 +25,6 @@ pub struct Request {
     pub bounds: Bounds,
     pub first: u64,
     pub second: u64,
-}
-
-// 12 for no such session, 13 for a closed one, else 0.
-pub fn session_refusal(l: Line, session: u64) -> u64
-    ensures { λ r. ⌜ r ≡ sessionRefusal SESSIONS l session ⌝ }
-{
-    if SESSIONS as u64 <= session {
-        return refusals::SESSION;
-    }
-    if !is_open(l, session as usize) {
-        return refusals::CLOSED;
-    }
-    0
 }
 
 // 16 for a bound with a permission that the policy does not have, 17 for a lower bound that is not within the upper, 18

@@ -1,15 +1,19 @@
-// The first steps of a call on a line, once its image is accepted: the refusals 9 to 11.
+// The first steps of a call on a line, once its image is accepted: the refusals 9 to 11, and of a call on a session 12
+// and 13.
 ghost use mathlib.Core.Path.{_≡_};
 ghost use Prim.Native.Nat.{_^_, _≤_, _<_};
 ghost use lib.ListN.{length, getD};
 ghost use Rattle.model.specs.Line.{SESSIONS};
 ghost use Rattle.model.specs.Policy.{Policy};
 ghost use Rattle.exclusion_rows.specs.Rows.{exclusionsIn};
-ghost use Rattle.sessions.specs.Calls.{Known, firstRefusal};
+ghost use Rattle.sessions.specs.Calls.{Known, firstRefusal, sessionRefusal};
 use crate::given::Sizes;
 use ledger::bytes::LINE;
 use ledger::bytes::line_of;
 use ledger::sound::sound;
+use ledger_change::is_open;
+use model::Line;
+use model::SESSIONS;
 use model::refusals;
 
 // A word, with what its type says of it, which nothing says of a word behind a reference.
@@ -52,6 +56,19 @@ pub fn first_refusal(
     let own = roles_of(authorized, u);
     if !sound(l, head.roles, own, xs, sizes.count) {
         return refusals::LINE;
+    }
+    0
+}
+
+// 12 for no such session of the line, 13 for a closed one, else 0.
+pub fn session_refusal(l: Line, session: u64) -> u64
+    ensures { λ r. ⌜ r ≡ sessionRefusal SESSIONS l session ⌝ }
+{
+    if SESSIONS as u64 <= session {
+        return refusals::SESSION;
+    }
+    if !is_open(l, session as usize) {
+        return refusals::CLOSED;
     }
     0
 }

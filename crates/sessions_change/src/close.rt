@@ -10,10 +10,8 @@ ghost use Rattle.sessions.specs.Calls.{Known, Gives};
 use ledger::bytes::line_of;
 use ledger::bytes::put_line;
 use ledger_change::closed;
-use ledger_change::is_open;
-use model::SESSIONS;
-use model::refusals;
 use sessions::first::first_refusal;
+use sessions::first::session_refusal;
 use sessions::given::Sizes;
 use sessions::given::UserSession;
 
@@ -35,15 +33,13 @@ pub fn close_session(
     if n != 0 {
         return n;
     }
-    if SESSIONS as u64 <= session {
-        return refusals::SESSION;
-    }
     let u = user as usize;
-    let k = session as usize;
     let l = line_of(ledger, u);
-    if !is_open(l, k) {
-        return refusals::CLOSED;
+    let m = session_refusal(l, session);
+    if m != 0 {
+        return m;
     }
+    let k = session as usize;
     let next = closed(l, k);
     put_line(ledger, u, next);
     0

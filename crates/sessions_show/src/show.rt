@@ -9,11 +9,10 @@ ghost use Rattle.sets.specs.Words.{values};
 ghost use Rattle.exclusion_rows.specs.Rows.{exclusionsIn};
 ghost use Rattle.sessions.specs.Calls.{Known, Shows};
 use ledger::bytes::line_of;
-use ledger_change::is_open;
-use model::SESSIONS;
 use model::refusals;
 use sessions::answer::fill;
 use sessions::first::first_refusal;
+use sessions::first::session_refusal;
 use sessions::given::Sizes;
 use sessions::given::UserSession;
 use tables_rows::carried::carried_by;
@@ -42,15 +41,13 @@ pub fn show_session(
     if n != 0 {
         return n;
     }
-    if SESSIONS as u64 <= session {
-        return refusals::SESSION;
-    }
     let u = user as usize;
-    let k = session as usize;
     let l = line_of(ledger, u);
-    if !is_open(l, k) {
-        return refusals::CLOSED;
+    let m = session_refusal(l, session);
+    if m != 0 {
+        return m;
     }
+    let k = session as usize;
     if answer.len() != 40 {
         return refusals::ROOM;
     }
