@@ -560,22 +560,9 @@ fn moves_twenty_thousand_ledgers_as_the_solver_does() {
     tally.expect(500, &["24"]);
 }
 
-/// An image of 4,096 words: 64 users of 16 roles each, chains of seniors, 32 exclusions of all 64 roles, grants.
-fn largest() -> Vec<u8> {
-    let mut list = vec![words::head(64, 64, 256)];
-    list.extend((0..64).flat_map(|user| (0..16).map(move |role| words::assignment(user, user % 4 * 16 + role))));
-    list.extend((0..64).filter(|role| role % 16 != 15).map(|role| words::senior(role, role + 1)));
-    let all: Vec<u32> = (0..64).collect();
-    list.extend((0..32).flat_map(|number| words::exclusion(number % 4, 33 + number % 32, &all)));
-    while list.len() < words::MOST_WORDS - 1 {
-        list.push(words::grant(list.len() as u32 % 64, list.len() as u32 % 256));
-    }
-    words::bytes(&words::closed(list))
-}
-
 #[test]
 fn the_largest_moves_fit_a_stack_of_64_kib() {
-    let image = largest();
+    let image = policy::largest();
     let policy = judge(&image).expect("the image is accepted");
     let mut rng = Rng::new(64);
     let old = ledger::ledger_of(&mut rng, &policy, OLD_SESSIONS, 0);

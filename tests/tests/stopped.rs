@@ -326,15 +326,7 @@ fn a_user_is_told_the_same_over_changes_whatever_the_others_do() {
 
 #[test]
 fn the_largest_call_fits_a_stack_of_64_kib() {
-    let mut list = vec![words::head(64, 64, 256)];
-    list.extend((0..64).flat_map(|user| (0..16).map(move |role| words::assignment(user, user % 4 * 16 + role))));
-    list.extend((0..64).filter(|role| role % 16 != 15).map(|role| words::senior(role, role + 1)));
-    let all: Vec<u32> = (0..64).collect();
-    list.extend((0..32).flat_map(|number| words::exclusion(number % 4, 33 + number % 32, &all)));
-    while list.len() < words::MOST_WORDS - 1 {
-        list.push(words::grant(list.len() as u32 % 64, list.len() as u32 % 256));
-    }
-    let image = words::bytes(&words::closed(list));
+    let image = policy::largest();
     let mut ledger = ledger::ledger(&mut Rng::new(64), &policy::accepted(&image), 0);
     ledger[LINE * 63 + 1] = 1;
     let run = move || {

@@ -22,6 +22,7 @@ use ledger::bytes::put_line;
 use ledger_change::put_in;
 use limits_left::roles_left;
 use model::Line;
+use model::refusals;
 use query_rank::Job;
 use search::Choice;
 use sessions::answer::fill;
@@ -74,14 +75,14 @@ fn put_best(
     request: Request,
     answer: &mut [u8],
 ) -> u64
-    requires { ⌜ (request .rules .count ≤ 32) × (lineSize SESSIONS * request .window .user + lineSize SESSIONS ≤ length (now ledger))
-        × (request .window .session < SESSIONS) × (length (now answer) ≡ 40) × (length (now xs) ≡ 32) × (request .first ≤ 2) × (request .second ≤ 2) ⌝ }
+    requires { ⌜ (request .sizes .count ≤ 32) × (lineSize SESSIONS * request .who .user + lineSize SESSIONS ≤ length (now ledger))
+        × (request .who .session < SESSIONS) × (length (now answer) ≡ 40) × (length (now xs) ≡ 32) × (request .first ≤ 2) × (request .second ≤ 2) ⌝ }
     ensures { λ r. ⌜ ((p : Policy) (x : Others)
-        → Searched p (request .window .user) x (now (ledger .entry)) (request .window .session) (values (now (granted .entry)))
-        (now (below .entry)) authorized (exclusionsIn (now (xs .entry)) (request .rules .count))
-        → Answers (askedOn p (now (ledger .entry)) (request .window .user) (request .window .session)
-        (choose (leftTo p (request .window .user) x (lineOf SESSIONS (now (ledger .entry)) (request .window .user)) (request .window .session))
-        (lineOf SESSIONS (now (ledger .entry)) (request .window .user)) (request .window .session) (value (request .bounds .lower))
+        → Searched p (request .who .user) x (now (ledger .entry)) (request .who .session) (values (now (granted .entry)))
+        (now (below .entry)) authorized (exclusionsIn (now (xs .entry)) (request .sizes .count))
+        → Answers (askedOn p (now (ledger .entry)) (request .who .user) (request .who .session)
+        (choose (leftTo p (request .who .user) x (lineOf SESSIONS (now (ledger .entry)) (request .who .user)) (request .who .session))
+        (lineOf SESSIONS (now (ledger .entry)) (request .who .user)) (request .who .session) (value (request .bounds .lower))
         (value (request .bounds .upper)) (request .first) (request .second)))
         r (now (ledger .exit)) (now (answer .entry)) (now (answer .exit))) ⌝ }
 {
@@ -95,14 +96,14 @@ fn put_best(
         second: request.second as u8,
     };
     let rows = tables_rows::carried::carried(granted, below, authorized);
-    let rules = request.rules;
-    let window = request.window;
-    let u = window.user as usize;
-    let k = window.session as usize;
+    let sizes = request.sizes;
+    let who = request.who;
+    let u = who.user as usize;
+    let k = who.session as usize;
     let l = line_of(ledger, u);
-    let choice = best(&rows, authorized, xs, rules.count, l, k, wanted);
+    let choice = best(&rows, authorized, xs, sizes.count, l, k, wanted);
     let Choice::Roles(s) = choice else {
-        return 20;
+        return refusals::NONE;
     };
     let next = put_in(l, k, s);
     put_line(ledger, u, next);
@@ -122,13 +123,13 @@ pub fn ask_roles(
     request: Request,
     answer: &mut [u8],
 ) -> u64
-    requires { ⌜ (request .rules .head .users ≤ 64) × (request .rules .count ≤ 32) × (length (now xs) ≡ 32) × (length (now limits) ≡ 64) ⌝ }
+    requires { ⌜ (request .sizes .head .users ≤ 64) × (request .sizes .count ≤ 32) × (length (now xs) ≡ 32) × (length (now limits) ≡ 64) ⌝ }
     ensures { λ r. ⌜ ((p : Policy) (lower upper : List ℕ)
-        → Known (request .rules .head) (now (authorized .entry)) (exclusionsIn (now (xs .entry)) (request .rules .count)) p
+        → Known (request .sizes .head) (now (authorized .entry)) (exclusionsIn (now (xs .entry)) (request .sizes .count)) p
         → values (now (granted .entry)) ≡ p .granted → now (below .entry) ≡ belowTable p → p .limits ≡ now (limits .entry)
         → Bounded (request .bounds .sized) (value (request .bounds .lower)) (value (request .bounds .upper)) lower upper
         → Answers (stepOn SESSIONS p (now (ledger .entry))
-        (askBy (request .window .user) (request .window .session) lower upper (request .first) (request .second) (length (now (answer .entry)))))
+        (askBy (request .who .user) (request .who .session) lower upper (request .first) (request .second) (length (now (answer .entry)))))
         r (now (ledger .exit)) (now (answer .entry)) (now (answer .exit))) ⌝ }
 {
     let room = answer.len();
@@ -136,7 +137,7 @@ pub fn ask_roles(
     if n != 0 {
         return n;
     }
-    let own = roles_left(ledger, request.rules, authorized, limits, request.window);
+    let own = roles_left(ledger, request.sizes, authorized, limits, request.who);
     let reply = put_best(ledger, granted, below, xs, own, request, answer);
     reply
 }

@@ -24,6 +24,7 @@ use asks_request::request::limited_refusal;
 use clauses_hard::question::Question;
 use ledger::bytes::line_of;
 use limits_left::roles_left;
+use model::refusals;
 
 // The length of the clause text of an ask on a line that meets every exclusion; it is written to the front of the
 // buffer if it fits.
@@ -36,28 +37,28 @@ fn write_clauses(
     request: Request,
     out: &mut [u8],
 ) -> usize
-    requires { ⌜ (request .rules .head .roles ≤ 64) × (request .rules .head .permissions ≤ 256) × (request .rules .count ≤ 32)
-        × (length (now xs) ≡ 32) × (lineSize SESSIONS * request .window .user + lineSize SESSIONS ≤ length (now ledger))
-        × (request .window .session < SESSIONS) × (request .first ≤ 2) × (request .second ≤ 2) ⌝ }
-    ensures { λ n. ⌜ ((p : Policy) (x : Others) → InRange p → p .head ≡ request .rules .head
-        → Searched p (request .window .user) x (now (ledger .entry)) (request .window .session) (values (now (granted .entry)))
-        (now (below .entry)) authorized (exclusionsIn (now (xs .entry)) (request .rules .count))
+    requires { ⌜ (request .sizes .head .roles ≤ 64) × (request .sizes .head .permissions ≤ 256) × (request .sizes .count ≤ 32)
+        × (length (now xs) ≡ 32) × (lineSize SESSIONS * request .who .user + lineSize SESSIONS ≤ length (now ledger))
+        × (request .who .session < SESSIONS) × (request .first ≤ 2) × (request .second ≤ 2) ⌝ }
+    ensures { λ n. ⌜ ((p : Policy) (x : Others) → InRange p → p .head ≡ request .sizes .head
+        → Searched p (request .who .user) x (now (ledger .entry)) (request .who .session) (values (now (granted .entry)))
+        (now (below .entry)) authorized (exclusionsIn (now (xs .entry)) (request .sizes .count))
         → Written (now (out .entry))
-        (textOf (leftTo p (request .window .user) x (lineOf SESSIONS (now (ledger .entry)) (request .window .user)) (request .window .session))
-        (lineOf SESSIONS (now (ledger .entry)) (request .window .user)) (request .window .session) (value (request .bounds .lower))
+        (textOf (leftTo p (request .who .user) x (lineOf SESSIONS (now (ledger .entry)) (request .who .user)) (request .who .session))
+        (lineOf SESSIONS (now (ledger .entry)) (request .who .user)) (request .who .session) (value (request .bounds .lower))
         (value (request .bounds .upper)) (request .first) (request .second))
         (now (out .exit)) n) ⌝ }
 {
     let first = request.first as u8;
     let second = request.second as u8;
     let rows = tables_rows::carried::carried(granted, below, 18446744073709551615);
-    let rules = request.rules;
-    let window = request.window;
-    let k = window.session as usize;
-    let l = line_of(ledger, window.user as usize);
-    let count = rules.count;
+    let sizes = request.sizes;
+    let who = request.who;
+    let k = who.session as usize;
+    let l = line_of(ledger, who.user as usize);
+    let count = sizes.count;
     let reduced = query_rooms::exclusions::reduce(xs, count, l, k);
-    let head = rules.head;
+    let head = sizes.head;
     let bounds = request.bounds;
     let lower = bounds.lower;
     let upper = bounds.upper;
@@ -78,7 +79,7 @@ fn told(size: usize, room: usize) -> u64
     ensures { λ r. ⌜ r ≡ pick (ltb room size) 19 (size * 256 % 2 ^ 64) ⌝ }
 {
     if room < size {
-        return 19;
+        return refusals::ROOM;
     }
     (size as u64) << 8
 }
@@ -95,21 +96,21 @@ pub fn ask_clauses(
     request: Request,
     out: &mut [u8],
 ) -> u64
-    requires { ⌜ (request .rules .head .users ≤ 64) × (request .rules .head .roles ≤ 64) × (request .rules .head .permissions ≤ 256)
-        × (request .rules .count ≤ 32) × (length (now xs) ≡ 32) × (length (now limits) ≡ 64) ⌝ }
+    requires { ⌜ (request .sizes .head .users ≤ 64) × (request .sizes .head .roles ≤ 64) × (request .sizes .head .permissions ≤ 256)
+        × (request .sizes .count ≤ 32) × (length (now xs) ≡ 32) × (length (now limits) ≡ 64) ⌝ }
     ensures { λ r. ⌜ ((p : Policy) (lower upper : List ℕ) → InRange p
-        → Known (request .rules .head) (now (authorized .entry)) (exclusionsIn (now (xs .entry)) (request .rules .count)) p
+        → Known (request .sizes .head) (now (authorized .entry)) (exclusionsIn (now (xs .entry)) (request .sizes .count)) p
         → values (now (granted .entry)) ≡ p .granted → now (below .entry) ≡ belowTable p → p .limits ≡ now (limits .entry)
         → Bounded (request .bounds .sized) (value (request .bounds .lower)) (value (request .bounds .upper)) lower upper
         → Tells (stepOn SESSIONS p (now (ledger .entry))
-        (clausesBy (request .window .user) (request .window .session) lower upper (request .first) (request .second) (length (now (out .entry)))))
+        (clausesBy (request .who .user) (request .who .session) lower upper (request .first) (request .second) (length (now (out .entry)))))
         r (now (out .entry)) (now (out .exit))) ⌝ }
 {
     let n = limited_refusal(ledger, authorized, limits, xs, request, 40);
     if n != 0 {
         return n;
     }
-    let own = roles_left(ledger, request.rules, authorized, limits, request.window);
+    let own = roles_left(ledger, request.sizes, authorized, limits, request.who);
     let room = out.len();
     let size = write_clauses(ledger, granted, below, xs, own, request, out);
     told(size, room)

@@ -22,12 +22,13 @@ use asks_request::request::Request;
 use asks_request::request::limited_refusal;
 use ledger::bytes::line_of;
 use limits_left::roles_left;
+use model::refusals;
 use obstacles::Roles;
 use obstacles::obstacle;
 use obstacles_lacks::found::Found;
 use sessions::first::roles_of;
-use sessions::given::Rules;
-use sessions::given::Window;
+use sessions::given::Sizes;
+use sessions::given::UserSession;
 use tidy_order::sort::sort;
 
 // Both role sets fill the buffer.
@@ -46,7 +47,7 @@ fn told(found: Found, roles: &mut [u8]) -> u64
     ensures { λ r. ⌜ Tells (foundOf found) r (now (roles .entry)) (now (roles .exit)) ⌝ }
 {
     let Found::One(t) = found else {
-        return 20;
+        return refusals::NONE;
     };
     fill(roles, t.first, t.second);
     256 * ((t.kind as u64) + 8 * (t.about as u64))
@@ -55,33 +56,33 @@ fn told(found: Found, roles: &mut [u8]) -> u64
 // What stands in the way of an ask for session k of a line that meets every exclusion.
 fn found_for(
     ledger: &[u8],
-    rules: Rules,
+    sizes: Sizes,
     granted: &[[u64; 4]; 64],
     below: &[u64; 64],
     xs: &[[u64; 2]; 32],
     roles: Roles,
-    window: Window,
+    who: UserSession,
     wanted: Wanted,
 ) -> Found
-    requires { ⌜ (rules .count ≤ 32) × (length (now xs) ≡ 32)
-        × (lineSize SESSIONS * window .user + lineSize SESSIONS ≤ length (now ledger)) × (window .session < SESSIONS) ⌝ }
+    requires { ⌜ (sizes .count ≤ 32) × (length (now xs) ≡ 32)
+        × (lineSize SESSIONS * who .user + lineSize SESSIONS ≤ length (now ledger)) × (who .session < SESSIONS) ⌝ }
     ensures { λ f. ⌜ ((p : Policy) (x : Others)
-        → Searched p (window .user) x (now (ledger .entry)) (window .session) (values (now (granted .entry))) (now (below .entry)) (roles .free)
-        (exclusionsIn (now (xs .entry)) (rules .count))
-        → meaning p (window .user) .authorized ≡ roles .own
-        → foundOf f ≡ obstacleOf (meaning p (window .user)) x (lineOf SESSIONS (now (ledger .entry)) (window .user)) (window .session)
+        → Searched p (who .user) x (now (ledger .entry)) (who .session) (values (now (granted .entry))) (now (below .entry)) (roles .free)
+        (exclusionsIn (now (xs .entry)) (sizes .count))
+        → meaning p (who .user) .authorized ≡ roles .own
+        → foundOf f ≡ obstacleOf (meaning p (who .user)) x (lineOf SESSIONS (now (ledger .entry)) (who .user)) (who .session)
         (value (wanted .lower)) (value (wanted .upper))) ⌝ }
 {
     let mut sorted = [[0u64; 2]; 32];
-    let count = sort(xs, rules.count, &mut sorted);
-    let l = line_of(ledger, window.user as usize);
+    let count = sort(xs, sizes.count, &mut sorted);
+    let l = line_of(ledger, who.user as usize);
     obstacle(
         granted,
         below,
         &sorted,
         count,
         l,
-        window.session as usize,
+        who.session as usize,
         roles,
         wanted,
     )
@@ -98,14 +99,14 @@ pub fn ask_obstacle(
     request: Request,
     roles: &mut [u8],
 ) -> u64
-    requires { ⌜ (request .rules .head .users ≤ 64) × (request .rules .count ≤ 32) × (length (now xs) ≡ 32) × (length (now limits) ≡ 64)
+    requires { ⌜ (request .sizes .head .users ≤ 64) × (request .sizes .count ≤ 32) × (length (now xs) ≡ 32) × (length (now limits) ≡ 64)
         × (request .first ≡ 0) × (request .second ≡ 0) ⌝ }
     ensures { λ r. ⌜ ((p : Policy) (lower upper : List ℕ)
-        → Known (request .rules .head) (now (authorized .entry)) (exclusionsIn (now (xs .entry)) (request .rules .count)) p
+        → Known (request .sizes .head) (now (authorized .entry)) (exclusionsIn (now (xs .entry)) (request .sizes .count)) p
         → values (now (granted .entry)) ≡ p .granted → now (below .entry) ≡ belowTable p → p .limits ≡ now (limits .entry)
         → Bounded (request .bounds .sized) (value (request .bounds .lower)) (value (request .bounds .upper)) lower upper
         → Shows (stepOn SESSIONS p (now (ledger .entry))
-        (obstacleBy (request .window .user) (request .window .session) lower upper (length (now (roles .entry)))))
+        (obstacleBy (request .who .user) (request .who .session) lower upper (length (now (roles .entry)))))
         r (now (roles .entry)) (now (roles .exit))) ⌝ }
 {
     let n = limited_refusal(ledger, authorized, limits, xs, request, 40);
@@ -113,12 +114,12 @@ pub fn ask_obstacle(
         return n;
     }
     if roles.len() != 16 {
-        return 19;
+        return refusals::ROOM;
     }
-    let rules = request.rules;
-    let window = request.window;
-    let free = roles_left(ledger, rules, authorized, limits, window);
-    let own = roles_of(authorized, window.user as usize);
+    let sizes = request.sizes;
+    let who = request.who;
+    let free = roles_left(ledger, sizes, authorized, limits, who);
+    let own = roles_of(authorized, who.user as usize);
     let mine = Roles { own, free };
     let bounds = request.bounds;
     let lower = bounds.lower;
@@ -130,7 +131,7 @@ pub fn ask_obstacle(
         second: 0,
     };
     told(
-        found_for(ledger, rules, granted, below, xs, mine, window, wanted),
+        found_for(ledger, sizes, granted, below, xs, mine, who, wanted),
         roles,
     )
 }

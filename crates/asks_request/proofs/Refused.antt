@@ -18,11 +18,11 @@ use Rattle.model.specs.Line.{lineSize, isOpen, sound}
 use Rattle.model.specs.Limits.{Others}
 use Rattle.model.specs.Session.{Refusal, bad-other, bad-line, refuse, refusalNumber, refusalExtra, otherFirst, isAsk, canGive, applies, sessionOf, queryOf}
 use Rattle.model.specs.Run.{Call, stepOn, lineOf, told}
-use Rattle.sessions.specs.Calls.{firstRefusal}
+use Rattle.sessions.specs.Calls.{firstRefusal, sessionRefusal}
 use Rattle.sessions.proofs.FirstSteps.{Ready, ready, refusedBy, stopped, refuses, holds, fails}
 use Rattle.limits_lines.specs.Lines.{othersRefusal}
 use Rattle.limits_lines.proofs.Blaming.{others-refused, others-quiet}
-use Rattle.asks_request.specs.Refusals.{orElse, sessionRefusal, queryRefusal, askRefusal, limitedRefusal}
+use Rattle.asks_request.specs.Refusals.{orElse, queryRefusal, askRefusal, limitedRefusal}
 
 -- ---- the first refusing test
 

@@ -22,10 +22,11 @@ use Rattle.model.specs.Session.{isAsk}
 use Rattle.model.specs.Run.{Call, lineOf, told}
 use Rattle.model_laws.proofs.Reaches.{authorized-alone}
 use Rattle.model_laws.proofs.Bools.{and-l, and-r, or-l, or-r, not-both}
-use Rattle.sessions.specs.Calls.{Known, firstRefusal}
+use Rattle.sessions.specs.Calls.{Known, firstRefusal, sessionRefusal}
 use Rattle.limits_lines.specs.Lines.{othersRefusal}
-use Rattle.asks_request.specs.Refusals.{orElse, sessionRefusal, boundsRefusal, sizes, Bounded, queryRefusal, askRefusal, limitedRefusal}
+use Rattle.asks_request.specs.Refusals.{orElse, boundsRefusal, sizes, Bounded, queryRefusal, askRefusal, limitedRefusal}
 use Rattle.sessions.proofs.FirstSteps.{pick-none, Ready, ready, room as first-room}
+use Rattle.sessions.proofs.SessionTests.{Session, session-open}
 use Rattle.limits_lines.proofs.Blaming.{others-quiet}
 
 -- ---- one refusal before others
@@ -44,33 +45,6 @@ or-none : (a b : ℕ) → 0 ≡ orElse a b → (0 ≡ a) × (0 ≡ b)
 unfolding orElse
 or-none zero b e = (refl, e)
 or-none (suc a) b e = absurd (omega arith)
-
--- ---- 12 and 13
-module _ (W : ℕ) (l : Line) (k : ℕ) where
-  pub session12 : W ≤ k → 12 ≡ sessionRefusal W l k
-  unfolding sessionRefusal pick
-  session12 h = simp (le-leb _ _ h)
-
-  module _ (h : k < W) (o : Bool) (e : o ≡ isOpen l k) where
-    pub session13 : not o ≡ true → 13 ≡ sessionRefusal W l k
-    unfolding sessionRefusal pick
-    session13 t = simp (lt-leb _ _ h, sym e ∙ not-true o t)
-
-    pub session0 : not o ≡ false → 0 ≡ sessionRefusal W l k
-    unfolding sessionRefusal pick
-    session0 t = simp (lt-leb _ _ h, sym e ∙ not-false o t)
-
-  -- the session is one of the W and open
-  pub record Session : Type 0 where
-    pub below : k < W
-    pub opened : isOpen l k ≡ true
-
-  session-open : 0 ≡ sessionRefusal W l k → Session
-  unfolding sessionRefusal
-  session-open h =
-      let x = pick-none _ 11 _ h in
-      let y = pick-none _ 12 _ (x .1) in
-      record { below = leb-false _ _ (x .0); opened = not-false _ (y .0) }
 
 -- ---- 16 to 19, by the tests that code makes one after the other
 module _ (P lower upper a b room : ℕ) (x : Bool) (ex : x ≡ ltb lower (2 ^ P)) where

@@ -4,26 +4,20 @@ use mathlib.Core.Path.{_≡_}
 use mathlib.Core.Bool.{Bool, true, not, _&&_, _||_}
 use mathlib.Core.List.{List}
 use Prim.Native.Nat.{ℕ, zero, suc, _^_}
-use lib.Dec.{eqb, ltb, leb}
+use lib.Dec.{eqb, ltb}
 use lib.ListN.{length}
-use Rattle.model.specs.declared.Line.{Line}
 use Rattle.model.specs.Tests.{pick}
 use Rattle.model.specs.Sets.{within}
 use Rattle.model.specs.Bytes.{number}
 use Rattle.model.specs.Policy.{Policy}
-use Rattle.model.specs.Line.{isOpen}
 use Rattle.model.specs.Run.{lineOf}
-use Rattle.sessions.specs.Calls.{firstRefusal}
+use Rattle.sessions.specs.Calls.{firstRefusal, sessionRefusal}
 use Rattle.limits_lines.specs.Lines.{othersRefusal}
 
 -- the first number, where it is a refusal's, else the second
 unfoldable pub orElse : ℕ → ℕ → ℕ
 orElse zero b = b
 orElse (suc a) b = suc a
-
--- 12 for no such session, 13 for a closed one, else 0
-unfoldable pub sessionRefusal : ℕ → Line → ℕ → ℕ
-sessionRefusal W l k = pick (leb W k) 12 (pick (not (isOpen l k)) 13 0)
 
 -- 16 to 19 for bounds as sets, the two objectives and the answer buffer's length, where there are P permissions, else 0
 unfoldable pub boundsRefusal : ℕ → ℕ → ℕ → ℕ → ℕ → ℕ → ℕ

@@ -1,4 +1,4 @@
-// What refuses an ask before any role set is looked for: the refusals 12 to 19.
+// What refuses an ask before any role set is looked for: the refusals 9 to 19.
 ghost use mathlib.Core.Path.{_≡_};
 ghost use Prim.Native.Nat.{_≤_};
 ghost use lib.ListN.{length};
@@ -7,38 +7,24 @@ ghost use Rattle.model.specs.Policy.{Policy};
 ghost use Rattle.sessions.specs.Calls.{Known};
 ghost use Rattle.sets.specs.Words.{value};
 ghost use Rattle.exclusion_rows.specs.Rows.{exclusionsIn};
-ghost use Rattle.asks_request.specs.Refusals.{sessionRefusal, boundsRefusal, queryRefusal, askRefusal, limitedRefusal};
+ghost use Rattle.asks_request.specs.Refusals.{boundsRefusal, queryRefusal, askRefusal, limitedRefusal};
 use crate::bounds::Bounds;
 use crate::bounds::below;
 use ledger::bytes::line_of;
-use ledger_change::is_open;
-use model::Line;
-use model::SESSIONS;
+use model::refusals;
 use sessions::first::first_refusal;
-use sessions::given::Rules;
-use sessions::given::Window;
+use sessions::first::session_refusal;
+use sessions::given::Sizes;
+use sessions::given::UserSession;
 
 // What is asked under a policy: its sizes, the session of a user, the bounds, and the objectives (01: aims) on
 // permissions and on roles.
 pub struct Request {
-    pub rules: Rules,
-    pub window: Window,
+    pub sizes: Sizes,
+    pub who: UserSession,
     pub bounds: Bounds,
     pub first: u64,
     pub second: u64,
-}
-
-// 12 for no such session, 13 for a closed one, else 0.
-pub fn session_refusal(l: Line, session: u64) -> u64
-    ensures { λ r. ⌜ r ≡ sessionRefusal SESSIONS l session ⌝ }
-{
-    if SESSIONS as u64 <= session {
-        return 12;
-    }
-    if !is_open(l, session as usize) {
-        return 13;
-    }
-    0
 }
 
 // 16 for a bound with a permission that the policy does not have, 17 for a lower bound that is not within the upper, 18
@@ -54,22 +40,22 @@ fn bounds_refusal(
     ensures { λ r. ⌜ r ≡ boundsRefusal permissions (value lower) (value upper) first second room ⌝ }
 {
     if !below(lower, permissions) {
-        return 16;
+        return refusals::PERMISSION;
     }
     if !below(upper, permissions) {
-        return 16;
+        return refusals::PERMISSION;
     }
     if !sets::perm_within(lower, upper) {
-        return 17;
+        return refusals::BOUNDS;
     }
     if 2 < first {
-        return 18;
+        return refusals::AIM;
     }
     if 2 < second {
-        return 18;
+        return refusals::AIM;
     }
     if room != 40 {
-        return 19;
+        return refusals::ROOM;
     }
     0
 }
@@ -80,7 +66,7 @@ fn query_refusal(bounds: Bounds, permissions: u16, first: u64, second: u64, room
 {
     let sized = bounds.sized;
     if !sized {
-        return 15;
+        return refusals::SET;
     }
     let lower = bounds.lower;
     let upper = bounds.upper;
@@ -95,23 +81,23 @@ pub fn ask_refusal(
     request: Request,
     room: usize,
 ) -> u64
-    requires { ⌜ (request .rules .head .users ≤ 64) × (request .rules .count ≤ 32) × (length (now xs) ≡ 32) ⌝ }
-    ensures { λ r. ⌜ ((p : Policy) → Known (request .rules .head) (now (authorized .entry)) (exclusionsIn (now (xs .entry)) (request .rules .count)) p
-        → r ≡ askRefusal SESSIONS p (now (ledger .entry)) (request .window .user) (request .window .session) (request .bounds .sized)
+    requires { ⌜ (request .sizes .head .users ≤ 64) × (request .sizes .count ≤ 32) × (length (now xs) ≡ 32) ⌝ }
+    ensures { λ r. ⌜ ((p : Policy) → Known (request .sizes .head) (now (authorized .entry)) (exclusionsIn (now (xs .entry)) (request .sizes .count)) p
+        → r ≡ askRefusal SESSIONS p (now (ledger .entry)) (request .who .user) (request .who .session) (request .bounds .sized)
         (value (request .bounds .lower)) (value (request .bounds .upper)) (request .first) (request .second) room) ⌝ }
 {
-    let rules = request.rules;
-    let window = request.window;
-    let n = first_refusal(ledger, rules, authorized, xs, window.user);
+    let sizes = request.sizes;
+    let who = request.who;
+    let n = first_refusal(ledger, sizes, authorized, xs, who.user);
     if n != 0 {
         return n;
     }
-    let l = line_of(ledger, window.user as usize);
-    let m = session_refusal(l, window.session);
+    let l = line_of(ledger, who.user as usize);
+    let m = session_refusal(l, who.session);
     if m != 0 {
         return m;
     }
-    let head = rules.head;
+    let head = sizes.head;
     let bounds = request.bounds;
     query_refusal(
         bounds,
@@ -131,15 +117,15 @@ pub fn limited_refusal(
     request: Request,
     room: usize,
 ) -> u64
-    requires { ⌜ (request .rules .head .users ≤ 64) × (request .rules .count ≤ 32) × (length (now xs) ≡ 32) × (length (now limits) ≡ 64) ⌝ }
-    ensures { λ r. ⌜ ((p : Policy) → Known (request .rules .head) (now (authorized .entry)) (exclusionsIn (now (xs .entry)) (request .rules .count)) p
+    requires { ⌜ (request .sizes .head .users ≤ 64) × (request .sizes .count ≤ 32) × (length (now xs) ≡ 32) × (length (now limits) ≡ 64) ⌝ }
+    ensures { λ r. ⌜ ((p : Policy) → Known (request .sizes .head) (now (authorized .entry)) (exclusionsIn (now (xs .entry)) (request .sizes .count)) p
         → p .limits ≡ now (limits .entry)
-        → r ≡ limitedRefusal SESSIONS p (now (ledger .entry)) (request .window .user) (request .window .session) (request .bounds .sized)
+        → r ≡ limitedRefusal SESSIONS p (now (ledger .entry)) (request .who .user) (request .who .session) (request .bounds .sized)
         (value (request .bounds .lower)) (value (request .bounds .upper)) (request .first) (request .second) room) ⌝ }
 {
-    let rules = request.rules;
-    let window = request.window;
-    let n = limits_lines::lines::refusal(ledger, rules, authorized, limits, xs, window.user);
+    let sizes = request.sizes;
+    let who = request.who;
+    let n = limits_lines::lines::refusal(ledger, sizes, authorized, limits, xs, who.user);
     if n != 0 {
         return n;
     }

@@ -7,7 +7,7 @@ ghost use Rattle.sessions.specs.Calls.{Gives};
 use calls_image::read_image;
 use calls_image::refusal_of;
 use model::Checked;
-use sessions::given::Rules;
+use sessions::given::Sizes;
 
 // Carries a ledger from so many sessions a user to so many.
 fn moved(image: &[u8], old: &[u8], new: &mut [u8], from: u8, to: u8) -> u64
@@ -32,8 +32,8 @@ fn moved(image: &[u8], old: &[u8], new: &mut [u8], from: u8, to: u8) -> u64
         return refusal_of(c);
     };
     let count = all.count;
-    let rules = Rules { head, count };
-    moves::lines::move_lines(old, from, to, rules, &authorized, &xs, new)
+    let sizes = Sizes { head, count };
+    moves::lines::move_lines(old, from, to, sizes, &authorized, &xs, new)
 }
 
 // Carries a ledger of four sessions a user over to one of eight.

@@ -9,8 +9,8 @@ use asks_request::request::Request;
 use calls_image::read_image;
 use calls_image::refusal_of;
 use model::Checked;
-use sessions::given::Rules;
-use sessions::given::Window;
+use sessions::given::Sizes;
+use sessions::given::UserSession;
 
 // Tells what stands in the way of an ask in the user's session.
 pub fn tell_obstacle(
@@ -44,12 +44,12 @@ pub fn tell_obstacle(
         return refusal_of(c);
     };
     let count = all.count;
-    let rules = Rules { head, count };
-    let window = Window { user, session };
+    let sizes = Sizes { head, count };
+    let who = UserSession { user, session };
     let bounds = bounds_of(lower, upper);
     let request = Request {
-        rules,
-        window,
+        sizes,
+        who,
         bounds,
         first: 0,
         second: 0,

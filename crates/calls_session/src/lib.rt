@@ -12,8 +12,8 @@ use asks_request::request::Request;
 use calls_image::read_image;
 use calls_image::refusal_of;
 use model::Checked;
-use sessions::given::Rules;
-use sessions::given::Window;
+use sessions::given::Sizes;
+use sessions::given::UserSession;
 
 // Opens the user's lowest closed session.
 pub fn open_session(image: &[u8], ledger: &mut [u8], user: u64) -> u64
@@ -37,8 +37,8 @@ pub fn open_session(image: &[u8], ledger: &mut [u8], user: u64) -> u64
         return refusal_of(c);
     };
     let count = all.count;
-    let rules = Rules { head, count };
-    sessions_change::open::open_session(ledger, rules, &authorized, &xs, user)
+    let sizes = Sizes { head, count };
+    sessions_change::open::open_session(ledger, sizes, &authorized, &xs, user)
 }
 
 // Closes the user's session.
@@ -63,9 +63,9 @@ pub fn close_session(image: &[u8], ledger: &mut [u8], user: u64, session: u64) -
         return refusal_of(c);
     };
     let count = all.count;
-    let rules = Rules { head, count };
-    let window = Window { user, session };
-    sessions_change::close::close_session(ledger, rules, &authorized, &xs, window)
+    let sizes = Sizes { head, count };
+    let who = UserSession { user, session };
+    sessions_change::close::close_session(ledger, sizes, &authorized, &xs, who)
 }
 
 // Shows the active roles of the user's session and the permissions that they carry.
@@ -91,16 +91,16 @@ pub fn show_session(image: &[u8], ledger: &[u8], user: u64, session: u64, answer
         return refusal_of(c);
     };
     let count = all.count;
-    let rules = Rules { head, count };
-    let window = Window { user, session };
+    let sizes = Sizes { head, count };
+    let who = UserSession { user, session };
     sessions_show::show::show_session(
         ledger,
-        rules,
+        sizes,
         &authorized,
         &granted,
         &below,
         &xs,
-        window,
+        who,
         answer,
     )
 }
@@ -127,16 +127,16 @@ pub fn explain_session(image: &[u8], ledger: &[u8], user: u64, session: u64, per
         return refusal_of(c);
     };
     let count = all.count;
-    let rules = Rules { head, count };
-    let window = Window { user, session };
+    let sizes = Sizes { head, count };
+    let who = UserSession { user, session };
     sessions_show::explain::explain_session(
         ledger,
-        rules,
+        sizes,
         &authorized,
         &granted,
         &below,
         &xs,
-        window,
+        who,
         permission,
     )
 }
@@ -145,7 +145,7 @@ pub fn explain_session(image: &[u8], ledger: &[u8], user: u64, session: u64, per
 pub fn ask_roles(
     image: &[u8],
     ledger: &mut [u8],
-    window: Window,
+    who: UserSession,
     lower: &[u8],
     upper: &[u8],
     first: u64,
@@ -153,7 +153,7 @@ pub fn ask_roles(
     answer: &mut [u8],
 ) -> u64
     ensures { λ r. ⌜ Answers (step SESSIONS (now (image .entry)) (now (ledger .entry))
-        (askBy (window .user) (window .session) (now (lower .entry)) (now (upper .entry)) first second (length (now (answer .entry)))))
+        (askBy (who .user) (who .session) (now (lower .entry)) (now (upper .entry)) first second (length (now (answer .entry)))))
         r (now (ledger .exit)) (now (answer .entry)) (now (answer .exit)) ⌝ }
 {
     let mut authorized = [0u64; 64];
@@ -174,11 +174,11 @@ pub fn ask_roles(
         return refusal_of(c);
     };
     let count = all.count;
-    let rules = Rules { head, count };
+    let sizes = Sizes { head, count };
     let bounds = bounds_of(lower, upper);
     let request = Request {
-        rules,
-        window,
+        sizes,
+        who,
         bounds,
         first,
         second,
@@ -199,7 +199,7 @@ pub fn ask_roles(
 pub fn ask_clauses(
     image: &[u8],
     ledger: &[u8],
-    window: Window,
+    who: UserSession,
     lower: &[u8],
     upper: &[u8],
     first: u64,
@@ -207,7 +207,7 @@ pub fn ask_clauses(
     out: &mut [u8],
 ) -> u64
     ensures { λ r. ⌜ Tells (step SESSIONS (now (image .entry)) (now (ledger .entry))
-        (clausesBy (window .user) (window .session) (now (lower .entry)) (now (upper .entry)) first second (length (now (out .entry)))))
+        (clausesBy (who .user) (who .session) (now (lower .entry)) (now (upper .entry)) first second (length (now (out .entry)))))
         r (now (out .entry)) (now (out .exit)) ⌝ }
 {
     let mut authorized = [0u64; 64];
@@ -228,11 +228,11 @@ pub fn ask_clauses(
         return refusal_of(c);
     };
     let count = all.count;
-    let rules = Rules { head, count };
+    let sizes = Sizes { head, count };
     let bounds = bounds_of(lower, upper);
     let request = Request {
-        rules,
-        window,
+        sizes,
+        who,
         bounds,
         first,
         second,

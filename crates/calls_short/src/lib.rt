@@ -4,7 +4,7 @@ ghost use Rattle.model.specs.Line.{SESSIONS};
 ghost use Rattle.model.specs.Run.{step, shortAskBy};
 ghost use Rattle.asks.specs.Asks.{Answers};
 use calls_session::ask_roles;
-use sessions::given::Window;
+use sessions::given::UserSession;
 
 // An ask for the fewest permissions, then the fewest roles.
 pub fn short_ask(
@@ -20,6 +20,6 @@ pub fn short_ask(
         (shortAskBy user session (now (lower .entry)) (now (upper .entry)) (length (now (answer .entry)))))
         r (now (ledger .exit)) (now (answer .entry)) (now (answer .exit)) ⌝ }
 {
-    let window = Window { user, session };
-    ask_roles(image, ledger, window, lower, upper, 1, 1, answer)
+    let who = UserSession { user, session };
+    ask_roles(image, ledger, who, lower, upper, 1, 1, answer)
 }

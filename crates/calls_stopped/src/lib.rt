@@ -14,18 +14,19 @@ use hierarchy::member::joined;
 use ledger::bytes::LINE;
 use limits_lines::lines::line_sound;
 use model::Checked;
-use sessions::given::Rules;
+use model::refusals;
+use sessions::given::Sizes;
 
 // The users whose line is not sound, user u as bit u.
-fn stopped_set(ledger: &[u8], rules: Rules, authorized: &[u64; 64], xs: &[[u64; 2]; 32]) -> u64
-    requires { ⌜ (rules .head .users ≤ 64) × (rules .count ≤ 32) × (length (now xs) ≡ 32) × (length (now ledger) ≡ lineSize SESSIONS * rules .head .users) ⌝ }
-    ensures { λ r. ⌜ ((p : Policy) → Known (rules .head) (now (authorized .entry)) (exclusionsIn (now (xs .entry)) (rules .count)) p
+fn stopped_set(ledger: &[u8], sizes: Sizes, authorized: &[u64; 64], xs: &[[u64; 2]; 32]) -> u64
+    requires { ⌜ (sizes .head .users ≤ 64) × (sizes .count ≤ 32) × (length (now xs) ≡ 32) × (length (now ledger) ≡ lineSize SESSIONS * sizes .head .users) ⌝ }
+    ensures { λ r. ⌜ ((p : Policy) → Known (sizes .head) (now (authorized .entry)) (exclusionsIn (now (xs .entry)) (sizes .count)) p
         → r ≡ stoppedSet SESSIONS p (now (ledger .entry))) ⌝ }
 {
-    let users = rules.head.users as usize;
+    let users = sizes.head.users as usize;
     let mut found: u64 = 0;
     for u in 0..users {
-        let stays = line_sound(ledger, rules, authorized, xs, u);
+        let stays = line_sound(ledger, sizes, authorized, xs, u);
         found = joined(found, u, !stays);
     }
     found
@@ -35,23 +36,23 @@ fn stopped_set(ledger: &[u8], rules: Rules, authorized: &[u64; 64], xs: &[[u64; 
 // users, and the extra is how many they are.
 fn tell(
     ledger: &[u8],
-    rules: Rules,
+    sizes: Sizes,
     authorized: &[u64; 64],
     xs: &[[u64; 2]; 32],
     users: &mut [u8],
 ) -> u64
-    requires { ⌜ (rules .head .users ≤ 64) × (rules .count ≤ 32) × (length (now xs) ≡ 32) ⌝ }
-    ensures { λ r. ⌜ ((p : Policy) → Known (rules .head) (now (authorized .entry)) (exclusionsIn (now (xs .entry)) (rules .count)) p
+    requires { ⌜ (sizes .head .users ≤ 64) × (sizes .count ≤ 32) × (length (now xs) ≡ 32) ⌝ }
+    ensures { λ r. ⌜ ((p : Policy) → Known (sizes .head) (now (authorized .entry)) (exclusionsIn (now (xs .entry)) (sizes .count)) p
         → Replies (stoppedOn SESSIONS p (now (ledger .entry)) (length (now (users .entry)))) r (now (users .entry)) (now (users .exit))) ⌝ }
 {
-    let lines = rules.head.users as usize;
+    let lines = sizes.head.users as usize;
     if ledger.len() != LINE * lines {
-        return 9;
+        return refusals::LEDGER;
     }
     if users.len() != 8 {
-        return 19;
+        return refusals::ROOM;
     }
-    let set = stopped_set(ledger, rules, authorized, xs);
+    let set = stopped_set(ledger, sizes, authorized, xs);
     octets::put_u64(users, 0, set);
     256 * (sets::size(set) as u64)
 }
@@ -79,6 +80,6 @@ pub fn tell_stopped(image: &[u8], ledger: &[u8], users: &mut [u8]) -> u64
         return refusal_of(c);
     };
     let count = all.count;
-    let rules = Rules { head, count };
-    tell(ledger, rules, &authorized, &xs, users)
+    let sizes = Sizes { head, count };
+    tell(ledger, sizes, &authorized, &xs, users)
 }

@@ -11,6 +11,7 @@ use Rattle.model.specs.declared.Exclusion.{Exclusion}
 use Rattle.model.specs.Tests.{pick}
 use Rattle.model.specs.Image.{kindOf}
 use Rattle.model.specs.Policy.{kindNumber}
+use Rattle.model_laws.proofs.SortedLaws.{kind-below}
 use Rattle.exclusion_rows.specs.Rows.{exclusionOf}
 
 kind-back : (k : Kind) (l : ℕ) → kindOf ((4 * l + kindNumber k) % 4) ≡ k
@@ -20,17 +21,10 @@ kind-back MsDmer l = let e : (4 * l + 1) % 4 ≡ 1 = omega arith in ap kindOf e
 kind-back SsHmer l = let e : (4 * l + 2) % 4 ≡ 2 = omega arith in ap kindOf e
 kind-back MsHmer l = let e : (4 * l + 3) % 4 ≡ 3 = omega arith in ap kindOf e
 
-number-small : (k : Kind) → kindNumber k < 4
-unfolding kindNumber
-number-small SsDmer = omega arith
-number-small MsDmer = omega arith
-number-small SsHmer = omega arith
-number-small MsHmer = omega arith
-
 pub packed : (x : Exclusion) (n : ℕ) → x .n < 256 → n ≡ kindNumber (x .kind) → exclusionOf ((4 * x .n + n) ∷ x .members ∷ []) ≡ x
 unfolding exclusionOf
 packed x n h e =
-    let s = number-small (x .kind) in
+    let s = kind-below (x .kind) in
     let l : (4 * x .n + n) / 4 % 256 ≡ x .n = omega arith in
     let k : kindOf ((4 * x .n + n) % 4) ≡ x .kind = ap (λ (m : ℕ). kindOf ((4 * x .n + m) % 4)) e ∙ kind-back (x .kind) (x .n) in
     rw (l, k)

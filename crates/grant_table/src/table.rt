@@ -12,6 +12,7 @@ ghost use Rattle.grant_table.specs.Table.{rowBytes};
 ghost use Rattle.grant_table.specs.TableCalls.{tableOn};
 use hierarchy::reach::reach;
 use model::Role;
+use model::refusals;
 
 // Zeros in every byte.
 fn clear(table: &mut [u8])
@@ -43,7 +44,7 @@ pub fn grant_table(granted: &[[u64; 4]; 64], below: &[u64; 64], roles: u8, table
         → Replies (tableOn p (length (now (table .entry)))) x (now (table .entry)) (now (table .exit))) ⌝ }
 {
     if table.len() != 2048 {
-        return 19;
+        return refusals::ROOM;
     }
     clear(table);
     put_rows(granted, below, roles as usize, table);

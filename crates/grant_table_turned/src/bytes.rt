@@ -11,6 +11,7 @@ ghost use Rattle.grant_table_turned.specs.Turned.{turned, unturned};
 ghost use Rattle.grant_table_turned.specs.Calls.{turnCall, unturnCall};
 ghost use Rattle.grant_table_turned.specs.Columns.{Column, turnedBytes, Group, Part};
 use grant_table_words::transpose::transpose;
+use model::refusals;
 
 // Word w of row r, of 64 rows of four words.
 fn word(source: &[u8], r: usize, w: usize) -> u64
@@ -117,7 +118,7 @@ pub fn turn_bytes(source: &[u8], target: &mut [u8]) -> u64
         × (now (target .exit) ≡ answered (now (target .entry)) (turnCall (now (source .entry)) (length (now (target .entry))))) ⌝ }
 {
     if !sized(source.len(), target.len()) {
-        return 19;
+        return refusals::ROOM;
     }
     turn(source, target);
     0
@@ -129,7 +130,7 @@ pub fn unturn_bytes(source: &[u8], target: &mut [u8]) -> u64
         × (now (target .exit) ≡ answered (now (target .entry)) (unturnCall (now (source .entry)) (length (now (target .entry))))) ⌝ }
 {
     if !sized(source.len(), target.len()) {
-        return 19;
+        return refusals::ROOM;
     }
     unturn(source, target);
     0

@@ -3,7 +3,7 @@
 use mathlib.Core.Path.{_≡_, refl, sym, ap, ap₂, _∙_, subst}
 use mathlib.Core.Bool.{Bool, true, false, _&&_, _||_, not, or-false, and-false, and-true}
 use mathlib.Core.List.{List}
-use Prim.Native.Nat.{ℕ, zero, suc, _+_, _-_, _*_, _/_, _%_, _^_, _≤_, _<_}
+use Prim.Native.Nat.{ℕ, _+_, _-_, _*_, _/_, _%_, _^_, _≤_, _<_}
 use native.Mathlib.Nat.{mod-lt, lt-of-le-of-lt}
 use native.Mathlib.Omega.{arith}
 use native.Mathlib.Decide.{decLt}
@@ -18,19 +18,11 @@ use borrow.Author.Tests.{ltb-true, leb-true, not-true}
 use Rattle.model.specs.Tests.{pick}
 use Rattle.model.specs.Sets.{has, union, inter, one}
 use Rattle.model_laws.proofs.Bools.{and-l, and-r, not-both, pick-case}
+use Rattle.model_laws.proofs.Every.{at-below}
 use Rattle.model_laws.proofs.SetLaws.{has-union, has-inter}
-use Rattle.grant_table_words.specs.Stages.{allBelow, marks, across, alike, Place, source, bitAt, exchanged, lowRow, highRow, Exchanged}
+use Rattle.grant_table_words.specs.Stages.{marks, across, alike, Place, source, bitAt, exchanged, lowRow, highRow, Exchanged}
 use Rattle.grant_table_words.proofs.SetTests.{setOf-bit, setOf-members, setOf-same}
 use Rattle.grant_table_words.proofs.Shifts.{has-shr, has-shl, has-shl-none}
-
-pub at-below : (f : ℕ → Bool) (n : ℕ) → allBelow f n ≡ true → (k : ℕ) → k < n → f k ≡ true
-unfolding allBelow
-at-below f zero e k h = absurd (omega arith)
-at-below f (suc n) e k h =
-    elim (decLt k n) [
-      | yes i ↦ at-below f n (and-r (f n) (allBelow f n) e) k i
-      | no i ↦ let q : k ≡ n = omega arith in ap f q ∙ and-l (f n) (allBelow f n) e
-    ]
 
 -- ---- a mask that marks one of each two places that are j apart
 module _ (j m : ℕ) (right : marks j m ≡ true) where

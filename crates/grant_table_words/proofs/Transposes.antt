@@ -7,12 +7,13 @@ use Prim.Native.Nat.{ℕ, _<_}
 use lib.Dec.{eqb}
 use lib.ListN.{getD}
 use borrow.Author.Tests.{eqb-true}
-use Rattle.model.specs.Tests.{pick}
+use Rattle.model.specs.Tests.{pick, allBelow}
 use Rattle.model.specs.Sets.{has}
 use Rattle.model_laws.proofs.Bools.{and-l, and-r}
-use Rattle.grant_table_words.specs.Stages.{allBelow, marks, across, alike, Place, source, bitAt, exchanged, Exchanged, columnOf, Transposed}
+use Rattle.model_laws.proofs.Every.{at-below}
+use Rattle.grant_table_words.specs.Stages.{marks, across, alike, Place, source, bitAt, exchanged, Exchanged, columnOf, Transposed}
 use Rattle.grant_table_words.proofs.SetTests.{setOf-same}
-use Rattle.grant_table_words.proofs.Exchanges.{at-below, source-inside, bit-source}
+use Rattle.grant_table_words.proofs.Exchanges.{source-inside, bit-source}
 
 -- ---- the six masks mark
 pub marks-32 : marks 32 0x00000000FFFFFFFF ≡ true

@@ -4,16 +4,11 @@
 use mathlib.Core.Path.{_≡_}
 use mathlib.Core.Bool.{Bool, true, _&&_, not}
 use mathlib.Core.List.{List}
-use Prim.Native.Nat.{ℕ, zero, suc, _+_, _-_, _≤_, _<_}
+use Prim.Native.Nat.{ℕ, _+_, _-_, _≤_, _<_}
 use lib.Dec.{eqb, ltb, leb}
 use lib.ListN.{getD, set, length}
-use Rattle.model.specs.Tests.{pick}
+use Rattle.model.specs.Tests.{pick, allBelow}
 use Rattle.model.specs.Sets.{has, one, setOf}
-
--- the test holds for every number below n
-unfoldable pub allBelow : (ℕ → Bool) → ℕ → Bool
-allBelow f zero = true
-allBelow f (suc n) = f n && allBelow f n
 
 -- the mask m marks one of each two places that are j apart, the lower one
 unfoldable pub marks : ℕ → ℕ → Bool

@@ -12,6 +12,7 @@ use crate::authorized::authorize;
 use hierarchy::closure::close;
 use model::Checked;
 use model::Role;
+use model::refusals;
 
 // The lowest of so many roles that stands below itself in a closed table, or their number where none does.
 pub fn lowest_on_loop(below: &[u64; 64], roles: usize) -> usize
@@ -41,11 +42,11 @@ pub fn judged(c: Checked, assigned: &mut [u64; 64], juniors: &mut [u64; 64]) -> 
     close(juniors, roles);
     let r = lowest_on_loop(juniors, roles);
     if r < roles {
-        return Checked::Refused(22, r as u16);
+        return Checked::Refused(refusals::LOOP, r as u16);
     }
     let u = authorize(juniors, roles, users, assigned);
     if u < users {
-        return Checked::Refused(23, u as u16);
+        return Checked::Refused(refusals::REACH, u as u16);
     }
     c
 }

@@ -17,6 +17,7 @@ use hierarchy::closure::close_first;
 use hierarchy::member::joined;
 use hierarchy_judged::loops::lowest_on_loop;
 use model::Role;
+use model::refusals;
 
 // ---- levels
 
@@ -106,13 +107,13 @@ pub fn show_loop(juniors: &[u64; 64], roles: u8, chain: &mut [u8]) -> u64
         → Replies (loopOn p (length (now (chain .entry)))) x (now (chain .entry)) (now (chain .exit))) ⌝ }
 {
     if chain.len() != 64 {
-        return 19;
+        return refusals::ROOM;
     }
     let mut below = *juniors;
     close_first(&mut below, roles as usize, roles as usize);
     let r = lowest_on_loop(&below, roles as usize);
     if roles as usize <= r {
-        return 20;
+        return refusals::NONE;
     }
     let who = Role(r as u8);
     let n = fill_levels_among(juniors, roles as usize, who, &mut below);

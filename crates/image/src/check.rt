@@ -30,6 +30,8 @@ use model::Role;
 use model::Scan;
 use model::User;
 use model::Word;
+use model::layout;
+use model::refusals;
 
 // ---- a word judged and, where it has no fault, taken in
 
@@ -81,7 +83,7 @@ fn taken(
     let e = w.entry;
     let spare = w.spare;
     if wrong_kind(last, t.due, e) {
-        return 3;
+        return refusals::KIND;
     }
     match e {
         Entry::Assignment(u, r) => take_assignment(h, assigned, spare, u, r),
@@ -178,10 +180,10 @@ fn check_words(
             sum: std::num::wrapping_add_u32(here.sum, w),
         };
     }
-    if at.sum % 268435456 == 0 {
+    if at.sum % layout::KIND_UNIT == 0 {
         Checked::Accepted(h)
     } else {
-        Checked::Refused(8, (words - 1) as u16)
+        Checked::Refused(refusals::BALANCE, (words - 1) as u16)
     }
 }
 
@@ -194,19 +196,19 @@ pub fn check(image: &[u8], assigned: &mut [u64; 64], juniors: &mut [u64; 64]) ->
         → (now (assigned .exit) ≡ policyOf (now (image .entry)) .assigned) × (now (juniors .exit) ≡ policyOf (now (image .entry)) .juniors)) ⌝ }
 {
     let len = image.len();
-    if len % 4 != 0 {
-        return Checked::Refused(1, 0);
+    if len % layout::WORD_BYTES != 0 {
+        return Checked::Refused(refusals::LENGTH, 0);
     }
-    if len < 8 {
-        return Checked::Refused(1, 0);
+    if len < layout::LEAST_BYTES {
+        return Checked::Refused(refusals::LENGTH, 0);
     }
-    if 16384 < len {
-        return Checked::Refused(1, 0);
+    if layout::MOST_BYTES < len {
+        return Checked::Refused(refusals::LENGTH, 0);
     }
     let w = octets::word_at(image, 0);
     if head_right(w) {
         check_words(image, len / 4, head_of(w), w, assigned, juniors)
     } else {
-        Checked::Refused(2, 0)
+        Checked::Refused(refusals::HEAD, 0)
     }
 }

@@ -10,6 +10,7 @@ use model::Permission;
 use model::Role;
 use model::Scan;
 use model::User;
+use model::refusals;
 
 // 3
 pub fn wrong_kind(last: bool, due: u32, e: Entry) -> bool
@@ -33,10 +34,10 @@ pub fn assignment_fault(h: Head, assigned: &[u64; 64], u: User, r: Role) -> u8
     ensures { λ n. ⌜ ((t : Scan) → n ≡ entryFault h (now (assigned .entry)) t (Entry.Assignment u r)) ⌝ }
 {
     if h.users <= u.0 {
-        return 5;
+        return refusals::RANGE;
     }
     if h.roles <= r.0 {
-        return 5;
+        return refusals::RANGE;
     }
     let who = u.0 as usize;
     let mine = assigned[who];
@@ -46,17 +47,17 @@ pub fn assignment_fault(h: Head, assigned: &[u64; 64], u: User, r: Role) -> u8
     if sets::size(mine) < 16 {
         return 0;
     }
-    7
+    refusals::CROWD
 }
 
 pub fn grant_fault(h: Head, r: Role, p: Permission) -> u8
     ensures { λ n. ⌜ ((rows : List ℕ) (t : Scan) → n ≡ entryFault h rows t (Entry.Grant r p)) ⌝ }
 {
     if h.roles <= r.0 {
-        return 5;
+        return refusals::RANGE;
     }
     if h.permissions <= p.0 as u16 {
-        return 5;
+        return refusals::RANGE;
     }
     0
 }
@@ -65,13 +66,13 @@ pub fn senior_fault(h: Head, a: Role, b: Role) -> u8
     ensures { λ n. ⌜ ((rows : List ℕ) (t : Scan) → n ≡ entryFault h rows t (Entry.Senior a b)) ⌝ }
 {
     if h.roles <= a.0 {
-        return 5;
+        return refusals::RANGE;
     }
     if h.roles <= b.0 {
-        return 5;
+        return refusals::RANGE;
     }
     if a.0 == b.0 {
-        return 6;
+        return refusals::REPEAT;
     }
     0
 }
@@ -80,19 +81,19 @@ pub fn exclusion_fault(h: Head, t: Scan, x: Exclusion, m: u8) -> u8
     ensures { λ n. ⌜ ((rows : List ℕ) → n ≡ entryFault h rows t (Entry.Exclude x m)) ⌝ }
 {
     if m < 1 {
-        return 5;
+        return refusals::RANGE;
     }
     if h.roles < m {
-        return 5;
+        return refusals::RANGE;
     }
     if x.n < 2 {
-        return 5;
+        return refusals::RANGE;
     }
     if m < x.n {
-        return 5;
+        return refusals::RANGE;
     }
     if 32 <= t.exclusions {
-        return 7;
+        return refusals::CROWD;
     }
     0
 }
@@ -102,10 +103,10 @@ pub fn member_fault(h: Head, t: Scan, r: Role) -> u8
     ensures { λ n. ⌜ ((rows : List ℕ) → n ≡ entryFault h rows t (Entry.Member r)) ⌝ }
 {
     if h.roles <= r.0 {
-        return 5;
+        return refusals::RANGE;
     }
     if sets::has(t.members, r) {
-        return 6;
+        return refusals::REPEAT;
     }
     0
 }
@@ -114,13 +115,13 @@ pub fn limit_fault(h: Head, r: Role, t: u16) -> u8
     ensures { λ n. ⌜ ((rows : List ℕ) (s : Scan) → n ≡ entryFault h rows s (Entry.Limit r t)) ⌝ }
 {
     if h.roles <= r.0 {
-        return 5;
+        return refusals::RANGE;
     }
     if t < 2 {
-        return 5;
+        return refusals::RANGE;
     }
     if 256 < t {
-        return 5;
+        return refusals::RANGE;
     }
     0
 }
@@ -130,7 +131,7 @@ pub fn spared(spare: u32, number: u8) -> u8
     ensures { λ n. ⌜ n ≡ sparing spare number ⌝ }
 {
     if spare != 0 {
-        return 4;
+        return refusals::SPARE;
     }
     number
 }

@@ -12,8 +12,16 @@ use image_faults::fault::senior_fault;
 use model::Head;
 use model::Role;
 use model::Scan;
+use model::layout;
 use sets::WidePermission;
 use sets::WideRole;
+
+// A kind above a number of six bits, as in a word turned until that number is lowest.
+const ASSIGNMENT_TURNED: u32 = 64 * layout::ASSIGNMENT;
+
+const GRANT_TURNED: u32 = 64 * layout::GRANT;
+
+const MEMBER_TURNED: u32 = 64 * layout::MEMBER;
 
 // Where a run of usual words ends, and the sum of the words up to there.
 pub struct Run {
@@ -34,8 +42,8 @@ pub fn grants(h: Head, w: u32) -> Granting
     requires { ⌜ h .roles ≤ 64 ⌝ }
     ensures { λ g. ⌜ Grants h w g ⌝ }
 {
-    let x = w / 16384 + w % 16384 * 262144;
-    let r = std::num::wrapping_sub_u32(x / 256, 192);
+    let x = w / layout::PERMISSION_UNIT + w % layout::PERMISSION_UNIT * 262144;
+    let r = std::num::wrapping_sub_u32(x / 256, GRANT_TURNED);
     if h.roles as u32 <= r {
         return Granting::Nobody;
     }
@@ -75,13 +83,13 @@ fn gather(
     ensures { λ g. ⌜ Gathers (now (image .entry)) words from roles u sum own (g .place) (g .sum) (g .row) ⌝ }
 {
     let end = words - 1;
-    let key = u + 128;
+    let key = u + ASSIGNMENT_TURNED;
     let mut place = from;
     let mut total = sum;
     let mut row = own;
     while place < end {
         let w = octets::word_at(image, place);
-        let x = w / 65536 + w % 65536 * 65536;
+        let x = w / layout::SECOND_UNIT + w % layout::SECOND_UNIT * 65536;
         if x / 64 != key {
             return Gathered {
                 place,
@@ -122,7 +130,7 @@ fn spell(
     ensures { λ r. ⌜ ((juniors : List ℕ)
         → Led (now (image .entry)) h words from sum (now (assigned .entry)) juniors (r .place) (r .sum) (now (assigned .exit)) juniors) ⌝ }
 {
-    let u = w / 4194304 % 64;
+    let u = w / layout::FIRST_UNIT % 64;
     if h.users as u32 <= u {
         return Run { place: from, sum };
     }
@@ -146,8 +154,8 @@ fn orders(h: Head, juniors: &mut [u64; 64], w: u32) -> bool
         → Quick h w assigned (now (juniors .entry)) assigned (now (juniors .exit)) × (granting granted (decodeOf w .entry) ≡ granted)))
         × (b ≡ false → now (juniors .exit) ≡ now (juniors .entry)) ⌝ }
 {
-    let x = w / 65536 + w % 65536 * 65536;
-    if x / 4096 != 4 {
+    let x = w / layout::SECOND_UNIT + w % layout::SECOND_UNIT * 65536;
+    if x / 4096 != layout::SENIOR {
         return false;
     }
     let a = Role((x / 64 % 64) as u8);
@@ -254,8 +262,8 @@ fn member(roles: u8, t: Scan, w: u32) -> Scan
     if t.due == 0 {
         return t;
     }
-    let x = w / 4194304 + w % 4194304 * 1024;
-    let r = std::num::wrapping_sub_u32(x, 384);
+    let x = w / layout::FIRST_UNIT + w % layout::FIRST_UNIT * 1024;
+    let r = std::num::wrapping_sub_u32(x, MEMBER_TURNED);
     if roles as u32 <= r {
         return t;
     }

@@ -10,21 +10,22 @@ use model::Permission;
 use model::Role;
 use model::User;
 use model::Word;
+use model::layout;
 
 // An exclusion word: its kind, its n, how many member words follow, and its spare bits.
 fn exclusion_word(w: u32) -> Word
     ensures { λ r. ⌜ (r ≡ says (Entry.Exclude (record { kind = kindOf (field w 26 2); n = field w 19 7; members = 0 }) (field w 12 7)) (w % 2 ^ 12))
         × Small (r .entry) ⌝ }
 {
-    let kind = exclusion_rows::kind_of((w / 67108864 % 4) as u8);
+    let kind = exclusion_rows::kind_of((w / layout::WHICH_UNIT % 4) as u8);
     let x = Exclusion {
         kind,
-        n: (w / 524288 % 128) as u8,
+        n: (w / layout::N_UNIT % 128) as u8,
         members: 0,
     };
     Word {
-        entry: Entry::Exclude(x, (w / 4096 % 128) as u8),
-        spare: w % 4096,
+        entry: Entry::Exclude(x, (w / layout::M_UNIT % 128) as u8),
+        spare: w % layout::M_UNIT,
     }
 }
 
@@ -32,31 +33,34 @@ fn exclusion_word(w: u32) -> Word
 pub fn decode(w: u32) -> Word
     ensures { λ r. ⌜ (r ≡ decodeOf w) × Small (r .entry) ⌝ }
 {
-    let first = (w / 4194304 % 64) as u8;
-    let second = (w / 65536 % 64) as u8;
-    match w / 268435456 % 16 {
-        2 => Word {
+    let first = (w / layout::FIRST_UNIT % 64) as u8;
+    let second = (w / layout::SECOND_UNIT % 64) as u8;
+    match w / layout::KIND_UNIT % 16 {
+        layout::ASSIGNMENT => Word {
             entry: Entry::Assignment(User(first), Role(second)),
-            spare: w % 65536,
+            spare: w % layout::SECOND_UNIT,
         },
-        3 => Word {
-            entry: Entry::Grant(Role(first), Permission((w / 16384 % 256) as u8)),
-            spare: w % 16384,
+        layout::GRANT => Word {
+            entry: Entry::Grant(
+                Role(first),
+                Permission((w / layout::PERMISSION_UNIT % 256) as u8),
+            ),
+            spare: w % layout::PERMISSION_UNIT,
         },
-        4 => Word {
+        layout::SENIOR => Word {
             entry: Entry::Senior(Role(first), Role(second)),
-            spare: w % 65536,
+            spare: w % layout::SECOND_UNIT,
         },
-        5 => exclusion_word(w),
-        6 => Word {
+        layout::EXCLUSION => exclusion_word(w),
+        layout::MEMBER => Word {
             entry: Entry::Member(Role(first)),
-            spare: w % 4194304,
+            spare: w % layout::FIRST_UNIT,
         },
-        7 => Word {
-            entry: Entry::Limit(Role(first), (w / 8192 % 512) as u16),
-            spare: w % 8192,
+        layout::LIMIT => Word {
+            entry: Entry::Limit(Role(first), (w / layout::T_UNIT % 512) as u16),
+            spare: w % layout::T_UNIT,
         },
-        15 => Word {
+        layout::END => Word {
             entry: Entry::End,
             spare: 0,
         },
@@ -71,9 +75,9 @@ pub fn head_of(w: u32) -> Head
     ensures { λ r. ⌜ r ≡ headOf w ⌝ }
 {
     Head {
-        users: (w / 2097152 % 128) as u8,
-        roles: (w / 16384 % 128) as u8,
-        permissions: (w / 32 % 512) as u16,
+        users: (w / layout::USERS_UNIT % 128) as u8,
+        roles: (w / layout::ROLES_UNIT % 128) as u8,
+        permissions: (w / layout::PERMISSIONS_UNIT % 512) as u16,
     }
 }
 
@@ -82,9 +86,9 @@ pub fn head_right(w: u32) -> bool
     ensures { λ r. ⌜ r ≡ headRight w ⌝ }
 {
     let h = head_of(w);
-    (w / 268435456 % 16 == 1)
+    (w / layout::KIND_UNIT % 16 == layout::HEAD)
         & ((1 <= h.users) & (h.users <= 64))
         & ((1 <= h.roles) & (h.roles <= 64))
         & ((1 <= h.permissions) & (h.permissions <= 256))
-        & (w % 32 == 0)
+        & (w % layout::PERMISSIONS_UNIT == 0)
 }

@@ -17,8 +17,8 @@ use limits_counts::Counts;
 use limits_counts::count_at;
 use limits_held::held;
 use sessions::first::roles_of;
-use sessions::given::Rules;
-use sessions::given::Window;
+use sessions::given::Sizes;
+use sessions::given::UserSession;
 
 // Some role has a limit: all are joined, and none is tested by itself.
 pub fn has_limits(limits: &[u64; 64]) -> bool
@@ -90,24 +90,24 @@ pub fn left(ledger: &[u8], users: usize, user: usize, k: usize, own: u64, limits
 // The same by the table of what users may activate.
 pub fn roles_left(
     ledger: &[u8],
-    rules: Rules,
+    sizes: Sizes,
     authorized: &[u64; 64],
     limits: &[u64; 64],
-    window: Window,
+    who: UserSession,
 ) -> u64
-    requires { ⌜ (rules .head .users ≤ 64) × (window .user < rules .head .users)
-        × (length (now ledger) ≡ lineSize SESSIONS * rules .head .users) × (window .session < SESSIONS) × (length (now limits) ≡ 64) ⌝ }
-    ensures { λ s. ⌜ ((p : Policy) (xs : Exclusions) → Known (rules .head) (now (authorized .entry)) xs p → p .limits ≡ now (limits .entry)
-        → Left p (now (ledger .entry)) (window .user) (window .session) s) ⌝ }
+    requires { ⌜ (sizes .head .users ≤ 64) × (who .user < sizes .head .users)
+        × (length (now ledger) ≡ lineSize SESSIONS * sizes .head .users) × (who .session < SESSIONS) × (length (now limits) ≡ 64) ⌝ }
+    ensures { λ s. ⌜ ((p : Policy) (xs : Exclusions) → Known (sizes .head) (now (authorized .entry)) xs p → p .limits ≡ now (limits .entry)
+        → Left p (now (ledger .entry)) (who .user) (who .session) s) ⌝ }
 {
-    let head = rules.head;
-    let u = window.user as usize;
+    let head = sizes.head;
+    let u = who.user as usize;
     let own = roles_of(authorized, u);
     left(
         ledger,
         head.users as usize,
         u,
-        window.session as usize,
+        who.session as usize,
         own,
         limits,
     )

@@ -12,25 +12,26 @@ use ledger::bytes::LINE;
 use ledger::bytes::line_of;
 use ledger::sound::sound;
 use limits_left::has_limits;
+use model::refusals;
 use sessions::first::roles_of;
-use sessions::given::Rules;
+use sessions::given::Sizes;
 
 // The line of user v is sound.
 pub fn line_sound(
     ledger: &[u8],
-    rules: Rules,
+    sizes: Sizes,
     authorized: &[u64; 64],
     xs: &[[u64; 2]; 32],
     v: usize,
 ) -> bool
-    requires { ⌜ (rules .head .users ≤ 64) × (rules .count ≤ 32) × (length (now xs) ≡ 32) × (length (now ledger) ≡ lineSize SESSIONS * rules .head .users)
-        × (v < rules .head .users) ⌝ }
-    ensures { λ r. ⌜ ((p : Policy) → Known (rules .head) (now (authorized .entry)) (exclusionsIn (now (xs .entry)) (rules .count)) p
+    requires { ⌜ (sizes .head .users ≤ 64) × (sizes .count ≤ 32) × (length (now xs) ≡ 32) × (length (now ledger) ≡ lineSize SESSIONS * sizes .head .users)
+        × (v < sizes .head .users) ⌝ }
+    ensures { λ r. ⌜ ((p : Policy) → Known (sizes .head) (now (authorized .entry)) (exclusionsIn (now (xs .entry)) (sizes .count)) p
         → r ≡ soundBy SESSIONS (meaning p v) (lineOf SESSIONS (now (ledger .entry)) v)) ⌝ }
 {
     let l = line_of(ledger, v);
     let own = roles_of(authorized, v);
-    sound(l, rules.head.roles, own, xs, rules.count)
+    sound(l, sizes.head.roles, own, xs, sizes.count)
 }
 
 // 11 for the line of user v; the extra is that user plus 1, where it is not the asker.
@@ -39,26 +40,26 @@ fn blamed(user: u64, v: usize) -> u64
     ensures { λ r. ⌜ r ≡ blamedFor user v ⌝ }
 {
     if v as u64 == user {
-        return 11;
+        return refusals::LINE;
     }
-    11 + 256 * (v as u64 + 1)
+    refusals::LINE + 256 * (v as u64 + 1)
 }
 
 // The refusal for the lowest line that is not sound, else 0.
 fn lines_refusal(
     ledger: &[u8],
-    rules: Rules,
+    sizes: Sizes,
     authorized: &[u64; 64],
     xs: &[[u64; 2]; 32],
     user: u64,
 ) -> u64
-    requires { ⌜ (rules .head .users ≤ 64) × (rules .count ≤ 32) × (length (now xs) ≡ 32) × (length (now ledger) ≡ lineSize SESSIONS * rules .head .users) ⌝ }
-    ensures { λ r. ⌜ ((p : Policy) → Known (rules .head) (now (authorized .entry)) (exclusionsIn (now (xs .entry)) (rules .count)) p
-        → r ≡ linesRefusal SESSIONS p (now (ledger .entry)) user 0 (rules .head .users)) ⌝ }
+    requires { ⌜ (sizes .head .users ≤ 64) × (sizes .count ≤ 32) × (length (now xs) ≡ 32) × (length (now ledger) ≡ lineSize SESSIONS * sizes .head .users) ⌝ }
+    ensures { λ r. ⌜ ((p : Policy) → Known (sizes .head) (now (authorized .entry)) (exclusionsIn (now (xs .entry)) (sizes .count)) p
+        → r ≡ linesRefusal SESSIONS p (now (ledger .entry)) user 0 (sizes .head .users)) ⌝ }
 {
-    let users = rules.head.users as usize;
+    let users = sizes.head.users as usize;
     for v in 0..users {
-        if !line_sound(ledger, rules, authorized, xs, v) {
+        if !line_sound(ledger, sizes, authorized, xs, v) {
             return blamed(user, v);
         }
     }
@@ -69,20 +70,20 @@ fn lines_refusal(
 // refuses the ask.
 pub fn refusal(
     ledger: &[u8],
-    rules: Rules,
+    sizes: Sizes,
     authorized: &[u64; 64],
     limits: &[u64; 64],
     xs: &[[u64; 2]; 32],
     user: u64,
 ) -> u64
-    requires { ⌜ (rules .head .users ≤ 64) × (rules .count ≤ 32) × (length (now xs) ≡ 32) × (length (now limits) ≡ 64) ⌝ }
-    ensures { λ r. ⌜ ((p : Policy) → Known (rules .head) (now (authorized .entry)) (exclusionsIn (now (xs .entry)) (rules .count)) p
+    requires { ⌜ (sizes .head .users ≤ 64) × (sizes .count ≤ 32) × (length (now xs) ≡ 32) × (length (now limits) ≡ 64) ⌝ }
+    ensures { λ r. ⌜ ((p : Policy) → Known (sizes .head) (now (authorized .entry)) (exclusionsIn (now (xs .entry)) (sizes .count)) p
         → p .limits ≡ now (limits .entry) → r ≡ othersRefusal SESSIONS p (now (ledger .entry)) user) ⌝ }
 {
     if !has_limits(limits) {
         return 0;
     }
-    let head = rules.head;
+    let head = sizes.head;
     let users = head.users as usize;
     if ledger.len() != LINE * users {
         return 0;
@@ -90,5 +91,5 @@ pub fn refusal(
     if users as u64 <= user {
         return 0;
     }
-    lines_refusal(ledger, rules, authorized, xs, user)
+    lines_refusal(ledger, sizes, authorized, xs, user)
 }

@@ -55,8 +55,8 @@ clausesText (c ∷ cs) = clauseText c ++ clausesText cs
 
 -- `p wcnf`, the number of variables, the number of clauses, the weight of a hard clause
 unfoldable pub headText : ℕ → ℕ → ℕ → List ℕ
-headText variables clauses heavy =
-    ascii "p wcnf " ++ (decimal variables ++ ((32 ∷ decimal clauses) ++ ((32 ∷ decimal heavy) ++ (10 ∷ []))))
+headText variables clauses weight =
+    ascii "p wcnf " ++ (decimal variables ++ ((32 ∷ decimal clauses) ++ ((32 ∷ decimal weight) ++ (10 ∷ []))))
 
 -- ---- the clauses of an ask
 

@@ -29,6 +29,11 @@ unfoldable pub all {ℓ} : {A : Type ℓ} → (A → Bool) → List A → Bool
 all f [] = true
 all f (x ∷ xs) = f x && all f xs
 
+-- every number below n passes the test
+unfoldable pub allBelow : (ℕ → Bool) → ℕ → Bool
+allBelow f zero = true
+allBelow f (suc n) = f n && allBelow f n
+
 -- the first member that passes the test
 unfoldable pub first {ℓ} : {A : Type ℓ} → (A → Bool) → List A → Option A
 first f [] = none

@@ -11,23 +11,11 @@ use lib.Dec.{eqb}
 use lib.ListN.{getD, drop}
 use lib.Seq.{getD-drop}
 use borrow.Author.Tests.{eqb-true}
+use Rattle.model.specs.Tests.{allBelow}
 use Rattle.model_laws.proofs.Bools.{and-l, and-r}
+use Rattle.model_laws.proofs.Every.{at-below}
 use Rattle.model_binomials.specs.Binomial.{binomial}
 use Rattle.model_binomials.proofs.Entries.{entries}
-
--- the test holds for every number below n
-unfoldable pub allBelow : (ℕ → Bool) → ℕ → Bool
-allBelow f zero = true
-allBelow f (suc n) = f n && allBelow f n
-
-pub at-below : (f : ℕ → Bool) (n : ℕ) → allBelow f n ≡ true → (k : ℕ) → k < n → f k ≡ true
-unfolding allBelow
-at-below f zero e k h = absurd (omega arith)
-at-below f (suc n) e k h =
-    elim (decLt k n) [
-      | yes i ↦ at-below f n (and-r (f n) (allBelow f n) e) k i
-      | no i ↦ let q : k ≡ n = omega arith in ap f q ∙ and-l (f n) (allBelow f n) e
-    ]
 
 -- ---- a triangular table
 

@@ -11,7 +11,7 @@ use Rattle.model.specs.Line.{SESSIONS}
 use Rattle.model.specs.Run.{Call, openBy, closeBy, askBy, clausesBy}
 use Rattle.model.specs.Independence.{Run, eventsOf, viewOf, SameFor, SameWords}
 use Rattle.model.specs.Bytes.{bytesOf}
-use Rattle.model.specs.Words.{imageBytes, ended}
+use Rattle.model.specs.Words.{headWord, assignWord, grantWord, seniorWord, exclusionWord, memberWord, imageBytes, ended}
 use Rattle.model_cases.specs.Ward.{opens, asks, shows, damaged, activeRole}
 
 -- image A for three users, the second with the Doctor's role alone, the third with the other
@@ -19,8 +19,9 @@ unfoldable pub oneImage : List ℕ
 oneImage =
     imageBytes
     (ended
-    (0x106080A0 ∷ 0x20000000 ∷ 0x20010000 ∷ 0x20400000 ∷ 0x20810000 ∷ 0x30000000 ∷ 0x30004000 ∷ 0x30008000 ∷ 0x3000C000 ∷ 0x30404000 ∷ 0x30410000
-    ∷ 0x40010000 ∷ 0x54102000 ∷ 0x60000000 ∷ 0x60400000 ∷ []))
+    (headWord 3 2 5 ∷ assignWord 0 0 ∷ assignWord 0 1 ∷ assignWord 1 0 ∷ assignWord 2 1 ∷ grantWord 0 0 ∷ grantWord 0 1
+    ∷ grantWord 0 2 ∷ grantWord 0 3 ∷ grantWord 1 1 ∷ grantWord 1 4 ∷ seniorWord 0 1 ∷ exclusionWord 1 2 2
+    ∷ memberWord 0 ∷ memberWord 1 ∷ []))
 
 -- the same in another order, with an assignment, a grant, a senior word and the exclusion said twice, the members the
 -- other way round, and the other users' roles exchanged
@@ -28,8 +29,10 @@ unfoldable pub otherImage : List ℕ
 otherImage =
     imageBytes
     (ended
-    (0x106080A0 ∷ 0x54102000 ∷ 0x60400000 ∷ 0x60000000 ∷ 0x40010000 ∷ 0x20410000 ∷ 0x30410000 ∷ 0x30404000 ∷ 0x3000C000 ∷ 0x30008000 ∷ 0x30004000
-    ∷ 0x20800000 ∷ 0x30000000 ∷ 0x30000000 ∷ 0x20010000 ∷ 0x20000000 ∷ 0x20010000 ∷ 0x54102000 ∷ 0x60000000 ∷ 0x60400000 ∷ 0x40010000 ∷ []))
+    (headWord 3 2 5 ∷ exclusionWord 1 2 2 ∷ memberWord 1 ∷ memberWord 0 ∷ seniorWord 0 1 ∷ assignWord 1 1
+    ∷ grantWord 1 4 ∷ grantWord 1 1 ∷ grantWord 0 3 ∷ grantWord 0 2 ∷ grantWord 0 1 ∷ assignWord 2 0
+    ∷ grantWord 0 0 ∷ grantWord 0 0 ∷ assignWord 0 1 ∷ assignWord 0 0 ∷ assignWord 0 1 ∷ exclusionWord 1 2 2
+    ∷ memberWord 0 ∷ memberWord 1 ∷ seniorWord 0 1 ∷ []))
 
 -- the other users' lines are zero; or the second's is damaged, and the third has the Doctor's role active in session 0
 unfoldable pub oneLedger : List ℕ
@@ -77,8 +80,9 @@ unfoldable pub movedImage : List ℕ
 movedImage =
     imageBytes
     (ended
-    (0x106080A0 ∷ 0x20410000 ∷ 0x20000000 ∷ 0x20010000 ∷ 0x30000000 ∷ 0x30004000 ∷ 0x20410000 ∷ 0x30008000 ∷ 0x3000C000 ∷ 0x20800000 ∷ 0x30404000
-    ∷ 0x30410000 ∷ 0x40010000 ∷ 0x54102000 ∷ 0x60000000 ∷ 0x60400000 ∷ []))
+    (headWord 3 2 5 ∷ assignWord 1 1 ∷ assignWord 0 0 ∷ assignWord 0 1 ∷ grantWord 0 0 ∷ grantWord 0 1 ∷ assignWord 1 1
+    ∷ grantWord 0 2 ∷ grantWord 0 3 ∷ assignWord 2 0 ∷ grantWord 1 1 ∷ grantWord 1 4 ∷ seniorWord 0 1
+    ∷ exclusionWord 1 2 2 ∷ memberWord 0 ∷ memberWord 1 ∷ []))
 
 pub record ApartText : Type 0 where
   pub one : Run SESSIONS

@@ -262,12 +262,12 @@ textOfReducing =
     ∷ "1 5 0" ∷ [])
 
 -- 16 roles, all of them the user's, and six permissions; the last role carries the last permission
-unfoldable pub heavy : List ℕ
-heavy = imageOf (headWord 1 16 6 ∷ (assignments 16 ++ (grantWord 15 5 ∷ [])))
+unfoldable pub sixteen : List ℕ
+sixteen = imageOf (headWord 1 16 6 ∷ (assignments 16 ++ (grantWord 15 5 ∷ [])))
 
 -- for at least permission 5, the fewest permissions and any roles: the top weight has three digits
-unfoldable pub textOfHeavy : List ℕ
-textOfHeavy =
+unfoldable pub textOfSixteen : List ℕ
+textOfSixteen =
     linesText
     ("p wcnf 22 14 103"
     ∷ "103 -16 22 0"
@@ -342,7 +342,7 @@ textCases =
     -- what each kind counts already, in a session above 3
     ∷ writes reducing mixed (textFrom 5 (1 ∷ []) (0 ∷ 1 ∷ []) 2 2) 366 textOfReducing
     -- numbers of three digits
-    ∷ writes heavy fresh (textFrom 0 (5 ∷ []) (0 ∷ 1 ∷ 2 ∷ 3 ∷ 4 ∷ 5 ∷ []) 1 0) 156 textOfHeavy
+    ∷ writes sixteen fresh (textFrom 0 (5 ∷ []) (0 ∷ 1 ∷ 2 ∷ 3 ∷ 4 ∷ 5 ∷ []) 1 0) 156 textOfSixteen
     ∷ writes hundred fresh (clausesBy 0 0 (bound (98 ∷ [])) allButLast 0 0) 841 textOfHundred
     -- 12, 13, 16, 17 and 18, with nothing behind them right
     ∷ turnsAway (imageBytes imageA) fresh (textFrom 8 (5 ∷ []) [] 3 3) 0 12

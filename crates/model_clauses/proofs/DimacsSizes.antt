@@ -357,26 +357,26 @@ module _ (p : Meaning) (range : Meant p) where
       )
 
   -- weights
-  heavy-hard : (a b : ℕ) (cs : List Clause) → all (λ (c : Weighted). leb (c .weight) 16705) (weighing (top (soft p a b)) cs) ≡ true
+  weights-hard : (a b : ℕ) (cs : List Clause) → all (λ (c : Weighted). leb (c .weight) 16705) (weighing (top (soft p a b)) cs) ≡ true
   unfolding weighing all
-  heavy-hard a b [] = refl
-  heavy-hard a b (c ∷ cs) =
+  weights-hard a b [] = refl
+  weights-hard a b (c ∷ cs) =
       both (leb (top (soft p a b)) 16705) (all (λ (c : Weighted). leb (c .weight) 16705) (weighing (top (soft p a b)) cs))
-      (le-leb (top (soft p a b)) 16705 (light a b)) (heavy-hard a b cs)
+      (le-leb (top (soft p a b)) 16705 (light a b)) (weights-hard a b cs)
 
-  heavy-wanting : (a w x : ℕ) → w ≤ 16705 → all (λ (c : Weighted). leb (c .weight) 16705) (wanting a w x) ≡ true
+  weights-wanting : (a w x : ℕ) → w ≤ 16705 → all (λ (c : Weighted). leb (c .weight) 16705) (wanting a w x) ≡ true
   unfolding wanting all
-  heavy-wanting zero w x h = refl
-  heavy-wanting (suc zero) w x h = both (leb w 16705) true (le-leb w 16705 h) refl
-  heavy-wanting (suc (suc a)) w x h = both (leb w 16705) true (le-leb w 16705 h) refl
+  weights-wanting zero w x h = refl
+  weights-wanting (suc zero) w x h = both (leb w 16705) true (le-leb w 16705 h) refl
+  weights-wanting (suc (suc a)) w x h = both (leb w 16705) true (le-leb w 16705 h) refl
 
-  heavy-soft : (a b : ℕ) → all (λ (c : Weighted). leb (c .weight) 16705) (soft p a b) ≡ true
+  weights-soft : (a b : ℕ) → all (λ (c : Weighted). leb (c .weight) 16705) (soft p a b) ≡ true
   unfolding soft
-  heavy-soft a b =
+  weights-soft a b =
       let r = range .roles .1 in
       let light : Weighted → Bool = λ c. leb (c .weight) 16705 in
-      all-join light _ _ (all-listTo light P _ (λ q i. heavy-wanting a (R + 1) (permissionVariable p q) (omega arith)))
-      (all-listTo light R _ (λ r l. heavy-wanting b 1 (roleVariable r) (omega arith)))
+      all-join light _ _ (all-listTo light P _ (λ q i. weights-wanting a (R + 1) (permissionVariable p q) (omega arith)))
+      (all-listTo light R _ (λ r l. weights-wanting b 1 (roleVariable r) (omega arith)))
 
   module _ (l : Line) (k lower upper : ℕ) (inside : k < length (l .sessions)) (met : exclusionsMet p l ≡ true) (a b : ℕ) where
     few-clauses : length (clausesOf p l k lower upper a b) ≤ 279680
@@ -401,11 +401,11 @@ module _ (p : Meaning) (range : Meant p) where
           narrow-soft a b,
         )
 
-    heavy-all : all (λ (c : Weighted). leb (c .weight) 16705) (clausesOf p l k lower upper a b) ≡ true
+    weights-all : all (λ (c : Weighted). leb (c .weight) 16705) (clausesOf p l k lower upper a b) ≡ true
     unfolding clausesOf
-    heavy-all =
+    weights-all =
         all-join (λ (c : Weighted). leb (c .weight) 16705) (weighing (top (soft p a b)) (hard p l k lower upper)) (soft p a b)
-        (heavy-hard a b (hard p l k lower upper)) (heavy-soft a b)
+        (weights-hard a b (hard p l k lower upper)) (weights-soft a b)
 
     pub text-small : TextSmall p l k lower upper a b
     unfolding textOf
@@ -417,12 +417,12 @@ module _ (p : Meaning) (range : Meant p) where
         record {
           variables = v;
           clauses = n;
-          heavy = t;
+          weight = t;
           bytes = omega (
             arith,
             length-append (headText (variablesOf p l k) (length cs) (top (soft p a b))) (clausesText cs),
             head-length (variablesOf p l k) (length cs) (top (soft p a b)) (omega arith) (omega arith) (omega arith),
-            clauses-length (variablesOf p l k) (omega arith) cs (all-numbered p range l k lower upper inside met a b) heavy-all,
+            clauses-length (variablesOf p l k) (omega arith) cs (all-numbered p range l k lower upper inside met a b) weights-all,
             all-narrow,
           );
         }

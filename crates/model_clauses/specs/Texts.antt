@@ -42,7 +42,7 @@ TEXT_ROOM = 8388608
 pub record TextSmall (m : Meaning) (l : Line) (k lower upper a b : ℕ) : Type 0 where
   pub variables : variablesOf m l k ≤ 131392
   pub clauses : length (clausesOf m l k lower upper a b) ≤ 279680
-  pub heavy : top (soft m a b) ≤ 16705
+  pub weight : top (soft m a b) ≤ 16705
   pub bytes : length (textOf m l k lower upper a b) ≤ TEXT_ROOM
 
 -- so a buffer of that many bytes has room for every text: no clause text into it is refused by 19

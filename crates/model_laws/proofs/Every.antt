@@ -1,4 +1,4 @@
--- What a test of every member of a list says: of each member, and at each place.
+-- What a test of every member of a list says, of each member and at each place, and a test of every number below one.
 -- Assumes nothing.
 use mathlib.Core.Path.{_≡_, refl, ap, _∙_}
 use mathlib.Core.Logic.{inl, inr}
@@ -6,8 +6,10 @@ use mathlib.Core.Bool.{Bool, true}
 use mathlib.Core.List.{List, [], _∷_, List·Memᴰ, List·Memᴰ·head, List·Memᴰ·tail, List·Memᴰ·not-nil, List·Memᴰ·cases-cons}
 use Prim.Native.Nat.{ℕ, zero, suc, _<_, suc-le-suc}
 use native.Mathlib.Nat.{zero-lt-suc, not-suc-le-zero, le-of-suc-le-suc}
+use native.Mathlib.Decide.{decLt}
+use native.Mathlib.Omega.{arith}
 use lib.ListN.{length, getD}
-use Rattle.model.specs.Tests.{all}
+use Rattle.model.specs.Tests.{all, allBelow}
 use Rattle.model_laws.proofs.Bools.{and-l, and-r, both}
 
 module _ {ℓ} {A : Type ℓ} (f : A → Bool) where
@@ -34,3 +36,13 @@ module _ {ℓ} {A : Type ℓ} (f : A → Bool) where
   unfolding all
   at-all [] d h = refl
   at-all (y ∷ l) d h = both (f y) (all f l) (h 0 (zero-lt-suc (length l))) (at-all l d (λ j k. h (suc j) (suc-le-suc k)))
+
+-- each number below passes
+pub at-below : (f : ℕ → Bool) (n : ℕ) → allBelow f n ≡ true → (k : ℕ) → k < n → f k ≡ true
+unfolding allBelow
+at-below f zero e k h = absurd (omega arith)
+at-below f (suc n) e k h =
+    elim (decLt k n) [
+      | yes i ↦ at-below f n (and-r (f n) (allBelow f n) e) k i
+      | no i ↦ let q : k ≡ n = omega arith in ap f q ∙ and-l (f n) (allBelow f n) e
+    ]

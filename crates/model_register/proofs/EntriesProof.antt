@@ -13,7 +13,6 @@ use lib.Pow.{pow-pos, split, mod-pow-add, areBytes}
 use borrow.Author.Tests.{ltb-true, eqb-true, eqb-false, eq-eqb, ne-eqb, le-leb, leb-true, leb-false}
 use Rattle.model.specs.declared.Head.{Head}
 use Rattle.model.specs.declared.Kind.{Kind}
-use Rattle.model.specs.declared.Kind.the-variants.{SsDmer, MsDmer, SsHmer, MsHmer}
 use Rattle.model.specs.declared.Word.{Word}
 use Rattle.model.specs.declared.Entry.{Entry}
 use Rattle.model.specs.declared.Entry.the-variants.{Assignment, Grant, Senior, Exclude, Member, Limit, End, Unknown}
@@ -23,17 +22,9 @@ use Rattle.model.specs.Words.{headWord, assignWord, grantWord, seniorWord, excl
 use Rattle.model.specs.Policy.{kindNumber}
 use Rattle.model.specs.Ranges.{OneTo}
 use Rattle.model_laws.proofs.Bools.{and-l, and-r, both, pick-case}
-use Rattle.model_laws.proofs.SortedLaws.{kind-of, kind-number}
+use Rattle.model_laws.proofs.SortedLaws.{kind-of, kind-number, kind-below}
 use Rattle.model_laws.proofs.Accepted.{one-to}
 use Rattle.model_register.specs.Entries.{Fits, IsWord, IsHead, WordIs, WordsAre}
-
--- ---- an exclusion's kind and its number
-pub kind-below : (k : Kind) → kindNumber k < 4
-unfolding kindNumber
-kind-below SsDmer = omega arith
-kind-below MsDmer = omega arith
-kind-below SsHmer = omega arith
-kind-below MsHmer = omega arith
 
 -- four fields, from the highest, and nothing behind them
 joined : (w h i j l k a b c p q r t : ℕ) → w ≡ k * 2 ^ h + p → p ≡ a * 2 ^ i + q → q ≡ b * 2 ^ j + r → r ≡ c * 2 ^ l + t → t ≡ 0

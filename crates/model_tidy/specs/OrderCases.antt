@@ -6,7 +6,7 @@ use Prim.Native.Nat.{ℕ}
 use Rattle.model.specs.declared.Head.{Head}
 use Rattle.model.specs.declared.Checked.the-variants.{Accepted, Refused}
 use Rattle.model.specs.Bytes.{bytesOf}
-use Rattle.model.specs.Words.{imageBytes}
+use Rattle.model.specs.Words.{headWord, assignWord, grantWord, exclusionWord, memberWord, limitWord, imageBytes, ended}
 use Rattle.model.specs.Judgement.{judge}
 use Rattle.model.specs.Line.{SESSIONS}
 use Rattle.model.specs.Session.{Reply}
@@ -20,38 +20,49 @@ use Rattle.model_tidy.specs.Order.{Reordered}
 -- roles 0 and 1 exclude each other in all her open sessions, 2 and 3 in each one; two limits on role 0
 unfoldable pub plain : List ℕ
 plain =
-    0x10210040 ∷ 0x20000000 ∷ 0x20010000 ∷ 0x20020000 ∷ 0x20030000 ∷ 0x30000000 ∷ 0x30804000 ∷ 0x54102000 ∷ 0x60000000 ∷ 0x60400000
-    ∷ 0x50102000 ∷ 0x60800000 ∷ 0x60C00000 ∷ 0x70004000 ∷ 0x70006000 ∷ 0xF9B7DFC0 ∷ []
+    ended
+    (headWord 1 4 2 ∷ assignWord 0 0 ∷ assignWord 0 1 ∷ assignWord 0 2 ∷ assignWord 0 3 ∷ grantWord 0 0 ∷ grantWord 2 1
+    ∷ exclusionWord 1 2 2 ∷ memberWord 0 ∷ memberWord 1 ∷ exclusionWord 0 2 2 ∷ memberWord 2 ∷ memberWord 3
+    ∷ limitWord 0 2 ∷ limitWord 0 3 ∷ [])
 
 -- the last limit in front, the exclusions exchanged, and the members of each turned round
 unfoldable pub turned : List ℕ
 turned =
-    0x10210040 ∷ 0x70006000 ∷ 0x20000000 ∷ 0x20010000 ∷ 0x20020000 ∷ 0x20030000 ∷ 0x30000000 ∷ 0x30804000 ∷ 0x50102000 ∷ 0x60C00000
-    ∷ 0x60800000 ∷ 0x54102000 ∷ 0x60400000 ∷ 0x60000000 ∷ 0x70004000 ∷ 0xF9B7DFC0 ∷ []
+    ended
+    (headWord 1 4 2 ∷ limitWord 0 3 ∷ assignWord 0 0 ∷ assignWord 0 1 ∷ assignWord 0 2 ∷ assignWord 0 3 ∷ grantWord 0 0
+    ∷ grantWord 2 1 ∷ exclusionWord 0 2 2 ∷ memberWord 3 ∷ memberWord 2 ∷ exclusionWord 1 2 2 ∷ memberWord 1
+    ∷ memberWord 0 ∷ limitWord 0 2 ∷ [])
 
 -- a member of each exclusion moved into the other: 0 and 2 exclude each other, and so do 1 and 3
 unfoldable pub crossed : List ℕ
 crossed =
-    0x10210040 ∷ 0x20000000 ∷ 0x20010000 ∷ 0x20020000 ∷ 0x20030000 ∷ 0x30000000 ∷ 0x30804000 ∷ 0x54102000 ∷ 0x60000000 ∷ 0x60800000
-    ∷ 0x50102000 ∷ 0x60400000 ∷ 0x60C00000 ∷ 0x70004000 ∷ 0x70006000 ∷ 0xF9B7DFC0 ∷ []
+    ended
+    (headWord 1 4 2 ∷ assignWord 0 0 ∷ assignWord 0 1 ∷ assignWord 0 2 ∷ assignWord 0 3 ∷ grantWord 0 0 ∷ grantWord 2 1
+    ∷ exclusionWord 1 2 2 ∷ memberWord 0 ∷ memberWord 2 ∷ exclusionWord 0 2 2 ∷ memberWord 1 ∷ memberWord 3
+    ∷ limitWord 0 2 ∷ limitWord 0 3 ∷ [])
 
 -- the last member moved out of its exclusion, behind a limit
 unfoldable pub strayed : List ℕ
 strayed =
-    0x10210040 ∷ 0x20000000 ∷ 0x20010000 ∷ 0x20020000 ∷ 0x20030000 ∷ 0x30000000 ∷ 0x30804000 ∷ 0x54102000 ∷ 0x60000000 ∷ 0x60400000
-    ∷ 0x50102000 ∷ 0x60800000 ∷ 0x70004000 ∷ 0x60C00000 ∷ 0x70006000 ∷ 0xF9B7DFC0 ∷ []
+    ended
+    (headWord 1 4 2 ∷ assignWord 0 0 ∷ assignWord 0 1 ∷ assignWord 0 2 ∷ assignWord 0 3 ∷ grantWord 0 0 ∷ grantWord 2 1
+    ∷ exclusionWord 1 2 2 ∷ memberWord 0 ∷ memberWord 1 ∷ exclusionWord 0 2 2 ∷ memberWord 2 ∷ limitWord 0 2
+    ∷ memberWord 3 ∷ limitWord 0 3 ∷ [])
 
 -- the head moved behind the first assignment
 unfoldable pub headless : List ℕ
 headless =
-    0x20000000 ∷ 0x10210040 ∷ 0x20010000 ∷ 0x20020000 ∷ 0x20030000 ∷ 0x30000000 ∷ 0x30804000 ∷ 0x54102000 ∷ 0x60000000 ∷ 0x60400000
-    ∷ 0x50102000 ∷ 0x60800000 ∷ 0x60C00000 ∷ 0x70004000 ∷ 0x70006000 ∷ 0xF9B7DFC0 ∷ []
+    ended
+    (assignWord 0 0 ∷ headWord 1 4 2 ∷ assignWord 0 1 ∷ assignWord 0 2 ∷ assignWord 0 3 ∷ grantWord 0 0 ∷ grantWord 2 1
+    ∷ exclusionWord 1 2 2 ∷ memberWord 0 ∷ memberWord 1 ∷ exclusionWord 0 2 2 ∷ memberWord 2 ∷ memberWord 3
+    ∷ limitWord 0 2 ∷ limitWord 0 3 ∷ [])
 
 -- another end word
 unfoldable pub unbalanced : List ℕ
 unbalanced =
-    0x10210040 ∷ 0x20000000 ∷ 0x20010000 ∷ 0x20020000 ∷ 0x20030000 ∷ 0x30000000 ∷ 0x30804000 ∷ 0x54102000 ∷ 0x60000000 ∷ 0x60400000
-    ∷ 0x50102000 ∷ 0x60800000 ∷ 0x60C00000 ∷ 0x70004000 ∷ 0x70006000 ∷ 0xF9B7DFC1 ∷ []
+    headWord 1 4 2 ∷ assignWord 0 0 ∷ assignWord 0 1 ∷ assignWord 0 2 ∷ assignWord 0 3 ∷ grantWord 0 0 ∷ grantWord 2 1
+    ∷ exclusionWord 1 2 2 ∷ memberWord 0 ∷ memberWord 1 ∷ exclusionWord 0 2 2 ∷ memberWord 2 ∷ memberWord 3
+    ∷ limitWord 0 2 ∷ limitWord 0 3 ∷ 0xF9B7DFC1 ∷ []
 
 -- ---- calls with session 0 open
 

@@ -6,7 +6,7 @@ use mathlib.Core.List.{List, [], _∷_, _++_}
 use Prim.Native.Nat.{ℕ}
 use lib.ListN.{replicate, take}
 use Rattle.model.specs.declared.Checked.the-variants.{Accepted}
-use Rattle.model.specs.Words.{headWord, assignWord, seniorWord, imageBytes, ended}
+use Rattle.model.specs.Words.{headWord, assignWord, grantWord, seniorWord, exclusionWord, memberWord, limitWord, imageBytes, ended}
 use Rattle.model.specs.Judgement.{judge}
 use Rattle.model_cases.specs.Refusals.{overOthers}
 use Rattle.model_tidy.specs.Tidy.{tidyOf, Written, tidyCall}
@@ -15,26 +15,33 @@ use Rattle.model_tidy.specs.Tidy.{tidyOf, Written, tidyCall}
 -- limits
 unfoldable pub jumbled : List ℕ
 jumbled =
-    0x10410080 ∷ 0x70406000 ∷ 0x40420000 ∷ 0x30400000 ∷ 0x54183000 ∷ 0x60800000 ∷ 0x60000000 ∷ 0x60400000 ∷ 0x20400000 ∷ 0x3000C000
-    ∷ 0x70200000 ∷ 0x20010000 ∷ 0x54102000 ∷ 0x60C00000 ∷ 0x60400000 ∷ 0x20400000 ∷ 0x54103000 ∷ 0x60400000 ∷ 0x60000000 ∷ 0x60800000
-    ∷ 0x54102000 ∷ 0x60400000 ∷ 0x60C00000 ∷ 0x50183000 ∷ 0x60C00000 ∷ 0x60800000 ∷ 0x60000000 ∷ 0x40030000 ∷ 0x30400000 ∷ 0x70404000
-    ∷ 0xF8B6CF80 ∷ []
+    ended
+    (headWord 2 4 4 ∷ limitWord 1 3 ∷ seniorWord 1 2 ∷ grantWord 1 0 ∷ exclusionWord 1 3 3 ∷ memberWord 2 ∷ memberWord 0
+    ∷ memberWord 1 ∷ assignWord 1 0 ∷ grantWord 0 3 ∷ limitWord 0 256 ∷ assignWord 0 1 ∷ exclusionWord 1 2 2
+    ∷ memberWord 3 ∷ memberWord 1 ∷ assignWord 1 0 ∷ exclusionWord 1 2 3 ∷ memberWord 1 ∷ memberWord 0
+    ∷ memberWord 2 ∷ exclusionWord 1 2 2 ∷ memberWord 1 ∷ memberWord 3 ∷ exclusionWord 0 3 3 ∷ memberWord 3
+    ∷ memberWord 2 ∷ memberWord 0 ∷ seniorWord 0 3 ∷ grantWord 1 0 ∷ limitWord 1 2 ∷ [])
 
 -- the same entries in another order, the exclusion twice
 unfoldable pub shuffled : List ℕ
 shuffled =
-    0x10410080 ∷ 0x70404000 ∷ 0x50183000 ∷ 0x60000000 ∷ 0x60C00000 ∷ 0x60800000 ∷ 0x20400000 ∷ 0x20010000 ∷ 0x54102000 ∷ 0x60C00000
-    ∷ 0x60400000 ∷ 0x54103000 ∷ 0x60800000 ∷ 0x60400000 ∷ 0x60000000 ∷ 0x40030000 ∷ 0x40420000 ∷ 0x30400000 ∷ 0x3000C000 ∷ 0x54102000
-    ∷ 0x60C00000 ∷ 0x60400000 ∷ 0x54183000 ∷ 0x60000000 ∷ 0x60400000 ∷ 0x60800000 ∷ 0x70200000 ∷ 0x70406000 ∷ 0xF936CF80 ∷ []
+    ended
+    (headWord 2 4 4 ∷ limitWord 1 2 ∷ exclusionWord 0 3 3 ∷ memberWord 0 ∷ memberWord 3 ∷ memberWord 2 ∷ assignWord 1 0
+    ∷ assignWord 0 1 ∷ exclusionWord 1 2 2 ∷ memberWord 3 ∷ memberWord 1 ∷ exclusionWord 1 2 3 ∷ memberWord 2
+    ∷ memberWord 1 ∷ memberWord 0 ∷ seniorWord 0 3 ∷ seniorWord 1 2 ∷ grantWord 1 0 ∷ grantWord 0 3
+    ∷ exclusionWord 1 2 2 ∷ memberWord 3 ∷ memberWord 1 ∷ exclusionWord 1 3 3 ∷ memberWord 0 ∷ memberWord 1
+    ∷ memberWord 2 ∷ limitWord 0 256 ∷ limitWord 1 3 ∷ [])
 
 -- assignments by user, grants by role, seniors, then exclusions: one of kind 0, though its n is 3; of kind 1 with n 2
 -- the members 0, 1, 2 (set 7) before 1, 3 (set 10), though they are more; with n 3 the set 7 again; then the limits,
 -- 256 of role 0 and 2 of role 1
 unfoldable pub neat : List ℕ
 neat =
-    0x10410080 ∷ 0x20010000 ∷ 0x20400000 ∷ 0x3000C000 ∷ 0x30400000 ∷ 0x40030000 ∷ 0x40420000 ∷ 0x50183000 ∷ 0x60000000 ∷ 0x60800000
-    ∷ 0x60C00000 ∷ 0x54103000 ∷ 0x60000000 ∷ 0x60400000 ∷ 0x60800000 ∷ 0x54102000 ∷ 0x60400000 ∷ 0x60C00000 ∷ 0x54183000 ∷ 0x60000000
-    ∷ 0x60400000 ∷ 0x60800000 ∷ 0x70200000 ∷ 0x70404000 ∷ 0xFE874F80 ∷ []
+    ended
+    (headWord 2 4 4 ∷ assignWord 0 1 ∷ assignWord 1 0 ∷ grantWord 0 3 ∷ grantWord 1 0 ∷ seniorWord 0 3 ∷ seniorWord 1 2
+    ∷ exclusionWord 0 3 3 ∷ memberWord 0 ∷ memberWord 2 ∷ memberWord 3 ∷ exclusionWord 1 2 3 ∷ memberWord 0
+    ∷ memberWord 1 ∷ memberWord 2 ∷ exclusionWord 1 2 2 ∷ memberWord 1 ∷ memberWord 3 ∷ exclusionWord 1 3 3
+    ∷ memberWord 0 ∷ memberWord 1 ∷ memberWord 2 ∷ limitWord 0 256 ∷ limitWord 1 2 ∷ [])
 
 -- role 0 over the loop of the roles 1 and 2; it would be tidy in 20 bytes
 unfoldable pub looped : List ℕ

@@ -34,8 +34,7 @@ use Rattle.model_laws.proofs.Eachs.{each-map, each-mem}
 use Rattle.model_tidy_laws.proofs.GroupsFound.{member-role}
 use Rattle.model_tidy_laws.proofs.GroupExclusions.{exclusionIn, exclusionsIn, joined-below}
 use Rattle.model_tidy_laws.proofs.WordLaws.{decode-exclusion, decode-member}
-use Rattle.model_laws.proofs.SortedLaws.{weights}
-use Rattle.model_register.proofs.EntriesProof.{kind-below}
+use Rattle.model_laws.proofs.SortedLaws.{weights, kind-below}
 use Rattle.model_tidy_laws.proofs.TidyLists.{members-each, members-mem, members-length, members-distinct}
 
 -- ---- member words

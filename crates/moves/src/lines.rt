@@ -8,34 +8,35 @@ ghost use Rattle.model.specs.Run.{returned};
 ghost use Rattle.model.specs.Moves.{moveAnswer, resizedLines, moveOn};
 ghost use Rattle.exclusion_rows.specs.Rows.{exclusionsIn};
 ghost use Rattle.sessions.specs.Calls.{Known, Gives};
+use model::refusals;
 use moves_line::line_bytes;
 use moves_line::line_fault;
 use moves_line::line_size;
 use moves_line::put_resized;
 use sessions::first::roles_of;
-use sessions::given::Rules;
+use sessions::given::Sizes;
 
 // The first fault of a line, from user 0 up, with 256 times its user; 0 where none has one.
 fn first_fault(
     old: &[u8],
     from: u8,
     to: u8,
-    rules: Rules,
+    sizes: Sizes,
     authorized: &[u64; 64],
     xs: &[[u64; 2]; 32],
 ) -> u64
-    requires { ⌜ (length (now old) ≡ lineSize from * rules .head .users) × (0 < from) × (from ≤ SESSIONS)
-        × (rules .head .users ≤ 64) × (rules .count ≤ 32) × (length (now xs) ≡ 32) ⌝ }
-    ensures { λ r. ⌜ ((p : Policy) → Known (rules .head) (now (authorized .entry)) (exclusionsIn (now (xs .entry)) (rules .count)) p
-        → r ≡ returned (moveAnswer from to p (now (old .entry)) 0 (rules .head .users))) ⌝ }
+    requires { ⌜ (length (now old) ≡ lineSize from * sizes .head .users) × (0 < from) × (from ≤ SESSIONS)
+        × (sizes .head .users ≤ 64) × (sizes .count ≤ 32) × (length (now xs) ≡ 32) ⌝ }
+    ensures { λ r. ⌜ ((p : Policy) → Known (sizes .head) (now (authorized .entry)) (exclusionsIn (now (xs .entry)) (sizes .count)) p
+        → r ≡ returned (moveAnswer from to p (now (old .entry)) 0 (sizes .head .users))) ⌝ }
 {
-    let head = rules.head;
+    let head = sizes.head;
     let users = head.users as usize;
     let size = line_size(from);
     for u in 0..users {
         let bytes = line_bytes(old, size, u);
         let own = roles_of(authorized, u);
-        let n = line_fault(bytes, from, to, head.roles, own, xs, rules.count);
+        let n = line_fault(bytes, from, to, head.roles, own, xs, sizes.count);
         if n != 0 {
             return n + 256 * (u as u64);
         }
@@ -61,23 +62,23 @@ pub fn move_lines(
     old: &[u8],
     from: u8,
     to: u8,
-    rules: Rules,
+    sizes: Sizes,
     authorized: &[u64; 64],
     xs: &[[u64; 2]; 32],
     new: &mut [u8],
 ) -> u64
-    requires { ⌜ (0 < from) × (from ≤ SESSIONS) × (to ≤ SESSIONS) × (rules .head .users ≤ 64) × (rules .count ≤ 32) × (length (now xs) ≡ 32) ⌝ }
-    ensures { λ r. ⌜ ((p : Policy) → Known (rules .head) (now (authorized .entry)) (exclusionsIn (now (xs .entry)) (rules .count)) p
+    requires { ⌜ (0 < from) × (from ≤ SESSIONS) × (to ≤ SESSIONS) × (sizes .head .users ≤ 64) × (sizes .count ≤ 32) × (length (now xs) ≡ 32) ⌝ }
+    ensures { λ r. ⌜ ((p : Policy) → Known (sizes .head) (now (authorized .entry)) (exclusionsIn (now (xs .entry)) (sizes .count)) p
         → Gives (moveOn from to p (now (old .entry)) (now (new .entry))) r (now (new .exit))) ⌝ }
 {
-    let users = rules.head.users as usize;
+    let users = sizes.head.users as usize;
     if old.len() != line_size(from) * users {
-        return 9;
+        return refusals::LEDGER;
     }
     if new.len() != line_size(to) * users {
-        return 19;
+        return refusals::ROOM;
     }
-    let n = first_fault(old, from, to, rules, authorized, xs);
+    let n = first_fault(old, from, to, sizes, authorized, xs);
     if n != 0 {
         return n;
     }

@@ -18,6 +18,7 @@ use ledger::sound::sound;
 use model::Line;
 use model::SESSIONS;
 use model::Session;
+use model::refusals;
 
 // The bytes of a line with so many sessions.
 pub fn line_size(sessions: u8) -> usize
@@ -85,10 +86,10 @@ pub fn line_fault(
     let formed = below(l.opened, from) & sound(l, roles, authorized, xs, count);
     let low = below(l.opened, to);
     if !formed {
-        return 11;
+        return refusals::LINE;
     }
     if !low {
-        return 24;
+        return refusals::UPPER_SESSIONS;
     }
     0
 }

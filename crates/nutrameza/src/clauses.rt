@@ -3,7 +3,7 @@ ghost use mathlib.Core.Path.{_≡_};
 ghost use lib.ListN.{length};
 ghost use Rattle.model.specs.Line.{SESSIONS};
 ghost use Rattle.model.specs.Run.{step, clausesBy, returned, written};
-use sessions::given::Window;
+use sessions::given::UserSession;
 
 // Writes an ask as weighted clauses (docs/CLAUSES.md) to the front of the buffer, and returns the text's length as the
 // extra. No session changes; 19 where the text is longer than the buffer, 20 never.
@@ -19,17 +19,15 @@ pub extern "C" fn nutrameza_clauses(
     role_aim: u64,
     out: &mut [u8],
 ) -> u64
-    ensures { λ r. ⌜ (r ≡ returned (step SESSIONS (now (image .entry)) (now (ledger .entry))
-        (clausesBy user session (now (lower .entry)) (now (upper .entry)) «permission_aim» «role_aim» (length (now (out .entry)))) .reply))
-        × (now (out .exit) ≡ written (now (out .entry))
-        (step SESSIONS (now (image .entry)) (now (ledger .entry))
-        (clausesBy user session (now (lower .entry)) (now (upper .entry)) «permission_aim» «role_aim» (length (now (out .entry)))) .reply)) ⌝ }
+    ensures { λ r. ⌜ (let e = step SESSIONS (now (image .entry)) (now (ledger .entry))
+        (clausesBy user session (now (lower .entry)) (now (upper .entry)) «permission_aim» «role_aim» (length (now (out .entry)))) in
+        (r ≡ returned (e .reply)) × (now (out .exit) ≡ written (now (out .entry)) (e .reply))) ⌝ }
 {
-    let window = Window { user, session };
+    let who = UserSession { user, session };
     calls_session::ask_clauses(
         image,
         ledger,
-        window,
+        who,
         lower,
         upper,
         permission_aim,

@@ -13,7 +13,7 @@ ghost use Rattle.model_stopped.specs.Stopped.{stoppedCall};
 ghost use Rattle.model_tidy.specs.Tidy.{tidyCall};
 ghost use Rattle.grant_table.specs.TableCalls.{tableCall};
 ghost use Rattle.grant_table_turned.specs.Calls.{turnCall, unturnCall};
-use sessions::given::Window;
+use sessions::given::UserSession;
 
 pub mod clauses; // clauses.rt: the clause text of an ask
 pub mod obstacle; // obstacle.rt: what stands in the way of an ask
@@ -31,8 +31,8 @@ pub extern "C" fn nutrameza_check(image: &[u8]) -> u64
 // zeros after them. The extra is their number; 20 where no role is on a loop. An image is judged by its words alone.
 #[no_mangle]
 pub extern "C" fn nutrameza_loop(image: &[u8], chain: &mut [u8]) -> u64
-    ensures { λ r. ⌜ (r ≡ returned (loopCall (now (image .entry)) (length (now (chain .entry)))))
-        × (now (chain .exit) ≡ answered (now (chain .entry)) (loopCall (now (image .entry)) (length (now (chain .entry))))) ⌝ }
+    ensures { λ r. ⌜ (let a = loopCall (now (image .entry)) (length (now (chain .entry))) in
+        (r ≡ returned a) × (now (chain .exit) ≡ answered (now (chain .entry)) a)) ⌝ }
 {
     calls_image::show_loop(image, chain)
 }
@@ -42,8 +42,7 @@ pub extern "C" fn nutrameza_loop(image: &[u8], chain: &mut [u8]) -> u64
 // extra is the number of words written; 19 for a buffer that is too small for them.
 #[no_mangle]
 pub extern "C" fn nutrameza_tidy(image: &[u8], out: &mut [u8]) -> u64
-    ensures { λ r. ⌜ (r ≡ tidyCall (now (image .entry)) (now (out .entry)) .number + 256 * tidyCall (now (image .entry)) (now (out .entry)) .extra)
-        × (now (out .exit) ≡ tidyCall (now (image .entry)) (now (out .entry)) .out) ⌝ }
+    ensures { λ r. ⌜ (let w = tidyCall (now (image .entry)) (now (out .entry)) in (r ≡ w .number + 256 * w .extra) × (now (out .exit) ≡ w .out)) ⌝ }
 {
     calls_image::write_tidy(image, out)
 }
@@ -52,9 +51,8 @@ pub extern "C" fn nutrameza_tidy(image: &[u8], out: &mut [u8]) -> u64
 // extra is how many they are.
 #[no_mangle]
 pub extern "C" fn nutrameza_stopped(image: &[u8], ledger: &[u8], users: &mut [u8]) -> u64
-    ensures { λ r. ⌜ (r ≡ returned (stoppedCall SESSIONS (now (image .entry)) (now (ledger .entry)) (length (now (users .entry)))))
-        × (now (users .exit) ≡ answered (now (users .entry))
-        (stoppedCall SESSIONS (now (image .entry)) (now (ledger .entry)) (length (now (users .entry))))) ⌝ }
+    ensures { λ r. ⌜ (let a = stoppedCall SESSIONS (now (image .entry)) (now (ledger .entry)) (length (now (users .entry))) in
+        (r ≡ returned a) × (now (users .exit) ≡ answered (now (users .entry)) a)) ⌝ }
 {
     calls_stopped::tell_stopped(image, ledger, users)
 }
@@ -62,8 +60,8 @@ pub extern "C" fn nutrameza_stopped(image: &[u8], ledger: &[u8], users: &mut [u8
 // Opens the user's lowest closed session, and returns it as the extra.
 #[no_mangle]
 pub extern "C" fn nutrameza_open(image: &[u8], ledger: &mut [u8], user: u64) -> u64
-    ensures { λ r. ⌜ (r ≡ returned (step SESSIONS (now (image .entry)) (now (ledger .entry)) (openBy user) .reply))
-        × (now (ledger .exit) ≡ step SESSIONS (now (image .entry)) (now (ledger .entry)) (openBy user) .ledger) ⌝ }
+    ensures { λ r. ⌜ (let e = step SESSIONS (now (image .entry)) (now (ledger .entry)) (openBy user) in
+        (r ≡ returned (e .reply)) × (now (ledger .exit) ≡ e .ledger)) ⌝ }
 {
     calls_session::open_session(image, ledger, user)
 }
@@ -71,8 +69,8 @@ pub extern "C" fn nutrameza_open(image: &[u8], ledger: &mut [u8], user: u64) -> 
 // Closes the user's session.
 #[no_mangle]
 pub extern "C" fn nutrameza_close(image: &[u8], ledger: &mut [u8], user: u64, session: u64) -> u64
-    ensures { λ r. ⌜ (r ≡ returned (step SESSIONS (now (image .entry)) (now (ledger .entry)) (closeBy user session) .reply))
-        × (now (ledger .exit) ≡ step SESSIONS (now (image .entry)) (now (ledger .entry)) (closeBy user session) .ledger) ⌝ }
+    ensures { λ r. ⌜ (let e = step SESSIONS (now (image .entry)) (now (ledger .entry)) (closeBy user session) in
+        (r ≡ returned (e .reply)) × (now (ledger .exit) ≡ e .ledger)) ⌝ }
 {
     calls_session::close_session(image, ledger, user, session)
 }
@@ -86,9 +84,8 @@ pub extern "C" fn nutrameza_show(
     session: u64,
     answer: &mut [u8],
 ) -> u64
-    ensures { λ r. ⌜ (r ≡ returned (step SESSIONS (now (image .entry)) (now (ledger .entry)) (showBy user session (length (now (answer .entry)))) .reply))
-        × (now (answer .exit) ≡ answered (now (answer .entry))
-        (step SESSIONS (now (image .entry)) (now (ledger .entry)) (showBy user session (length (now (answer .entry)))) .reply)) ⌝ }
+    ensures { λ r. ⌜ (let e = step SESSIONS (now (image .entry)) (now (ledger .entry)) (showBy user session (length (now (answer .entry)))) in
+        (r ≡ returned (e .reply)) × (now (answer .exit) ≡ answered (now (answer .entry)) (e .reply))) ⌝ }
 {
     calls_session::show_session(image, ledger, user, session, answer)
 }
@@ -122,19 +119,15 @@ pub extern "C" fn nutrameza_ask(
     role_aim: u64,
     answer: &mut [u8],
 ) -> u64
-    ensures { λ r. ⌜ (r ≡ returned (step SESSIONS (now (image .entry)) (now (ledger .entry))
-        (askBy user session (now (lower .entry)) (now (upper .entry)) «permission_aim» «role_aim» (length (now (answer .entry)))) .reply))
-        × (now (ledger .exit) ≡ step SESSIONS (now (image .entry)) (now (ledger .entry))
-        (askBy user session (now (lower .entry)) (now (upper .entry)) «permission_aim» «role_aim» (length (now (answer .entry)))) .ledger)
-        × (now (answer .exit) ≡ answered (now (answer .entry))
-        (step SESSIONS (now (image .entry)) (now (ledger .entry))
-        (askBy user session (now (lower .entry)) (now (upper .entry)) «permission_aim» «role_aim» (length (now (answer .entry)))) .reply)) ⌝ }
+    ensures { λ r. ⌜ (let e = step SESSIONS (now (image .entry)) (now (ledger .entry))
+        (askBy user session (now (lower .entry)) (now (upper .entry)) «permission_aim» «role_aim» (length (now (answer .entry)))) in
+        (r ≡ returned (e .reply)) × (now (ledger .exit) ≡ e .ledger) × (now (answer .exit) ≡ answered (now (answer .entry)) (e .reply))) ⌝ }
 {
-    let window = Window { user, session };
+    let who = UserSession { user, session };
     calls_session::ask_roles(
         image,
         ledger,
-        window,
+        who,
         lower,
         upper,
         permission_aim,
@@ -154,13 +147,9 @@ pub extern "C" fn nutrameza_short_ask(
     upper: &[u8],
     answer: &mut [u8],
 ) -> u64
-    ensures { λ r. ⌜ (r ≡ returned (step SESSIONS (now (image .entry)) (now (ledger .entry))
-        (shortAskBy user session (now (lower .entry)) (now (upper .entry)) (length (now (answer .entry)))) .reply))
-        × (now (ledger .exit) ≡ step SESSIONS (now (image .entry)) (now (ledger .entry))
-        (shortAskBy user session (now (lower .entry)) (now (upper .entry)) (length (now (answer .entry)))) .ledger)
-        × (now (answer .exit) ≡ answered (now (answer .entry))
-        (step SESSIONS (now (image .entry)) (now (ledger .entry))
-        (shortAskBy user session (now (lower .entry)) (now (upper .entry)) (length (now (answer .entry)))) .reply)) ⌝ }
+    ensures { λ r. ⌜ (let e = step SESSIONS (now (image .entry)) (now (ledger .entry))
+        (shortAskBy user session (now (lower .entry)) (now (upper .entry)) (length (now (answer .entry)))) in
+        (r ≡ returned (e .reply)) × (now (ledger .exit) ≡ e .ledger) × (now (answer .exit) ≡ answered (now (answer .entry)) (e .reply))) ⌝ }
 {
     calls_short::short_ask(image, ledger, user, session, lower, upper, answer)
 }
@@ -169,8 +158,8 @@ pub extern "C" fn nutrameza_short_ask(
 // they were, and the new sessions are closed. 9 is by 80 bytes a user, 19 by 144; the extra of 11 is the user.
 #[no_mangle]
 pub extern "C" fn nutrameza_widen(image: &[u8], old: &[u8], new: &mut [u8]) -> u64
-    ensures { λ r. ⌜ (r ≡ returned (widened (now (image .entry)) (now (old .entry)) (now (new .entry)) .reply))
-        × (now (new .exit) ≡ widened (now (image .entry)) (now (old .entry)) (now (new .entry)) .ledger) ⌝ }
+    ensures { λ r. ⌜ (let e = widened (now (image .entry)) (now (old .entry)) (now (new .entry)) in
+        (r ≡ returned (e .reply)) × (now (new .exit) ≡ e .ledger)) ⌝ }
 {
     calls_moves::widen(image, old, new)
 }
@@ -179,8 +168,8 @@ pub extern "C" fn nutrameza_widen(image: &[u8], old: &[u8], new: &mut [u8]) -> u
 // the sessions 4 to 7 is open; the extra of 11 and 24 is the user.
 #[no_mangle]
 pub extern "C" fn nutrameza_narrow(image: &[u8], old: &[u8], new: &mut [u8]) -> u64
-    ensures { λ r. ⌜ (r ≡ returned (narrowed (now (image .entry)) (now (old .entry)) (now (new .entry)) .reply))
-        × (now (new .exit) ≡ narrowed (now (image .entry)) (now (old .entry)) (now (new .entry)) .ledger) ⌝ }
+    ensures { λ r. ⌜ (let e = narrowed (now (image .entry)) (now (old .entry)) (now (new .entry)) in
+        (r ≡ returned (e .reply)) × (now (new .exit) ≡ e .ledger)) ⌝ }
 {
     calls_moves::narrow(image, old, new)
 }
@@ -188,8 +177,8 @@ pub extern "C" fn nutrameza_narrow(image: &[u8], old: &[u8], new: &mut [u8]) -> 
 // Fills the buffer with the closed grant table: 32 bytes for each of 64 roles, the permissions that the role carries.
 #[no_mangle]
 pub extern "C" fn nutrameza_table(image: &[u8], table: &mut [u8]) -> u64
-    ensures { λ r. ⌜ (r ≡ returned (tableCall (now (image .entry)) (length (now (table .entry)))))
-        × (now (table .exit) ≡ answered (now (table .entry)) (tableCall (now (image .entry)) (length (now (table .entry))))) ⌝ }
+    ensures { λ r. ⌜ (let a = tableCall (now (image .entry)) (length (now (table .entry))) in
+        (r ≡ returned a) × (now (table .exit) ≡ answered (now (table .entry)) a)) ⌝ }
 {
     calls_image::fill_table(image, table)
 }
@@ -197,8 +186,8 @@ pub extern "C" fn nutrameza_table(image: &[u8], table: &mut [u8]) -> u64
 // Turns a table of 64 rows of 32 bytes into one of 256 rows of 8: bit p of row r goes to bit r of row p.
 #[no_mangle]
 pub extern "C" fn nutrameza_turn(source: &[u8], target: &mut [u8]) -> u64
-    ensures { λ r. ⌜ (r ≡ returned (turnCall (now (source .entry)) (length (now (target .entry)))))
-        × (now (target .exit) ≡ answered (now (target .entry)) (turnCall (now (source .entry)) (length (now (target .entry))))) ⌝ }
+    ensures { λ r. ⌜ (let a = turnCall (now (source .entry)) (length (now (target .entry))) in
+        (r ≡ returned a) × (now (target .exit) ≡ answered (now (target .entry)) a)) ⌝ }
 {
     grant_table_turned::bytes::turn_bytes(source, target)
 }
@@ -206,8 +195,8 @@ pub extern "C" fn nutrameza_turn(source: &[u8], target: &mut [u8]) -> u64
 // Turns a table of 256 rows of 8 bytes back into one of 64 rows of 32: bit r of row p goes to bit p of row r.
 #[no_mangle]
 pub extern "C" fn nutrameza_unturn(source: &[u8], target: &mut [u8]) -> u64
-    ensures { λ r. ⌜ (r ≡ returned (unturnCall (now (source .entry)) (length (now (target .entry)))))
-        × (now (target .exit) ≡ answered (now (target .entry)) (unturnCall (now (source .entry)) (length (now (target .entry))))) ⌝ }
+    ensures { λ r. ⌜ (let a = unturnCall (now (source .entry)) (length (now (target .entry))) in
+        (r ≡ returned a) × (now (target .exit) ≡ answered (now (target .entry)) a)) ⌝ }
 {
     grant_table_turned::bytes::unturn_bytes(source, target)
 }

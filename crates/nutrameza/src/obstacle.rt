@@ -17,11 +17,9 @@ pub extern "C" fn nutrameza_obstacle(
     upper: &[u8],
     roles: &mut [u8],
 ) -> u64
-    ensures { λ r. ⌜ (r ≡ returned (step SESSIONS (now (image .entry)) (now (ledger .entry))
-        (obstacleBy user session (now (lower .entry)) (now (upper .entry)) (length (now (roles .entry)))) .reply))
-        × (now (roles .exit) ≡ answered (now (roles .entry))
-        (step SESSIONS (now (image .entry)) (now (ledger .entry))
-        (obstacleBy user session (now (lower .entry)) (now (upper .entry)) (length (now (roles .entry)))) .reply)) ⌝ }
+    ensures { λ r. ⌜ (let e = step SESSIONS (now (image .entry)) (now (ledger .entry))
+        (obstacleBy user session (now (lower .entry)) (now (upper .entry)) (length (now (roles .entry)))) in
+        (r ≡ returned (e .reply)) × (now (roles .exit) ≡ answered (now (roles .entry)) (e .reply))) ⌝ }
 {
     calls_obstacle::tell_obstacle(image, ledger, user, session, lower, upper, roles)
 }

@@ -6,7 +6,7 @@ use Prim.Native.Nat.{ℕ, _+_, _≤_, _<_}
 use native.Mathlib.Omega.{arith}
 use lib.ListN.{length, getD, take, drop}
 use Rattle.model_script.specs.Script.{answerTo, printed, printedFor}
-use Rattle.script_text.specs.Writing.{Puts}
+use Rattle.script_text.specs.Writing.{Stores}
 use Rattle.script_text.proofs.TextLaws.{text-put}
 use Rattle.script_input.specs.Kept.{linesFrom}
 use Rattle.script_input.proofs.Steps.{ends, last-none, last-some}
@@ -15,7 +15,7 @@ use Rattle.script_answers.specs.Buffers.{outcome}
 -- a newline has the line answered
 pub is-answered : (image chunk : List ℕ) (i : ℕ) (l : List ℕ) (k : ℕ) (ledger out : List ℕ) (calls at : ℕ) (ledger′ out′ : List ℕ) (r : ℕ)
     → i < length chunk → getD chunk i 0 ≡ 10 → at ≤ length out → r ≤ length out
-    → Puts out at (printed (calls + 1) (answerTo image ledger (take k l) .reply)) out′ r → ledger′ ≡ answerTo image ledger (take k l) .ledger
+    → Stores out at (printed (calls + 1) (answerTo image ledger (take k l) .reply)) out′ r → ledger′ ≡ answerTo image ledger (take k l) .ledger
     → (more : List ℕ) → outcome image ledger calls (take at out) (linesFrom (take k l) (drop i chunk ++ more))
     ≡ outcome image ledger′ (calls + 1) (take r out′) (linesFrom (take 0 l) (drop (i + 1) chunk ++ more))
 unfolding outcome printedFor
@@ -34,7 +34,8 @@ last-nothing image l ledger k calls h = sym (ap (outcome image ledger calls []) 
 
 -- and a line that is begun is answered
 pub last-answered : (image l ledger out : List ℕ) (k calls : ℕ) (out′ : List ℕ) (r : ℕ) → length l ≡ 174 → k ≤ 174 → 0 < k → r ≤ length out
-    → Puts out 0 (printed (calls + 1) (answerTo image ledger (take k l) .reply)) out′ r → take r out′ ≡ outcome image ledger calls [] (linesFrom (take k l) [])
+    → Stores out 0 (printed (calls + 1) (answerTo image ledger (take k l) .reply)) out′ r
+    → take r out′ ≡ outcome image ledger calls [] (linesFrom (take k l) [])
 unfolding outcome linesFrom printedFor
 last-answered image l ledger out k calls out′ r e m h n p =
     text-put (omega arith) n p

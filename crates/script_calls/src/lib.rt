@@ -4,6 +4,7 @@ ghost use lib.ListN.{length};
 ghost use Rattle.asks.specs.Asks.{Answers};
 ghost use Rattle.model_script.specs.Script.{answerBy};
 ghost use Rattle.script_parse.specs.Reading.{callIn};
+use model::refusals;
 use nutrameza::nutrameza_ask;
 use nutrameza::nutrameza_close;
 use nutrameza::nutrameza_open;
@@ -41,6 +42,6 @@ pub fn call(image: &[u8], ledger: &mut [u8], p: Parsed, answer: &mut [u8]) -> u6
                 answer,
             )
         }
-        Form::Unreadable => 21,
+        Form::Unreadable => refusals::SCRIPT,
     }
 }

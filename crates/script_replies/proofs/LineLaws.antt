@@ -13,7 +13,7 @@ use Rattle.script_parse.specs.declared.Parsed.{Parsed}
 use Rattle.model_script.specs.Script.{parse, lineOf, printed, answerBy, answerTo}
 use Rattle.script_parse.specs.Reading.{callIn}
 use Rattle.model_script.proofs.ReplyLaws.{step-small, number-returned, extra-returned}
-use Rattle.script_text.specs.Writing.{Puts}
+use Rattle.script_text.specs.Writing.{Stores}
 use Rattle.script_text.proofs.TextLaws.{puts-as}
 use Rattle.asks.specs.Asks.{Answers}
 
@@ -73,6 +73,6 @@ module _ (image ledger line : List ℕ) (p : Parsed) (n code : ℕ) (after answe
       rw (a .number, a .buffer, k .number-is, k .extra-is, roles-filled (r .filled), permissions-filled (r .filled)) e
 
   pub line-written : (before out : List ℕ) (at next : ℕ)
-      → Puts before at (lineOf n (code % 256) (code / 256) (number (take 8 answer)) (number (drop 8 answer))) out next
-      → Puts before at (printed n (answerTo image ledger line .reply)) out next
+      → Stores before at (lineOf n (code % 256) (code / 256) (number (take 8 answer)) (number (drop 8 answer))) out next
+      → Stores before at (printed n (answerTo image ledger line .reply)) out next
   line-written before out at next w = puts-as line-is w

@@ -4,7 +4,7 @@ ghost use mathlib.Core.Path.{_≡_};
 ghost use Prim.Native.Nat.{_+_, _≤_, _<_};
 ghost use lib.ListN.{length};
 ghost use Rattle.model_script.specs.Script.{answerTo, printed};
-ghost use Rattle.script_text.specs.Writing.{Puts};
+ghost use Rattle.script_text.specs.Writing.{Stores};
 
 // Answers a line of a script: makes its call, and returns the number of the answer.
 pub fn answer(image: &[u8], ledger: &mut [u8], line: &[u8]) -> u64
@@ -28,7 +28,7 @@ pub fn respond(
     at: usize,
 ) -> usize
     requires { ⌜ at + 160 ≤ length (now out) ⌝ }
-    ensures { λ r. ⌜ (Puts (now (out .entry)) at
+    ensures { λ r. ⌜ (Stores (now (out .entry)) at
         (printed n (answerTo (now (image .entry)) (now (ledger .entry)) (now (line .entry)) .reply)) (now (out .exit)) r)
         × (r ≤ at + 160)
         × (now (ledger .exit) ≡ answerTo (now (image .entry)) (now (ledger .entry)) (now (line .entry)) .ledger) ⌝ }

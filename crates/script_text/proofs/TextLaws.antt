@@ -12,7 +12,7 @@ use lib.Seq.{sets, sets-eq, take-at, length-take-le}
 use borrow.Author.Tests.{lt-ltb, le-ltb, ltb-true, ltb-false}
 use Rattle.model.specs.Tests.{pick}
 use Rattle.model_script.specs.Script.{glyph, digitsOf, numeral}
-use Rattle.script_text.specs.Writing.{Puts, pairOf}
+use Rattle.script_text.specs.Writing.{Stores, pairOf}
 
 -- ---- texts one behind the other
 
@@ -20,11 +20,11 @@ sets-joined : (l xs ys : List ℕ) (at : ℕ) → sets l at (xs ++ ys) ≡ sets 
 sets-joined l [] ys at = rw (add-zero at)
 sets-joined l (x ∷ xs) ys at = sets-joined (set l at x) xs ys (suc at) ∙ rw (suc-add at (length xs), add-suc at (length xs))
 
-pub put-nothing : (l : List ℕ) (at : ℕ) → Puts l at [] l at
+pub put-nothing : (l : List ℕ) (at : ℕ) → Stores l at [] l at
 put-nothing l at = record { next-is = sym (add-zero at); after-is = refl }
 
 pub puts-joined :
-    {l m a xs ys : List ℕ} {at n r : ℕ} → Puts l at xs m n → Puts m n ys a r → Puts l at (xs ++ ys) a r
+    {l m a xs ys : List ℕ} {at n r : ℕ} → Stores l at xs m n → Stores m n ys a r → Stores l at (xs ++ ys) a r
 puts-joined {l} {m} {a} {xs} {ys} {at} {n} {r} p q =
     record {
       next-is = q .next-is ∙ ap (λ x. x + length ys) (p .next-is) ∙ omega (arith, length-append xs ys);
@@ -32,11 +32,11 @@ puts-joined {l} {m} {a} {xs} {ys} {at} {n} {r} p q =
     }
 
 -- the same, where the text is known by another name
-pub puts-as : {l a xs ys : List ℕ} {at r : ℕ} → xs ≡ ys → Puts l at xs a r → Puts l at ys a r
-puts-as {l} {a} {xs} {ys} {at} {r} e p = subst (λ t. Puts l at t a r) e p
+pub puts-as : {l a xs ys : List ℕ} {at r : ℕ} → xs ≡ ys → Stores l at xs a r → Stores l at ys a r
+puts-as {l} {a} {xs} {ys} {at} {r} e p = subst (λ t. Stores l at t a r) e p
 
 -- the text in the first bytes of a buffer, with the text that is stored behind it
-pub text-put : {out behind text : List ℕ} {at r : ℕ} → at ≤ length out → r ≤ length out → Puts out at text behind r → take r behind ≡ take at out ++ text
+pub text-put : {out behind text : List ℕ} {at r : ℕ} → at ≤ length out → r ≤ length out → Stores out at text behind r → take r behind ≡ take at out ++ text
 text-put {out} {behind} {text} {at} {r} h k p =
     let n : length (take at out ++ text) ≡ r = length-append (take at out) text ∙ omega (arith, length-take-le at out h, p .next-is) in
     rw (p .after-is, sets-eq text out at (omega (arith, p .next-is))) (take-at (take at out ++ text) (drop (at + length text) out) r n)

@@ -8,7 +8,7 @@ use lib.Seq.{sets}
 use Rattle.model_script.specs.Script.{glyph}
 
 -- a text is stored in a buffer from a place on, and nothing else is changed; next is the place behind it
-pub record Puts (before : List ℕ) (at : ℕ) (text after : List ℕ) (next : ℕ) : Type 0 where
+pub record Stores (before : List ℕ) (at : ℕ) (text after : List ℕ) (next : ℕ) : Type 0 where
   pub next-is : next ≡ at + length text
   pub after-is : after ≡ sets before at text
 

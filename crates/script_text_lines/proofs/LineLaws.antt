@@ -9,7 +9,7 @@ use lib.Seq.{drop-cons, drop-length, take-all}
 use Rattle.model.specs.Tests.{pick}
 use Rattle.model.specs.Bytes.{number}
 use Rattle.model_script.specs.Script.{glyph, numeral, lineOf}
-use Rattle.script_text.specs.Writing.{Puts, pairOf}
+use Rattle.script_text.specs.Writing.{Stores, pairOf}
 use Rattle.script_text.proofs.TextLaws.{puts-joined, puts-as, numeral-one, numeral-more, numeral-length, two≤10, two≤16}
 use Rattle.script_text_lines.specs.Pairs.{pairsOf, Highest}
 
@@ -99,23 +99,23 @@ decimal-length n h = numeral-length 10 two≤10 19 n (omega arith)
 pub decimal-room : (at n size : ℕ) → n < 2 ^ 64 → at + 20 ≤ size → at + length (numeral 10 n) ≤ size
 decimal-room at n size h k = omega (arith, decimal-length n h)
 
-pub decimal-end : (n : ℕ) {l a : List ℕ} {at r : ℕ} → n < 2 ^ 64 → Puts l at (numeral 10 n) a r → r ≤ at + 20
+pub decimal-end : (n : ℕ) {l a : List ℕ} {at r : ℕ} → n < 2 ^ 64 → Stores l at (numeral 10 n) a r → r ≤ at + 20
 decimal-end n h p = omega (arith, p .next-is, decimal-length n h)
 
 pub permissions-part : (l : List ℕ) → length l ≡ 40 → take 32 (drop 8 l) ≡ drop 8 l
 permissions-part l h = take-all 32 (drop 8 l) (rw (length-drop 8 l) (omega arith))
 
 -- a blank in front
-pub blank-put : {l m a ys : List ℕ} {at k r : ℕ} → Puts l at (32 ∷ []) m k → Puts m k ys a r → Puts l at (32 ∷ ys) a r
+pub blank-put : {l m a ys : List ℕ} {at k r : ℕ} → Stores l at (32 ∷ []) m k → Stores m k ys a r → Stores l at (32 ∷ ys) a r
 blank-put p q = puts-joined p q
 
 -- the parts of a line, one behind the other
 pub line-put :
     (n a x : ℕ) (answer : List ℕ) {l₀ l₁ l₂ l₃ l₄ l₅ l₆ roles permissions : List ℕ} {at r₁ r₂ r₃ r₄ r₅ r₆ : ℕ} → roles ≡ take 8 answer
-    → permissions ≡ drop 8 answer → Puts l₀ at (numeral 10 n) l₁ r₁ → Puts l₁ r₁ (32 ∷ numeral 10 a) l₂ r₂
-    → Puts l₂ r₂ (32 ∷ numeral 10 x) l₃ r₃ → Puts l₃ r₃ (32 ∷ numeral 16 (number roles)) l₄ r₄
-    → Puts l₄ r₄ (32 ∷ numeral 16 (number permissions)) l₅ r₅ → Puts l₅ r₅ (10 ∷ []) l₆ r₆
-    → Puts l₀ at (lineOf n a x (number (take 8 answer)) (number (drop 8 answer))) l₆ r₆
+    → permissions ≡ drop 8 answer → Stores l₀ at (numeral 10 n) l₁ r₁ → Stores l₁ r₁ (32 ∷ numeral 10 a) l₂ r₂
+    → Stores l₂ r₂ (32 ∷ numeral 10 x) l₃ r₃ → Stores l₃ r₃ (32 ∷ numeral 16 (number roles)) l₄ r₄
+    → Stores l₄ r₄ (32 ∷ numeral 16 (number permissions)) l₅ r₅ → Stores l₅ r₅ (10 ∷ []) l₆ r₆
+    → Stores l₀ at (lineOf n a x (number (take 8 answer)) (number (drop 8 answer))) l₆ r₆
 unfolding lineOf
 line-put n a x answer e f p q s u v z =
     puts-as (rw (e, f)) (puts-joined (puts-joined (puts-joined (puts-joined (puts-joined p q) s) u) v) z)

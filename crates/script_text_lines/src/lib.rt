@@ -5,7 +5,7 @@ ghost use Prim.Native.Nat.{_+_, _*_, _/_, _%_, _≤_, _<_};
 ghost use lib.ListN.{length, take, drop};
 ghost use Rattle.model.specs.Bytes.{number as numberOf};
 ghost use Rattle.model_script.specs.Script.{numeral, lineOf};
-ghost use Rattle.script_text.specs.Writing.{Puts};
+ghost use Rattle.script_text.specs.Writing.{Stores};
 ghost use Rattle.script_text_lines.specs.Pairs.{pairsOf, Highest};
 use script_text::glyph;
 use script_text::put;
@@ -23,7 +23,7 @@ fn narrow(d: u64) -> u8
 // Writes a number in decimal.
 pub fn put_decimal(out: &mut [u8], at: usize, n: u64) -> usize
     requires { ⌜ at + length (numeral 10 n) ≤ length (now out) ⌝ }
-    ensures { λ r. ⌜ Puts (now (out .entry)) at (numeral 10 n) (now (out .exit)) r ⌝ }
+    ensures { λ r. ⌜ Stores (now (out .entry)) at (numeral 10 n) (now (out .exit)) r ⌝ }
 {
     if n < 10 {
         let d = glyph(narrow(n));
@@ -37,7 +37,7 @@ pub fn put_decimal(out: &mut [u8], at: usize, n: u64) -> usize
 // Writes both digits of each of the k lowest bytes, the highest first.
 fn put_pairs(out: &mut [u8], at: usize, bytes: &[u8], k: usize) -> usize
     requires { ⌜ (at + 2 * k ≤ length (now out)) × (k ≤ length (now bytes)) ⌝ }
-    ensures { λ r. ⌜ Puts (now (out .entry)) at (pairsOf k (now (bytes .entry))) (now (out .exit)) r ⌝ }
+    ensures { λ r. ⌜ Stores (now (out .entry)) at (pairsOf k (now (bytes .entry))) (now (out .exit)) r ⌝ }
 {
     let mut next = at;
     let mut i = k;
@@ -66,7 +66,7 @@ fn highest(bytes: &[u8]) -> usize
 // Writes the number that bytes make, the lowest first, in hexadecimal without leading zeros.
 pub fn put_hexadecimal(out: &mut [u8], at: usize, bytes: &[u8]) -> usize
     requires { ⌜ at + 2 * length (now bytes) + 1 ≤ length (now out) ⌝ }
-    ensures { λ r. ⌜ (Puts (now (out .entry)) at (numeral 16 (numberOf (now (bytes .entry)))) (now (out .exit)) r)
+    ensures { λ r. ⌜ (Stores (now (out .entry)) at (numeral 16 (numberOf (now (bytes .entry)))) (now (out .exit)) r)
         × (r ≤ at + 2 * length (now (bytes .entry)) + 1) ⌝ }
 {
     let k = highest(bytes);
@@ -81,7 +81,7 @@ pub fn put_hexadecimal(out: &mut [u8], at: usize, bytes: &[u8]) -> usize
 // Writes the first figure of a line.
 pub fn put_first(out: &mut [u8], at: usize, n: u64) -> usize
     requires { ⌜ at + 20 ≤ length (now out) ⌝ }
-    ensures { λ r. ⌜ (Puts (now (out .entry)) at (numeral 10 n) (now (out .exit)) r) × (r ≤ at + 20) ⌝ }
+    ensures { λ r. ⌜ (Stores (now (out .entry)) at (numeral 10 n) (now (out .exit)) r) × (r ≤ at + 20) ⌝ }
 {
     put_decimal(out, at, n)
 }
@@ -89,7 +89,7 @@ pub fn put_first(out: &mut [u8], at: usize, n: u64) -> usize
 // Writes a blank and a number in decimal.
 pub fn put_number(out: &mut [u8], at: usize, n: u64) -> usize
     requires { ⌜ at + 21 ≤ length (now out) ⌝ }
-    ensures { λ r. ⌜ (Puts (now (out .entry)) at (32 ∷ numeral 10 n) (now (out .exit)) r) × (r ≤ at + 21) ⌝ }
+    ensures { λ r. ⌜ (Stores (now (out .entry)) at (32 ∷ numeral 10 n) (now (out .exit)) r) × (r ≤ at + 21) ⌝ }
 {
     let next = put(out, at, 32);
     put_first(out, next, n)
@@ -98,7 +98,7 @@ pub fn put_number(out: &mut [u8], at: usize, n: u64) -> usize
 // Writes a blank and the set that bytes make in hexadecimal.
 fn put_set(out: &mut [u8], at: usize, bytes: &[u8]) -> usize
     requires { ⌜ at + 2 * length (now bytes) + 2 ≤ length (now out) ⌝ }
-    ensures { λ r. ⌜ (Puts (now (out .entry)) at (32 ∷ numeral 16 (numberOf (now (bytes .entry)))) (now (out .exit)) r)
+    ensures { λ r. ⌜ (Stores (now (out .entry)) at (32 ∷ numeral 16 (numberOf (now (bytes .entry)))) (now (out .exit)) r)
         × (r ≤ at + 2 * length (now (bytes .entry)) + 2) ⌝ }
 {
     let next = put(out, at, 32);
@@ -123,7 +123,7 @@ fn permissions_of(answer: &[u8]) -> &[u8]
 // Writes the line of call n for an answer: its number, its extra, and the 40 bytes of roles and permissions.
 pub fn put_line(out: &mut [u8], at: usize, n: u64, number: u64, extra: u64, answer: &[u8]) -> usize
     requires { ⌜ (at + 160 ≤ length (now out)) × (length (now answer) ≡ 40) ⌝ }
-    ensures { λ r. ⌜ (Puts (now (out .entry)) at
+    ensures { λ r. ⌜ (Stores (now (out .entry)) at
         (lineOf n number extra (numberOf (take 8 (now (answer .entry)))) (numberOf (drop 8 (now (answer .entry))))) (now (out .exit)) r)
         × (r ≤ at + 160) ⌝ }
 {

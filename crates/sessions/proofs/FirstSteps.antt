@@ -7,9 +7,9 @@ use mathlib.Core.List.{List, [], _∷_}
 use Prim.Native.Nat.{ℕ, suc, _+_, _*_, _^_, _≤_, _<_}
 use native.Mathlib.Nat.{add-zero}
 use native.Mathlib.Omega.{arith}
-use lib.Dec.{eqb, ltb}
+use lib.Dec.{eqb, ltb, leb}
 use lib.ListN.{length, getD}
-use borrow.Author.Tests.{eq-eqb, ne-eqb, lt-ltb, le-ltb, eqb-true, ltb-true, le-leb, lt-leb, not-true, not-false}
+use borrow.Author.Tests.{eq-eqb, ne-eqb, lt-ltb, le-ltb, eqb-true, ltb-true, le-leb, lt-leb, leb-true, leb-false, not-false}
 use Rattle.model.specs.declared.Head.{Head}
 use Rattle.model.specs.declared.Exclusions.{Exclusions}
 use Rattle.model.specs.declared.Line.{Line}
@@ -23,7 +23,7 @@ use Rattle.model_laws.proofs.Bools.{and-l}
 use Rattle.model_laws.proofs.LedgerLaws.{apart, own-line, step-below}
 use Rattle.model_laws.proofs.Reaches.{authorized-alone}
 use Rattle.ledger.specs.Held.{Held}
-use Rattle.sessions.specs.Calls.{Known, policyBy, firstRefusal, Gives, Shows}
+use Rattle.sessions.specs.Calls.{Known, policyBy, firstRefusal, sessionRefusal, Gives, Shows}
 
 -- nested `pick`s of refusals' numbers: where they give 0, no test holds
 pub pick-none : (b : Bool) (n x : ℕ) → 0 ≡ pick b (suc n) x → (b ≡ false) × (0 ≡ x)
@@ -191,14 +191,14 @@ module _ (W : ℕ) (p : Policy) (ledger : List ℕ) (c : Call) where
 
   -- a call on a session, whose first tests are the line's, the session's number and whether it is open
   module _ (r : Ready W p ledger (c .user)) (rest : List Refusal) (e : canGive (c .operation) ≡ bad-line ∷ bad-session ∷ is-closed ∷ rest) where
-    pub session12 : W ≤ sessionOf (c .operation) → stepOn W p ledger c ≡ refusedBy 12 ledger
+    refuses12 : W ≤ sessionOf (c .operation) → stepOn W p ledger c ≡ refusedBy 12 ledger
     unfolding applies refusalNumber refusalExtra
-    session12 h = refuses r bad-session refl (rw e (fails _ _ _ (ap not (r .sound-line)) ∙ holds _ _ _ (le-leb _ _ h)))
+    refuses12 h = refuses r bad-session refl (rw e (fails _ _ _ (ap not (r .sound-line)) ∙ holds _ _ _ (le-leb _ _ h)))
 
     module _ (below : sessionOf (c .operation) < W) where
-      pub session13 : isOpen (lineOf W ledger (c .user)) (sessionOf (c .operation)) ≡ false → stepOn W p ledger c ≡ refusedBy 13 ledger
+      refuses13 : isOpen (lineOf W ledger (c .user)) (sessionOf (c .operation)) ≡ false → stepOn W p ledger c ≡ refusedBy 13 ledger
       unfolding applies refusalNumber refusalExtra
-      session13 o =
+      refuses13 o =
           refuses r is-closed refl
           (rw e (fails _ _ _ (ap not (r .sound-line)) ∙ fails _ _ _ (lt-leb _ _ below) ∙ holds _ _ _ (ap not o)))
 
@@ -208,6 +208,19 @@ module _ (W : ℕ) (p : Policy) (ledger : List ℕ) (c : Call) where
           first test (canGive (c .operation)) ≡ first test rest)
       unfolding applies
       passes o = rw e (fails _ _ _ (ap not (r .sound-line)) ∙ fails _ _ _ (lt-leb _ _ below) ∙ fails _ _ _ (ap not o))
+
+    -- 12 or 13, by the line that code holds
+    pub session-stopped : (l : Line) → l ≡ lineOf W ledger (c .user) → (n : ℕ) → n ≡ sessionRefusal W l (sessionOf (c .operation)) → (n ≡ 0 → ⊥)
+        → stepOn W p ledger c ≡ refusedBy n ledger
+    unfolding sessionRefusal pick
+    session-stopped l el n h z =
+        go (leb W (sessionOf (c .operation))) refl (isOpen l (sessionOf (c .operation))) refl h
+      where
+        go : (a : Bool) → leb W (sessionOf (c .operation)) ≡ a → (b : Bool) → isOpen l (sessionOf (c .operation)) ≡ b
+            → n ≡ pick {X = ℕ} a 12 (pick {X = ℕ} (not b) 13 0) → stepOn W p ledger c ≡ refusedBy n ledger
+        go true f b g h = refuses12 (leb-true _ _ f) ∙ ap (λ (i : ℕ). refusedBy i ledger) (sym h)
+        go false f false g h = refuses13 (leb-false _ _ f) (rw (← el) g) ∙ ap (λ (i : ℕ). refusedBy i ledger) (sym h)
+        go false f true g h = absurd (z h)
 
 -- ---- what code knows of a call that none of them refuses
 
@@ -259,11 +272,3 @@ passed W head own xs ledger u n e z =
       bits = open-bits W (meaning p u) (lineOf W ledger u) (r .sound-line);
       ready = λ q k. ready W q ledger u (sym z ∙ e q k);
     }
-
--- whether the session is open, by the line that code holds
-module _ (l m : Line) (k : ℕ) (o : Bool) (e : l ≡ m) (f : o ≡ isOpen l k) where
-  pub closed-at : not o ≡ true → isOpen m k ≡ false
-  closed-at t = rw (← e, ← f) (not-true o t)
-
-  pub open-at : not o ≡ false → isOpen m k ≡ true
-  open-at t = rw (← e, ← f) (not-false o t)

@@ -10,39 +10,36 @@ ghost use Rattle.sessions.specs.Calls.{Known, Gives};
 use ledger::bytes::line_of;
 use ledger::bytes::put_line;
 use ledger_change::closed;
-use ledger_change::is_open;
-use model::SESSIONS;
 use sessions::first::first_refusal;
-use sessions::given::Rules;
-use sessions::given::Window;
+use sessions::first::session_refusal;
+use sessions::given::Sizes;
+use sessions::given::UserSession;
 
 // The user's session is closed; the user's history stays.
 pub fn close_session(
     ledger: &mut [u8],
-    rules: Rules,
+    sizes: Sizes,
     authorized: &[u64; 64],
     xs: &[[u64; 2]; 32],
-    window: Window,
+    who: UserSession,
 ) -> u64
-    requires { ⌜ (rules .head .users ≤ 64) × (rules .count ≤ 32) × (length (now xs) ≡ 32) ⌝ }
-    ensures { λ r. ⌜ ((p : Policy) → Known (rules .head) (now (authorized .entry)) (exclusionsIn (now (xs .entry)) (rules .count)) p
-        → Gives (stepOn SESSIONS p (now (ledger .entry)) (closeBy (window .user) (window .session))) r (now (ledger .exit))) ⌝ }
+    requires { ⌜ (sizes .head .users ≤ 64) × (sizes .count ≤ 32) × (length (now xs) ≡ 32) ⌝ }
+    ensures { λ r. ⌜ ((p : Policy) → Known (sizes .head) (now (authorized .entry)) (exclusionsIn (now (xs .entry)) (sizes .count)) p
+        → Gives (stepOn SESSIONS p (now (ledger .entry)) (closeBy (who .user) (who .session))) r (now (ledger .exit))) ⌝ }
 {
-    let user = window.user;
-    let session = window.session;
-    let n = first_refusal(ledger, rules, authorized, xs, user);
+    let user = who.user;
+    let session = who.session;
+    let n = first_refusal(ledger, sizes, authorized, xs, user);
     if n != 0 {
         return n;
     }
-    if SESSIONS as u64 <= session {
-        return 12;
-    }
     let u = user as usize;
-    let k = session as usize;
     let l = line_of(ledger, u);
-    if !is_open(l, k) {
-        return 13;
+    let m = session_refusal(l, session);
+    if m != 0 {
+        return m;
     }
+    let k = session as usize;
     let next = closed(l, k);
     put_line(ledger, u, next);
     0

@@ -9,48 +9,46 @@ ghost use Rattle.sets.specs.Words.{values};
 ghost use Rattle.exclusion_rows.specs.Rows.{exclusionsIn};
 ghost use Rattle.sessions.specs.Calls.{Known};
 use ledger::bytes::line_of;
-use ledger_change::is_open;
 use model::Permission;
-use model::SESSIONS;
+use model::refusals;
 use sessions::first::first_refusal;
-use sessions::given::Rules;
-use sessions::given::Window;
+use sessions::first::session_refusal;
+use sessions::given::Sizes;
+use sessions::given::UserSession;
 use tables_rows::explain::explain;
 
 // The lowest active role of the user's session that carries the permission, with its granting role.
 pub fn explain_session(
     ledger: &[u8],
-    rules: Rules,
+    sizes: Sizes,
     authorized: &[u64; 64],
     granted: &[[u64; 4]; 64],
     below: &[u64; 64],
     xs: &[[u64; 2]; 32],
-    window: Window,
+    who: UserSession,
     permission: u64,
 ) -> u64
-    requires { ⌜ (rules .head .users ≤ 64) × (rules .head .permissions ≤ 256) × (rules .count ≤ 32) × (length (now xs) ≡ 32) ⌝ }
-    ensures { λ r. ⌜ ((p : Policy) → Known (rules .head) (now (authorized .entry)) (exclusionsIn (now (xs .entry)) (rules .count)) p
+    requires { ⌜ (sizes .head .users ≤ 64) × (sizes .head .permissions ≤ 256) × (sizes .count ≤ 32) × (length (now xs) ≡ 32) ⌝ }
+    ensures { λ r. ⌜ ((p : Policy) → Known (sizes .head) (now (authorized .entry)) (exclusionsIn (now (xs .entry)) (sizes .count)) p
         → values (now (granted .entry)) ≡ p .granted
         → now (below .entry) ≡ belowTable p
-        → r ≡ returned (stepOn SESSIONS p (now (ledger .entry)) (explainBy (window .user) (window .session) permission) .reply)) ⌝ }
+        → r ≡ returned (stepOn SESSIONS p (now (ledger .entry)) (explainBy (who .user) (who .session) permission) .reply)) ⌝ }
 {
-    let user = window.user;
-    let session = window.session;
-    let n = first_refusal(ledger, rules, authorized, xs, user);
+    let user = who.user;
+    let session = who.session;
+    let n = first_refusal(ledger, sizes, authorized, xs, user);
     if n != 0 {
         return n;
     }
-    if SESSIONS as u64 <= session {
-        return 12;
-    }
     let u = user as usize;
-    let k = session as usize;
     let l = line_of(ledger, u);
-    if !is_open(l, k) {
-        return 13;
+    let m = session_refusal(l, session);
+    if m != 0 {
+        return m;
     }
-    if rules.head.permissions as u64 <= permission {
-        return 16;
+    let k = session as usize;
+    if sizes.head.permissions as u64 <= permission {
+        return refusals::PERMISSION;
     }
     let shown = l.sessions[k];
     let active = shown.active;

@@ -9,49 +9,47 @@ ghost use Rattle.sets.specs.Words.{values};
 ghost use Rattle.exclusion_rows.specs.Rows.{exclusionsIn};
 ghost use Rattle.sessions.specs.Calls.{Known, Shows};
 use ledger::bytes::line_of;
-use ledger_change::is_open;
-use model::SESSIONS;
+use model::refusals;
 use sessions::answer::fill;
 use sessions::first::first_refusal;
-use sessions::given::Rules;
-use sessions::given::Window;
+use sessions::first::session_refusal;
+use sessions::given::Sizes;
+use sessions::given::UserSession;
 use tables_rows::carried::carried_by;
 
 // The active roles of the user's session and the permissions that they carry fill the answer buffer.
 pub fn show_session(
     ledger: &[u8],
-    rules: Rules,
+    sizes: Sizes,
     authorized: &[u64; 64],
     granted: &[[u64; 4]; 64],
     below: &[u64; 64],
     xs: &[[u64; 2]; 32],
-    window: Window,
+    who: UserSession,
     answer: &mut [u8],
 ) -> u64
-    requires { ⌜ (rules .head .users ≤ 64) × (rules .count ≤ 32) × (length (now xs) ≡ 32) ⌝ }
-    ensures { λ r. ⌜ ((p : Policy) → Known (rules .head) (now (authorized .entry)) (exclusionsIn (now (xs .entry)) (rules .count)) p
+    requires { ⌜ (sizes .head .users ≤ 64) × (sizes .count ≤ 32) × (length (now xs) ≡ 32) ⌝ }
+    ensures { λ r. ⌜ ((p : Policy) → Known (sizes .head) (now (authorized .entry)) (exclusionsIn (now (xs .entry)) (sizes .count)) p
         → values (now (granted .entry)) ≡ p .granted
         → now (below .entry) ≡ belowTable p
-        → Shows (stepOn SESSIONS p (now (ledger .entry)) (showBy (window .user) (window .session) (length (now (answer .entry))))) r (now (answer .entry))
+        → Shows (stepOn SESSIONS p (now (ledger .entry)) (showBy (who .user) (who .session) (length (now (answer .entry))))) r (now (answer .entry))
         (now (answer .exit))) ⌝ }
 {
-    let user = window.user;
-    let session = window.session;
-    let n = first_refusal(ledger, rules, authorized, xs, user);
+    let user = who.user;
+    let session = who.session;
+    let n = first_refusal(ledger, sizes, authorized, xs, user);
     if n != 0 {
         return n;
     }
-    if SESSIONS as u64 <= session {
-        return 12;
-    }
     let u = user as usize;
-    let k = session as usize;
     let l = line_of(ledger, u);
-    if !is_open(l, k) {
-        return 13;
+    let m = session_refusal(l, session);
+    if m != 0 {
+        return m;
     }
+    let k = session as usize;
     if answer.len() != 40 {
-        return 19;
+        return refusals::ROOM;
     }
     let shown = l.sessions[k];
     let active = shown.active;

@@ -5,11 +5,11 @@ use mathlib.Core.List.{List, _++_}
 use Prim.Native.Nat.{ℕ, zero, suc, _+_, _≤_, _<_}
 use native.Mathlib.Numerals.{add-one}
 use native.Mathlib.Omega.{arith}
-use Rattle.script_text.specs.Writing.{Puts}
+use Rattle.script_text.specs.Writing.{Stores}
 use Rattle.script_text.proofs.TextLaws.{put-nothing}
 use Rattle.model_survey.specs.Survey.{twoFigures, countLine, countLines}
 
-pub count-none : (l : List ℕ) (at n c : ℕ) → c < 1 → Puts l at (countLine n c) l at
+pub count-none : (l : List ℕ) (at n c : ℕ) → c < 1 → Stores l at (countLine n c) l at
 unfolding countLine
 count-none l at n zero h = put-nothing l at
 count-none l at n (suc c) h = absurd (omega arith)
@@ -19,7 +19,7 @@ unfolding countLine
 count-some n zero h = absurd (omega arith)
 count-some n (suc c) h = refl
 
-pub counts-begin : (f : ℕ → ℕ) (l : List ℕ) (at : ℕ) → Puts l at (countLines f 0) l at
+pub counts-begin : (f : ℕ → ℕ) (l : List ℕ) (at : ℕ) → Stores l at (countLines f 0) l at
 unfolding countLines
 counts-begin f l at = put-nothing l at
 

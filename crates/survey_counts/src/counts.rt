@@ -5,7 +5,7 @@ ghost use Prim.Native.Nat.{_+_, _≤_, _<_};
 ghost use lib.ListN.{length, getD, take};
 ghost use Rattle.model_script.specs.Script.{answerTo};
 ghost use Rattle.script_input.specs.Kept.{linesFrom};
-ghost use Rattle.script_text.specs.Writing.{Puts};
+ghost use Rattle.script_text.specs.Writing.{Stores};
 ghost use Rattle.model_survey.specs.Survey.{countLine, countLines};
 ghost use Rattle.survey_counts.specs.Counting.{noted, tally, Most, CountsChunk};
 use script_input::lines::gather;
@@ -92,7 +92,7 @@ pub fn count_last(
 // Writes the line of a number that has a count.
 fn put_count(out: &mut [u8], at: usize, n: usize, count: u64) -> usize
     requires { ⌜ (at + 42 ≤ length (now out)) × (n < 256) ⌝ }
-    ensures { λ r. ⌜ (Puts (now (out .entry)) at (countLine n count) (now (out .exit)) r) × (r ≤ at + 42) ⌝ }
+    ensures { λ r. ⌜ (Stores (now (out .entry)) at (countLine n count) (now (out .exit)) r) × (r ≤ at + 42) ⌝ }
 {
     if count < 1 {
         return at;
@@ -103,7 +103,7 @@ fn put_count(out: &mut [u8], at: usize, n: usize, count: u64) -> usize
 // Writes the lines of the counts.
 pub fn put_counts(out: &mut [u8], at: usize, counts: &[u64; 256]) -> usize
     requires { ⌜ at + 10752 ≤ length (now out) ⌝ }
-    ensures { λ r. ⌜ (Puts (now (out .entry)) at (countLines (λ n. getD (now (counts .entry)) n 0) 256) (now (out .exit)) r) × (r ≤ at + 10752) ⌝ }
+    ensures { λ r. ⌜ (Stores (now (out .entry)) at (countLines (λ n. getD (now (counts .entry)) n 0) 256) (now (out .exit)) r) × (r ≤ at + 10752) ⌝ }
 {
     let mut next = at;
     for n in 0..256usize {

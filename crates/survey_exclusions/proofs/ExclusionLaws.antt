@@ -24,7 +24,7 @@ use Rattle.image_reader.specs.Places.{exclusionAfter, entriesBehind, exclusionB
 use Rattle.image_reader.proofs.Walk.{Visits, visits-next, visits-start}
 use Rattle.tables.specs.Tables.{Tables}
 use Rattle.tables_exclusions.specs.Exclusions.{exclusionBy as readBy, exclusionAt}
-use Rattle.script_text.specs.Writing.{Puts}
+use Rattle.script_text.specs.Writing.{Stores}
 use Rattle.script_text.proofs.TextLaws.{put-nothing, puts-joined, puts-as, text-put}
 use Rattle.model_binomials.specs.Binomial.{binomial, sumBelow}
 use Rattle.model_survey.specs.Survey.{twoFigures, fourFigures, allowed, exclusionLine, exclusionLines}
@@ -79,7 +79,7 @@ module _ (s : List ℕ) where
   -- so many lines are written, and the exclusions behind the place are the others
   pub record Walked (before : List ℕ) (place i : ℕ) (out : List ℕ) (next : ℕ) : Type 0 where
     pub behind : drop i all ≡ exclusionsOf (entriesBehind s place)
-    pub lines : Puts before 0 (exclusionLines (take i all)) out next
+    pub lines : Stores before 0 (exclusionLines (take i all)) out next
 
   pub walk-none : (out : List ℕ) → Walked out 0 0 out 0
   unfolding exclusionLines policyOf
@@ -108,7 +108,7 @@ module _ (s : List ℕ) where
         pub fits-here : Each Fitting all → Fitting x
         fits-here f = subst (λ y. Fitting y) (sym here) (each-at all i f h)
 
-        pub walk-next : {out′ : List ℕ} {next′ : ℕ} → Puts out next (exclusionLine x) out′ next′ → Walked before q (i + 1) out′ next′
+        pub walk-next : {out′ : List ℕ} {next′ : ℕ} → Stores out next (exclusionLine x) out′ next′ → Walked before q (i + 1) out′ next′
         walk-next p =
             record {
               behind = sym (subst (λ (y : ℕ). exclusionsOf (entriesBehind s y) ≡ drop (i + 1) all) (sym e) (visit .rest));
@@ -119,7 +119,7 @@ module _ (s : List ℕ) where
             }
 
   pub walk-all : {before : List ℕ} {place i : ℕ} {out : List ℕ} {next : ℕ} → Walked before place i out next → length all ≤ i
-      → Puts before 0 (exclusionLines all) out next
+      → Stores before 0 (exclusionLines all) out next
   walk-all {before} {place} {i} w h = puts-as (ap (λ (l : List Exclusion). exclusionLines l) (take-all i all h)) (w .lines)
 
 -- ---- what is printed before the script is read
@@ -131,12 +131,12 @@ rows-all s own granted below limits rows n t =
     sym (length-take-le n (map exclusionOf rows) (omega (arith, t .few, t .full, length-map rows exclusionOf))) ∙ ap length (t .exclusions-are)
 
 pub opens-accepted : (s : List ℕ) (h : Head) (out out′ : List ℕ) (r : ℕ) → judge s ≡ Accepted h → 2688 ≤ length out
-    → Puts out 0 (exclusionLines (policyOf s .exclusions)) out′ r → r ≤ 2688 → Opens s out′ (record { filled = r; accepted = true })
+    → Stores out 0 (exclusionLines (policyOf s .exclusions)) out′ r → r ≤ 2688 → Opens s out′ (record { filled = r; accepted = true })
 unfolding openingOf isAccepted
 opens-accepted s h out out′ r j k p m = record { room = m; text = text-put (omega arith) (omega arith) p ∙ rw j; accepted = rw j }
 
 pub opens-refused : (s : List ℕ) (n place : ℕ) (out out′ : List ℕ) (r : ℕ) → judge s ≡ Refused n place → 2688 ≤ length out
-    → Puts out 0 (twoFigures n place) out′ r → r ≤ 42 → Opens s out′ (record { filled = r; accepted = false })
+    → Stores out 0 (twoFigures n place) out′ r → r ≤ 42 → Opens s out′ (record { filled = r; accepted = false })
 unfolding openingOf isAccepted
 opens-refused s n place out out′ r j k p m =
     record { room = omega arith; text = text-put (omega arith) (omega arith) p ∙ rw j; accepted = rw j }

@@ -4,7 +4,7 @@ ghost use Prim.Native.Nat.{_+_, _≤_};
 ghost use lib.ListN.{length};
 ghost use Rattle.model.specs.Policy.{policyOf};
 ghost use Rattle.model.specs.Ranges.{Each};
-ghost use Rattle.script_text.specs.Writing.{Puts};
+ghost use Rattle.script_text.specs.Writing.{Stores};
 ghost use Rattle.model_survey.specs.Survey.{exclusionLine, exclusionLines};
 ghost use Rattle.survey_exclusions.specs.Writing.{Fitting, Opens};
 use image_reader::exclusion_after;
@@ -23,7 +23,7 @@ pub struct Opening {
 // Writes the line of an exclusion.
 fn put_exclusion(out: &mut [u8], at: usize, x: Exclusion) -> usize
     requires { ⌜ (at + 84 ≤ length (now out)) × Fitting x ⌝ }
-    ensures { λ r. ⌜ (Puts (now (out .entry)) at (exclusionLine x) (now (out .exit)) r) × (r ≤ at + 84) ⌝ }
+    ensures { λ r. ⌜ (Stores (now (out .entry)) at (exclusionLine x) (now (out .exit)) r) × (r ≤ at + 84) ⌝ }
 {
     let kind = x.kind;
     let which = exclusion_rows::number_of(kind);
@@ -37,7 +37,7 @@ fn put_exclusion(out: &mut [u8], at: usize, x: Exclusion) -> usize
 fn put_exclusions(out: &mut [u8], image: &[u8], count: usize) -> usize
     requires { ⌜ (2688 ≤ length (now out)) × (count ≤ 32) × (count ≡ length (policyOf (now image) .exclusions))
         × (Each Fitting (policyOf (now image) .exclusions)) ⌝ }
-    ensures { λ r. ⌜ (Puts (now (out .entry)) 0 (exclusionLines (policyOf (now (image .entry)) .exclusions)) (now (out .exit)) r) × (r ≤ 2688) ⌝ }
+    ensures { λ r. ⌜ (Stores (now (out .entry)) 0 (exclusionLines (policyOf (now (image .entry)) .exclusions)) (now (out .exit)) r) × (r ≤ 2688) ⌝ }
 {
     let words = image.len() / 4;
     let mut next: usize = 0;

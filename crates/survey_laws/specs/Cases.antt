@@ -5,7 +5,7 @@ use mathlib.Core.List.{List, [], _∷_}
 use Prim.Native.String.{String}
 use Prim.Native.Nat.{ℕ}
 use lib.ListN.{take}
-use Rattle.model.specs.Words.{imageBytes, ended}
+use Rattle.model.specs.Words.{headWord, exclusionWord, memberWord, imageBytes, ended}
 use Rattle.model.specs.Tests.{sameList}
 use Rattle.model_cases.specs.Ward.{imageA, threeRoles, imageOfKind}
 use Rattle.model_script.specs.Script.{ascii}
@@ -26,8 +26,9 @@ of image input output = record { image = image; input = input; output = output }
 unfoldable pub fiveRoles : List ℕ
 fiveRoles =
     ended
-    (0x10214020 ∷ 0x50105000 ∷ 0x60000000 ∷ 0x60400000 ∷ 0x60800000 ∷ 0x60C00000 ∷ 0x61000000 ∷ 0x5C285000 ∷ 0x61000000 ∷ 0x60000000 ∷ 0x60400000
-    ∷ 0x60800000 ∷ 0x60C00000 ∷ 0x50105000 ∷ 0x60000000 ∷ 0x60400000 ∷ 0x60800000 ∷ 0x60C00000 ∷ 0x61000000 ∷ [])
+    (headWord 1 5 1 ∷ exclusionWord 0 2 5 ∷ memberWord 0 ∷ memberWord 1 ∷ memberWord 2 ∷ memberWord 3 ∷ memberWord 4
+    ∷ exclusionWord 3 5 5 ∷ memberWord 4 ∷ memberWord 0 ∷ memberWord 1 ∷ memberWord 2 ∷ memberWord 3
+    ∷ exclusionWord 0 2 5 ∷ memberWord 0 ∷ memberWord 1 ∷ memberWord 2 ∷ memberWord 3 ∷ memberWord 4 ∷ [])
 
 unfoldable pub cases : List Case
 cases =

@@ -18,6 +18,8 @@ use image_words::word::head_of;
 use image_words::word::head_right;
 use model::Checked;
 use model::Head;
+use model::layout;
+use model::refusals;
 use tables_exclusions::exclusions::exclusions_at;
 use tables_usual::usual::pass;
 use tables_words::take::Placed;
@@ -51,8 +53,8 @@ fn closing(image: &[u8], words: usize, h: Head, due: u32, sum: u32) -> Checked
     if number != 0 {
         return Checked::Refused(number, end as u16);
     }
-    if std::num::wrapping_add_u32(sum, w) % 268435456 != 0 {
-        return Checked::Refused(8, end as u16);
+    if std::num::wrapping_add_u32(sum, w) % layout::KIND_UNIT != 0 {
+        return Checked::Refused(refusals::BALANCE, end as u16);
     }
     Checked::Accepted(h)
 }
@@ -143,20 +145,20 @@ fn gather(
         (now (xs .exit)) (r .count)) ⌝ }
 {
     let len = image.len();
-    if len % 4 != 0 {
-        return refused(1, 0);
+    if len % layout::WORD_BYTES != 0 {
+        return refused(refusals::LENGTH, 0);
     }
-    if len < 8 {
-        return refused(1, 0);
+    if len < layout::LEAST_BYTES {
+        return refused(refusals::LENGTH, 0);
     }
-    if 16384 < len {
-        return refused(1, 0);
+    if layout::MOST_BYTES < len {
+        return refused(refusals::LENGTH, 0);
     }
     let w = octets::word_at(image, 0);
     if head_right(w) {
         return read_words(image, head_of(w), w, assigned, granted, juniors, limits, xs);
     }
-    refused(2, 0)
+    refused(refusals::HEAD, 0)
 }
 
 // Judges an image and, where it is accepted, leaves in the tables the roles that each user may activate, the

@@ -13,6 +13,7 @@ use hierarchy::reach::Named;
 use hierarchy::reach::granter;
 use model::Permission;
 use model::Role;
+use model::refusals;
 
 // What is returned of role r and the granting role that is named: 20 where there is none.
 fn two_roles(r: Role, n: Named) -> u64
@@ -21,7 +22,7 @@ fn two_roles(r: Role, n: Named) -> u64
 {
     match n {
         Named::By(g) => 256 * (64 * (r.0 as u64) + (g.0 as u64)),
-        Named::Nobody => 20,
+        Named::Nobody => refusals::NONE,
     }
 }
 
@@ -34,12 +35,12 @@ fn first_carrier(below: &[u64; 64], holding: u64, set: u64) -> u64
     while left != 0 {
         let r = sets::lowest(left);
         let x = two_roles(r, granter(below, holding, r));
-        if x != 20 {
+        if x != refusals::NONE {
             return x;
         }
         left = sets::without(left, r);
     }
-    20
+    refusals::NONE
 }
 
 // Through which roles a set carries the permission p, by the closed table: 256 times 64 times the lowest that carries

@@ -24,6 +24,7 @@ use model::Permission;
 use model::Role;
 use model::Scan;
 use model::Word;
+use model::refusals;
 
 fn take_grant(h: Head, granted: &mut [[u64; 4]; 64], spare: u32, r: Role, p: Permission) -> u8
     requires { ⌜ r .0 < 64 ⌝ }
@@ -114,7 +115,7 @@ pub fn step(
     let e = w.entry;
     let spare = w.spare;
     if wrong_kind(false, t.due, e) {
-        return 3;
+        return refusals::KIND;
     }
     match e {
         Entry::Assignment(u, r) => take_assignment(h, assigned, spare, u, r),
@@ -134,7 +135,7 @@ pub fn end_fault(due: u32, w: Word) -> u8
 {
     let e = w.entry;
     if wrong_kind(true, due, e) {
-        return 3;
+        return refusals::KIND;
     }
     spared(w.spare, 0)
 }

@@ -8,6 +8,7 @@ ghost use Rattle.tidy_words.specs.Whole.{Fitted};
 ghost use Rattle.tidy.specs.Whole.{policyBy, Writes};
 use model::Checked;
 use model::Head;
+use model::refusals;
 use tidy_order::sort::sort;
 use tidy_words::image::count_words;
 use tidy_words::image::put_image;
@@ -33,7 +34,7 @@ pub fn tidy(
     let n = sort(xs, count, &mut sorted);
     let words = count_words(h, assigned, granted, juniors, &sorted, limits, n);
     if out.len() < 4 * words {
-        return 19;
+        return refusals::ROOM;
     }
     put_image(out, h, assigned, granted, juniors, &sorted, limits, n);
     256 * (words as u64)

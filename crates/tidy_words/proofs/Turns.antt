@@ -10,12 +10,12 @@ use lib.ListN.{length, getD, take, drop, length-append, length-map, drop-of-leng
 use lib.Seq.{drop-cons, getD-drop, getD-take, length-take-le}
 use borrow.Table.Steps.{cases}
 use Rattle.model.specs.declared.Kind.{Kind}
-use Rattle.model.specs.declared.Kind.the-variants.{SsDmer, MsDmer, SsHmer, MsHmer}
 use Rattle.model.specs.declared.Exclusion.{Exclusion}
 use Rattle.model.specs.Sets.{has, count}
 use Rattle.model.specs.Words.{grantWord, exclusionWord, memberWord}
 use Rattle.model.specs.Policy.{kindNumber}
 use Rattle.model_laws.proofs.Ranks.{count-most}
+use Rattle.model_laws.proofs.SortedLaws.{kind-below}
 use Rattle.sets.specs.Words.{value, values}
 use Rattle.sets.proofs.Unions.{values-at}
 use Rattle.exclusion_rows.specs.Rows.{exclusionOf}
@@ -107,11 +107,7 @@ exclusion-words x k m ek e =
 
 -- the number of a kind is below 4
 pub number-small : (n : ℕ) (k : Kind) → n ≡ kindNumber k → n < 4
-unfolding kindNumber
-number-small n SsDmer e = omega arith
-number-small n MsDmer e = omega arith
-number-small n SsHmer e = omega arith
-number-small n MsHmer e = omega arith
+number-small n k e = let c = kind-below k in omega arith
 
 -- the first n exclusions of a table, those from exclusion i on
 abbrev pub listed : List (List ℕ) → ℕ → ℕ → List ℕ

@@ -18,6 +18,7 @@ use exclusion_rows::exclusion_of;
 use exclusion_rows::number_of;
 use model::Exclusion;
 use model::Role;
+use model::layout;
 
 // ---- tables of role sets
 
@@ -31,8 +32,8 @@ pub fn put_table(out: &mut [u8], from: Cursor, kind: u32, table: &[u64; 64], n: 
         c = put_set(
             out,
             c,
-            268435456 * kind + 4194304 * (i as u32),
-            65536,
+            layout::KIND_UNIT * kind + layout::FIRST_UNIT * (i as u32),
+            layout::SECOND_UNIT,
             table[i],
         );
     }
@@ -41,16 +42,23 @@ pub fn put_table(out: &mut [u8], from: Cursor, kind: u32, table: &[u64; 64], n: 
 
 // ---- the table of grants
 
+// The first permission of each later number of a permission set, in a grant word.
+const SECOND_PART: u32 = 64 * layout::PERMISSION_UNIT;
+
+const THIRD_PART: u32 = 128 * layout::PERMISSION_UNIT;
+
+const FOURTH_PART: u32 = 192 * layout::PERMISSION_UNIT;
+
 // The words of the grants of role r.
 fn put_row(out: &mut [u8], from: Cursor, r: Role, row: [u64; 4]) -> Cursor
     requires { ⌜ (r .0 < 64) × Room (now out) from (rowWords grantWord 256 (r .0) (value row)) ⌝ }
     ensures { λ s. ⌜ buffer (now (out .exit)) s ≡ puts (buffer (now (out .entry)) from) (rowWords grantWord 256 (r .0) (value row)) ⌝ }
 {
-    let first = 805306368 + 4194304 * (r.0 as u32);
-    let a = put_set(out, from, first, 16384, row[0]);
-    let b = put_set(out, a, first + 1048576, 16384, row[1]);
-    let c = put_set(out, b, first + 2097152, 16384, row[2]);
-    put_set(out, c, first + 3145728, 16384, row[3])
+    let first = layout::GRANT_WORD + layout::FIRST_UNIT * (r.0 as u32);
+    let a = put_set(out, from, first, layout::PERMISSION_UNIT, row[0]);
+    let b = put_set(out, a, first + SECOND_PART, layout::PERMISSION_UNIT, row[1]);
+    let c = put_set(out, b, first + THIRD_PART, layout::PERMISSION_UNIT, row[2]);
+    put_set(out, c, first + FOURTH_PART, layout::PERMISSION_UNIT, row[3])
 }
 
 // The words of the grants of the first n roles; no other has any.
@@ -76,9 +84,12 @@ fn put_exclusion(out: &mut [u8], from: Cursor, x: Exclusion) -> Cursor
     let k = number_of(kind) as u32;
     let n = x.n as u32;
     let m = sets::size(x.members);
-    let w = 1342177280 + 67108864 * k + 524288 * n + 4096 * m;
+    let w = layout::EXCLUSION_WORD
+        + layout::WHICH_UNIT * k
+        + layout::N_UNIT * n
+        + layout::M_UNIT * m;
     let c = put_word(out, from, w);
-    put_set(out, c, 1610612736, 4194304, x.members)
+    put_set(out, c, layout::MEMBER_WORD, layout::FIRST_UNIT, x.members)
 }
 
 // The first n exclusions, in their order.
@@ -107,7 +118,7 @@ fn put_limit(out: &mut [u8], from: Cursor, r: Role, t: u64) -> Cursor
     put_word(
         out,
         from,
-        1879048192 + 4194304 * (r.0 as u32) + 8192 * (t as u32),
+        layout::LIMIT_WORD + layout::FIRST_UNIT * (r.0 as u32) + layout::T_UNIT * (t as u32),
     )
 }
 

@@ -21,20 +21,24 @@ use crate::groups::put_table;
 use crate::words::Cursor;
 use crate::words::put_word;
 use model::Head;
+use model::layout;
 
 // ---- the first word and the last
 
 fn head_word(h: Head) -> u32
     ensures { λ w. ⌜ w ≡ headWord (h .users) (h .roles) (h .permissions) ⌝ }
 {
-    268435456 + 2097152 * (h.users as u32) + 16384 * (h.roles as u32) + 32 * (h.permissions as u32)
+    layout::HEAD_WORD
+        + layout::USERS_UNIT * (h.users as u32)
+        + layout::ROLES_UNIT * (h.roles as u32)
+        + layout::PERMISSIONS_UNIT * (h.permissions as u32)
 }
 
 // The end word that balances words with this sum.
 fn end_word(sum: u32) -> u32
     ensures { λ w. ⌜ w ≡ endWordOf sum ⌝ }
 {
-    4026531840 + (268435456 - sum % 268435456) % 268435456
+    layout::END_WORD + (layout::KIND_UNIT - sum % layout::KIND_UNIT) % layout::KIND_UNIT
 }
 
 // ---- all words
@@ -106,9 +110,9 @@ fn put_body(
     let roles = h.roles as usize;
     let start = Cursor { at: 0, sum: 0 };
     let from = put_word(out, start, head_word(h));
-    let a = put_table(out, from, 2, assigned, users);
+    let a = put_table(out, from, layout::ASSIGNMENT, assigned, users);
     let g = put_grants(out, a, granted, roles);
-    let j = put_table(out, g, 4, juniors, roles);
+    let j = put_table(out, g, layout::SENIOR, juniors, roles);
     put_rest(out, j, xs, limits, n, roles)
 }
 

@@ -89,6 +89,19 @@ impl Draft {
         self.entries.push(vec![words::grant(role, permission)]);
     }
 
+    /// Roles for each user, `least` of them or more, and grants for each role, `most` of them or fewer.
+    fn share(&mut self, rng: &mut Rng, least: u64, most: u64) {
+        for user in 0..self.users {
+            let count = rng.from_to(least, self.roles.into()) as usize;
+            self.assign(rng, user, count);
+        }
+        for role in 0..self.roles {
+            for _ in 0..rng.from_to(1, most) {
+                self.grant(rng, role);
+            }
+        }
+    }
+
     /// A senior word between two different roles, where there are two, and the way round that closes no loop.
     pub fn order(&mut self, rng: &mut Rng) {
         let two = self.some_roles(rng, 2);
@@ -301,15 +314,7 @@ pub fn crowded(rng: &mut Rng, exclusions: u64) -> Draft {
 /// Users whose roles carry much the same: few permissions, each carried by several roles.
 pub fn overlapping(rng: &mut Rng) -> Draft {
     let mut draft = Draft::blank(rng.from_to(1, 3) as u32, rng.from_to(5, 9) as u32, rng.from_to(4, 8) as u32);
-    for user in 0..draft.users {
-        let count = rng.from_to(5, draft.roles.into()) as usize;
-        draft.assign(rng, user, count);
-    }
-    for role in 0..draft.roles {
-        for _ in 0..rng.from_to(1, 4) {
-            draft.grant(rng, role);
-        }
-    }
+    draft.share(rng, 5, 4);
     for _ in 0..rng.below(3) {
         draft.exclude(rng);
     }
@@ -320,15 +325,7 @@ pub fn overlapping(rng: &mut Rng) -> Draft {
 /// A policy with limits: several users who share roles, few permissions, few exclusions.
 pub fn limited(rng: &mut Rng) -> Draft {
     let mut draft = Draft::blank(rng.from_to(2, 6) as u32, rng.from_to(2, 7) as u32, rng.from_to(2, 8) as u32);
-    for user in 0..draft.users {
-        let count = rng.from_to(1, draft.roles.into()) as usize;
-        draft.assign(rng, user, count);
-    }
-    for role in 0..draft.roles {
-        for _ in 0..rng.from_to(1, 3) {
-            draft.grant(rng, role);
-        }
-    }
+    draft.share(rng, 1, 3);
     if rng.one_in(3) {
         draft.order(rng);
     }
@@ -337,6 +334,19 @@ pub fn limited(rng: &mut Rng) -> Draft {
     }
     draft.limit_some(rng);
     draft
+}
+
+/// An image of 4,096 words: 64 users of 16 roles each, chains of seniors, 32 exclusions of all 64 roles, grants.
+pub fn largest() -> Vec<u8> {
+    let mut list = vec![words::head(64, 64, 256)];
+    list.extend((0..64).flat_map(|user| (0..16).map(move |role| words::assignment(user, user % 4 * 16 + role))));
+    list.extend((0..64).filter(|role| role % 16 != 15).map(|role| words::senior(role, role + 1)));
+    let all: Vec<u32> = (0..64).collect();
+    list.extend((0..32).flat_map(|number| words::exclusion(number % 4, 33 + number % 32, &all)));
+    while list.len() < words::MOST_WORDS - 1 {
+        list.push(words::grant(list.len() as u32 % 64, list.len() as u32 % 256));
+    }
+    words::bytes(&words::closed(list))
 }
 
 /// A policy of exactly `length` words, at least 4,000: filled up with repeats and grants.

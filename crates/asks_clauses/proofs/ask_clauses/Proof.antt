@@ -21,8 +21,8 @@ start c = c .before .before .before
 passed : (c : tie.Else1)
     → (let a = start (c .before) .args in
     let q = a .request in
-    Passed SESSIONS (q .rules .head) (a .authorized .now) (exclusionsIn (a .xs .now) (q .rules .count)) (a .limits .now) (a .ledger .now)
-    (q .window .user) (q .window .session) (q .bounds .sized) (value (q .bounds .lower)) (value (q .bounds .upper)) (q .first) (q .second) 40)
+    Passed SESSIONS (q .sizes .head) (a .authorized .now) (exclusionsIn (a .xs .now) (q .sizes .count)) (a .limits .now) (a .ledger .now)
+    (q .who .user) (q .who .session) (q .bounds .sized) (value (q .bounds .lower)) (value (q .bounds .upper)) (q .first) (q .second) 40)
 passed c = passes _ _ _ _ _ _ _ _ _ _ _ _ _ _ _ (c .before .limited-refusal .ensures) (c .if1 .left)
 
 returns : tie.Need-returns
@@ -44,7 +44,7 @@ returns-2 c p lower upper range h g j l e =
     let a = start (m .before .before) .args in
     let q = a .request in
     let r = w .ready p h l lower upper e in
-    let k = call SESSIONS p (a .ledger .now) (q .window .user) (q .window .session) lower upper (q .first) (q .second) (length (a .out .now)) in
+    let k = call SESSIONS p (a .ledger .now) (q .who .user) (q .who .session) lower upper (q .first) (q .second) (length (a .out .now)) in
     tells-text p _ _ _ _ _ _ _ _ _ _ _ _ _ range r (w .quiet p h l k refl refl) (e .lower-is (w .lengths)) (e .upper-is (w .lengths))
     (t .write-clauses .ensures p (told SESSIONS p (a .ledger .now) k) range (h .head-is)
     (searched-of p _ _ _ _ _ _ _ _ k refl h g j (m .roles-left .ensures p _ h l) (r .first)))

@@ -23,8 +23,8 @@ returns c p x range e g =
     let s = m .before .before .before .before .before in
     let xs = s .args .xs .now in
     let few : length (map exclusionOf xs) ≡ 32 = length-map xs exclusionOf ∙ s .pre .3 in
-    let i : s .args .request .rules .count ≤ length (map exclusionOf xs) = omega (arith, few, s .pre .2) in
-    wrote-text p _ x _ _ _ _ _ (exclusionsIn xs (s .args .request .rules .count)) _ _ _ _ _ _ _ _ _ range e g (n .line-of .ensures) (s .pre .5) i
+    let i : s .args .request .sizes .count ≤ length (map exclusionOf xs) = omega (arith, few, s .pre .2) in
+    wrote-text p _ x _ _ _ _ _ (exclusionsIn xs (s .args .request .sizes .count)) _ _ _ _ _ _ _ _ _ range e g (n .line-of .ensures) (s .pre .5) i
     (m .carried .ensures) (d .reduce .ensures .1) (rw (d .reduce .ensures .0) at (w .write .ensures))
 
 pub write-clauses-spec : {M : Type 1} → statement M

@@ -25,9 +25,9 @@ start c = c .before .before .before
 unaimed : (c : tie.After-limited-refusal) (p : Policy)
     → (let a = start c .args in
     let q = a .request in
-    Known (q .rules .head) (a .authorized .now) (exclusionsIn (a .xs .now) (q .rules .count)) p → p .limits ≡ a .limits .now
+    Known (q .sizes .head) (a .authorized .now) (exclusionsIn (a .xs .now) (q .sizes .count)) p → p .limits ≡ a .limits .now
     → c .limited-refusal .result
-    ≡ limitedRefusal SESSIONS p (a .ledger .now) (q .window .user) (q .window .session) (q .bounds .sized) (value (q .bounds .lower))
+    ≡ limitedRefusal SESSIONS p (a .ledger .now) (q .who .user) (q .who .session) (q .bounds .sized) (value (q .bounds .lower))
     (value (q .bounds .upper)) 0 0 40)
 unaimed c p h l = rw (start c .pre .4, start c .pre .5) at (c .limited-refusal .ensures p h l)
 
@@ -35,8 +35,8 @@ unaimed c p h l = rw (start c .pre .4, start c .pre .5) at (c .limited-refusal .
 passed : (c : tie.Else1)
     → (let a = start (c .before) .args in
     let q = a .request in
-    Passed SESSIONS (q .rules .head) (a .authorized .now) (exclusionsIn (a .xs .now) (q .rules .count)) (a .limits .now) (a .ledger .now)
-    (q .window .user) (q .window .session) (q .bounds .sized) (value (q .bounds .lower)) (value (q .bounds .upper)) 0 0 40)
+    Passed SESSIONS (q .sizes .head) (a .authorized .now) (exclusionsIn (a .xs .now) (q .sizes .count)) (a .limits .now) (a .ledger .now)
+    (q .who .user) (q .who .session) (q .bounds .sized) (value (q .bounds .lower)) (value (q .bounds .upper)) 0 0 40)
 passed c = passes _ _ _ _ _ _ _ _ _ _ _ _ _ _ _ (unaimed (c .before)) (c .if1 .left)
 
 returns : tie.Need-returns
@@ -49,7 +49,7 @@ returns-2 c p lower upper h g j l e =
     let w = passed (c .before) in
     let a = start (c .before .before) .args in
     let q = a .request in
-    let k = call SESSIONS p (a .ledger .now) (q .window .user) (q .window .session) lower upper (length (a .roles .now)) in
+    let k = call SESSIONS p (a .ledger .now) (q .who .user) (q .who .session) lower upper (length (a .roles .now)) in
     obstacle-room SESSIONS p _ _ _ _ _ _ (w .ready p h l lower upper e) (w .quiet p h l k refl refl) (c .if2 .taken) _
 
 roles-left-requires : tie.Need-roles-left-requires
@@ -75,7 +75,7 @@ returns-3 c p lower upper h g j l e =
     let w = passed (f .before) in
     let a = start (f .before .before) .args in
     let q = a .request in
-    let k = call SESSIONS p (a .ledger .now) (q .window .user) (q .window .session) lower upper (length (a .roles .now)) in
+    let k = call SESSIONS p (a .ledger .now) (q .who .user) (q .who .session) lower upper (length (a .roles .now)) in
     let y = w .ready p h l lower upper e in
     shows-told p _ _ _ _ _ _ _ _ _ _ _ y (w .quiet p h l k refl refl) (f .if2 .left) (e .lower-is (w .lengths)) (e .upper-is (w .lengths))
     (o .found-for .ensures p (told SESSIONS p (a .ledger .now) k)

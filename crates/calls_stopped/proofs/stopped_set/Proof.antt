@@ -18,12 +18,12 @@ use Rattle.calls_stopped.proofs.stopped_set.Statement.{statement}
 use Rattle.calls_stopped.proofs.stopped_set.Tie as tie
 
 abbrev Inv-loop : tie.InvT-loop
-Inv-loop ledger rules authorized xs users found₀ u₀ found u =
+Inv-loop ledger sizes authorized xs users found₀ u₀ found u =
     (u ≤ users)
-    × ((p : Policy) → Known (rules .head) authorized (exclusionsIn xs (rules .count)) p → found ≡ setOf (stops SESSIONS p ledger) u)
+    × ((p : Policy) → Known (sizes .head) authorized (exclusionsIn xs (sizes .count)) p → found ≡ setOf (stops SESSIONS p ledger) u)
 
 abbrev μ-loop : tie.MeasureT-loop
-μ-loop ledger rules authorized xs users found₀ u₀ found u = users - u
+μ-loop ledger sizes authorized xs users found₀ u₀ found u = users - u
 
 loop-holds : tie.Need-loop-holds Inv-loop μ-loop
 loop-holds c = (omega arith, λ p h. setOf-none _)

@@ -12,9 +12,9 @@ returns : tie.Need-returns
 returns c p xs h l =
     let s = c .before .before .before .before .before in
     let a = s .args in
-    let e : p .head .users ≡ a .rules .head .users = ap (λ (x : Head). x .users) (h .head-is) in
-    let b = subst (λ (n : ℕ). a .window .user < n) (sym e) (s .pre .1) in
-    c .left .ensures p e (sym (own-known (a .rules .head) (a .authorized .now) xs p (a .window .user) _ h b (c .before .before .roles-of .ensures))) l
+    let e : p .head .users ≡ a .sizes .head .users = ap (λ (x : Head). x .users) (h .head-is) in
+    let b = subst (λ (n : ℕ). a .who .user < n) (sym e) (s .pre .1) in
+    c .left .ensures p e (sym (own-known (a .sizes .head) (a .authorized .now) xs p (a .who .user) _ h b (c .before .before .roles-of .ensures))) l
 
 pub roles-left-spec : {M : Type 1} → statement M
 roles-left-spec = tie.close (tie.spec (λ c κs. search needs) (λ c. search needs) (λ c κs. search needs) returns)

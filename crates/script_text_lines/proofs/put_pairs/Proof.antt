@@ -6,7 +6,7 @@ use mathlib.Core.List.{List, [], _++_, append-assoc, append-nil}
 use Prim.Native.Nat.{ℕ, _+_, _-_, _*_, _≤_}
 use native.Mathlib.Omega.{arith}
 use lib.ListN.{length, getD}
-use Rattle.script_text.specs.Writing.{Puts, pairOf}
+use Rattle.script_text.specs.Writing.{Stores, pairOf}
 use Rattle.script_text_lines.specs.Pairs.{pairsOf}
 use Rattle.script_text.proofs.TextLaws.{put-nothing, puts-joined, puts-as}
 use Rattle.script_text_lines.proofs.LineLaws.{pairs-next}
@@ -16,7 +16,7 @@ use Rattle.script_text_lines.proofs.put_pairs.Tie as tie
 abbrev Inv-loop : tie.InvT-loop
 Inv-loop out₀ at bytes k next₀ i₀ out next i =
     (i ≤ k) × (k ≤ length bytes) × (next + 2 * i ≤ length out) × (length out ≡ length out₀)
-    × ((done : List ℕ) × (pairsOf k bytes ≡ done ++ pairsOf i bytes) × Puts out₀ at done out next)
+    × ((done : List ℕ) × (pairsOf k bytes ≡ done ++ pairsOf i bytes) × Stores out₀ at done out next)
 
 abbrev μ-loop : tie.MeasureT-loop
 μ-loop out₀ at bytes k next₀ i₀ out next i = i

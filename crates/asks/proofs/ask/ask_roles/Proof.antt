@@ -21,8 +21,8 @@ start c = c .before .before .before .before
 passed : (c : tie.Else1)
     → (let a = start (c .before) .args in
     let q = a .request in
-    Passed SESSIONS (q .rules .head) (a .authorized .now) (exclusionsIn (a .xs .now) (q .rules .count)) (a .limits .now) (a .ledger .now)
-    (q .window .user) (q .window .session) (q .bounds .sized) (value (q .bounds .lower)) (value (q .bounds .upper)) (q .first) (q .second)
+    Passed SESSIONS (q .sizes .head) (a .authorized .now) (exclusionsIn (a .xs .now) (q .sizes .count)) (a .limits .now) (a .ledger .now)
+    (q .who .user) (q .who .session) (q .bounds .sized) (value (q .bounds .lower)) (value (q .bounds .upper)) (q .first) (q .second)
     (length (a .answer .now)))
 passed c = passes _ _ _ _ _ _ _ _ _ _ _ _ _ _ _ (c .before .limited-refusal .ensures) (c .if1 .left)
 
@@ -46,7 +46,7 @@ returns-2 c p lower upper h g j l e =
     let q = a .request in
     let w = passed i in
     let r = w .ready p h l lower upper e in
-    let k = call SESSIONS p (a .ledger .now) (q .window .user) (q .window .session) lower upper (q .first) (q .second) (length (a .answer .now)) in
+    let k = call SESSIONS p (a .ledger .now) (q .who .user) (q .who .session) lower upper (q .first) (q .second) (length (a .answer .now)) in
     answers-searched p _ _ _ _ _ _ _ _ _ _ _ _ _ _ r (w .quiet p h l k refl refl) (e .lower-is (w .lengths)) (e .upper-is (w .lengths))
     (d .put-best .ensures p (told SESSIONS p (a .ledger .now) k)
     (searched-of p _ _ _ _ _ _ _ _ k refl h g j (m .roles-left .ensures p _ h l) (r .first)))

@@ -22,9 +22,9 @@ start c = let u = made c .before .before .before .before in u .before .before .b
 -- what the search is given, with the rows and the line that are held
 asked : (c : tie.After-line-of) (p : Policy) (x : Others)
     → (let a = start c .args in
-    let xs = exclusionsIn (a .xs .now) (a .request .rules .count) in
-    Searched p (a .request .window .user) x (a .ledger .now) (a .request .window .session) (values (a .granted .now)) (a .below .now) (a .authorized) xs
-    → Asked p (a .request .window .user) x (c .line-of .result) (a .request .window .session) (a .authorized) xs (rowsOf (made c .carried .result)))
+    let xs = exclusionsIn (a .xs .now) (a .request .sizes .count) in
+    Searched p (a .request .who .user) x (a .ledger .now) (a .request .who .session) (values (a .granted .now)) (a .below .now) (a .authorized) xs
+    → Asked p (a .request .who .user) x (c .line-of .result) (a .request .who .session) (a .authorized) xs (rowsOf (made c .carried .result)))
 unfolding lineOf
 asked c p x g = asked-of p _ x _ _ _ _ _ _ _ _ g (start c .fits .authorized .fits) (made c .carried .ensures) (c .line-of .ensures)
 
@@ -48,7 +48,7 @@ returns-2 c p x g =
     let q = asked n p x g in
     let o = chosen-some p _ x _ _ (n .line-of .ensures) _ _ _ _ _ _ (b .best .ensures p _ x q) _ (e .choice .given .1) in
     let v = chosen-own p _ x _ _ (a .authorized) _ _ _ _ _ (g .own-is) o in
-    let k = f .before .carried-by .ensures (meaning p (a .request .window .user)) (carry-within p _ _ _ _ (q .carry) v) in
+    let k = f .before .carried-by .ensures (meaning p (a .request .who .user)) (carry-within p _ _ _ _ (q .carry) v) in
     answers-some p _ _ _ _ _ _ _ _ _ _ _ o k (n .line-of .ensures) (i .put-in .ensures) (w .put-line .ensures) (f .fill .ensures)
 
 fill-requires : tie.Need-fill-requires

@@ -20,7 +20,7 @@ unfolding lineOf
 returns c p h =
     let a = c .before .before .before .before .args in
     let e = ap (λ (x : Head). x .users) (h .head-is) in
-    let k = held (a .rules .head) (a .authorized .now) _ p (a .v) _ h (omega arith) (c .before .roles-of .ensures) in
+    let k = held (a .sizes .head) (a .authorized .now) _ p (a .v) _ h (omega arith) (c .before .roles-of .ensures) in
     c .sound .ensures (meaning p (a .v)) k ∙ ap (sound SESSIONS (meaning p (a .v))) (c .before .before .line-of .ensures)
 
 pub line-sound-spec : {M : Type 1} → statement M

@@ -14,13 +14,13 @@ use Rattle.limits_lines.proofs.lines.lines_refusal.Statement.{statement
 use Rattle.limits_lines.proofs.lines.lines_refusal.Tie as tie
 
 abbrev Inv-loop : tie.InvT-loop
-Inv-loop ledger rules authorized xs user users v₀ v =
+Inv-loop ledger sizes authorized xs user users v₀ v =
     (v ≤ users)
-    × ((p : Policy) → Known (rules .head) authorized (exclusionsIn xs (rules .count)) p
+    × ((p : Policy) → Known (sizes .head) authorized (exclusionsIn xs (sizes .count)) p
     → linesRefusal SESSIONS p ledger user v (users - v) ≡ linesRefusal SESSIONS p ledger user 0 users)
 
 abbrev μ-loop : tie.MeasureT-loop
-μ-loop ledger rules authorized xs user users v₀ v = users - v
+μ-loop ledger sizes authorized xs user users v₀ v = users - v
 
 loop-holds : tie.Need-loop-holds Inv-loop μ-loop
 loop-holds c = (omega arith, λ p h. ap (linesRefusal SESSIONS p _ _ 0) (omega arith))

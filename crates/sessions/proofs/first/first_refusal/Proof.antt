@@ -18,14 +18,14 @@ returns : tie.Need-returns
 unfolding lineSize
 returns c p h =
     let a = c .before .before .before .before .args in
-    let e : p .head .users ≡ a .rules .head .users = ap (λ (x : Head). x .users) (h .head-is) in
+    let e : p .head .users ≡ a .sizes .head .users = ap (λ (x : Head). x .users) (h .head-is) in
     first9 SESSIONS p _ _ (λ q. c .if1 .taken (q ∙ ap (λ (n : ℕ). lineSize SESSIONS * n) e))
 
 returns-2 : tie.Need-returns-2
 unfolding lineSize
 returns-2 c p h =
     let a = c .before .before .before .before .before .args in
-    let e : p .head .users ≡ a .rules .head .users = ap (λ (x : Head). x .users) (h .head-is) in
+    let e : p .head .users ≡ a .sizes .head .users = ap (λ (x : Head). x .users) (h .head-is) in
     first10 SESSIONS p _ _ (omega arith) (omega arith)
 
 line-of-requires : tie.Need-line-of-requires
@@ -38,9 +38,9 @@ returns-3 c p h =
     let o = c .before .before in
     let l = o .before in
     let a = l .before .before .before .before .before .before .args in
-    let e : p .head .users ≡ a .rules .head .users = ap (λ (x : Head). x .users) (h .head-is) in
+    let e : p .head .users ≡ a .sizes .head .users = ap (λ (x : Head). x .users) (h .head-is) in
     let m = meaning p (a .user) in
-    let s = c .before .sound .ensures m (held _ _ (exclusionsIn (a .xs .now) (a .rules .count)) p (a .user) _ h (omega arith) (o .roles-of .ensures)) in
+    let s = c .before .sound .ensures m (held _ _ (exclusionsIn (a .xs .now) (a .sizes .count)) p (a .user) _ h (omega arith) (o .roles-of .ensures)) in
     first11 SESSIONS p _ _ (omega arith) (omega arith) (ap (sound SESSIONS m) (sym (l .line-of .ensures)) ∙ sym s ∙ not-true _ (c .if3 .taken))
 
 returns-4 : tie.Need-returns-4
@@ -49,9 +49,9 @@ returns-4 c p h =
     let o = c .before .before in
     let l = o .before in
     let a = l .before .before .before .before .before .before .args in
-    let e : p .head .users ≡ a .rules .head .users = ap (λ (x : Head). x .users) (h .head-is) in
+    let e : p .head .users ≡ a .sizes .head .users = ap (λ (x : Head). x .users) (h .head-is) in
     let m = meaning p (a .user) in
-    let s = c .before .sound .ensures m (held _ _ (exclusionsIn (a .xs .now) (a .rules .count)) p (a .user) _ h (omega arith) (o .roles-of .ensures)) in
+    let s = c .before .sound .ensures m (held _ _ (exclusionsIn (a .xs .now) (a .sizes .count)) p (a .user) _ h (omega arith) (o .roles-of .ensures)) in
     first0 SESSIONS p _ _ (omega arith) (omega arith) (ap (sound SESSIONS m) (sym (l .line-of .ensures)) ∙ sym s ∙ not-false _ (c .if3 .left))
 
 pub first-refusal-spec : {M : Type 1} → statement M

@@ -16,7 +16,7 @@ use Rattle.sessions_change.proofs.open.open_session.Tie as tie
 -- where the line is sound
 passed : (c : tie.Else1)
     → (let a = c .before .before .before .before .args in
-    Passed SESSIONS (a .rules .head) (a .authorized .now) (exclusionsIn (a .xs .now) (a .rules .count)) (a .ledger .now) (a .user))
+    Passed SESSIONS (a .sizes .head) (a .authorized .now) (exclusionsIn (a .xs .now) (a .sizes .count)) (a .ledger .now) (a .user))
 passed c = passes _ _ _ _ _ _ _ (c .before .first-refusal .ensures) (c .if1 .left)
 
 -- the bits of the line that is held

@@ -5,7 +5,7 @@ use mathlib.Core.Path.{_≡_}
 use Prim.Native.Nat.{_+_, _-_, _*_, _≤_}
 use native.Mathlib.Omega.{arith}
 use lib.ListN.{length, getD}
-use Rattle.script_text.specs.Writing.{Puts}
+use Rattle.script_text.specs.Writing.{Stores}
 use Rattle.script_text.proofs.TextLaws.{puts-joined, puts-as}
 use Rattle.model_survey.specs.Survey.{countLines}
 use Rattle.survey_counts.proofs.CountLines.{counts-begin, counts-next, counts-all}
@@ -15,7 +15,7 @@ use Rattle.survey_counts.proofs.counts.put_counts.Tie as tie
 abbrev Inv-loop : tie.InvT-loop
 Inv-loop out₀ at counts next₀ n₀ out next n =
     (n ≤ 256) × (next ≤ at + 42 * n) × (at + 10752 ≤ length out) × (length out ≡ length out₀)
-    × Puts out₀ at (countLines (λ k. getD counts k 0) n) out next
+    × Stores out₀ at (countLines (λ k. getD counts k 0) n) out next
 
 abbrev μ-loop : tie.MeasureT-loop
 μ-loop out₀ at counts next₀ n₀ out next n = 256 - n
