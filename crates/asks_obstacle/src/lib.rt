@@ -28,7 +28,6 @@ use obstacles_lacks::found::Found;
 use sessions::first::roles_of;
 use sessions::given::Rules;
 use sessions::given::Window;
-use tidy_order::sort::sort;
 
 // Both role sets fill the buffer.
 fn fill(roles: &mut [u8], first: u64, second: u64)
@@ -72,14 +71,12 @@ fn found_for(
         → foundOf f ≡ obstacleOf (meaning p (window .user)) x (lineOf SESSIONS (now (ledger .entry)) (window .user)) (window .session)
         (value (wanted .lower)) (value (wanted .upper))) ⌝ }
 {
-    let mut sorted = [[0u64; 2]; 32];
-    let count = sort(xs, rules.count, &mut sorted);
     let l = line_of(ledger, window.user as usize);
     obstacle(
         granted,
         below,
-        &sorted,
-        count,
+        xs,
+        rules.count,
         l,
         window.session as usize,
         roles,
