@@ -47,6 +47,21 @@ impl Search {
 /// What is told: kind, what it is about, two sets.
 type Told = (u64, u64, u64, u64);
 
+/// The lowest permission that the first of three sets of roles lacks which lacks one, each within the one before it.
+/// Looked for only where the last of them does.
+#[cold]
+fn lacked(tables: &Tables, judge: &Judge, rows: &mut [Permissions; 64], lower: Permissions, sets: [u64; 3]) -> Option<Told> {
+    let [own, usable, free] = sets;
+    if let Some(permission) = lacking(rows, lower, own) {
+        (0..judge.roles as usize).for_each(|role| rows[role] = tables.row(role));
+        return Some((1, permission as u64, carriers(rows, u64::MAX, permission), 0));
+    }
+    if let Some(permission) = lacking(rows, lower, usable) {
+        return Some((2, permission as u64, carriers(rows, own, permission), 0));
+    }
+    lacking(rows, lower, free).map(|permission| (3, permission as u64, carriers(rows, usable, permission), 0))
+}
+
 /// What stands in the way of an ask that no other test refuses.
 fn told(
     tables: &mut Tables,
@@ -66,16 +81,9 @@ fn told(
         search.rows[role] = tables.row(role);
         usable |= u64::from(within(search.rows[role], upper)) << role;
     }
-    let (free, rows) = (usable & !barred, &mut search.rows);
-    if let Some(permission) = lacking(rows, lower, entered.own) {
-        (0..judge.roles as usize).for_each(|role| rows[role] = tables.row(role));
-        return Some((1, permission as u64, carriers(rows, u64::MAX, permission), 0));
-    }
-    if let Some(permission) = lacking(rows, lower, usable) {
-        return Some((2, permission as u64, carriers(rows, entered.own, permission), 0));
-    }
-    if let Some(permission) = lacking(rows, lower, free) {
-        return Some((3, permission as u64, carriers(rows, usable, permission), 0));
+    let free = usable & !barred;
+    if lacking(&search.rows, lower, free).is_some() {
+        return lacked(tables, judge, &mut search.rows, lower, [entered.own, usable, free]);
     }
     let session = wish.session as usize;
     let turned = search.turned(free);
@@ -85,9 +93,12 @@ fn told(
     if search.some_set(&turned, free, 0, [0; 4]) {
         return None;
     }
-    let count = tables.sort_exclusions(entered.exclusions);
-    for place in 0..count {
-        search.limits[place] = limit(&tables.exclusions[place], &entered.line, session);
+    let mut count = entered.exclusions;
+    if count > 1 {
+        count = tables.sort_exclusions(count);
+        for place in 0..count {
+            search.limits[place] = limit(&tables.exclusions[place], &entered.line, session);
+        }
     }
     let (mut left, mut none) = (0, count);
     while none - left > 1 {

@@ -1,23 +1,22 @@
 -- What is told of an obstacle: the number returned and the bytes of two role sets; and what it is looked for with.
 -- Assumes nothing.
 use mathlib.Core.Path.{_≡_, sym, ap, subst, _∙_}
-use mathlib.Core.List.{List, [], _∷_, _++_, map, append-nil}
+use mathlib.Core.List.{List, [], _∷_, _++_, append-nil}
 use mathlib.Core.Option.{Option}
 use Prim.Native.Nat.{ℕ, _+_, _*_, _^_, _≤_, _<_}
 use native.Mathlib.Omega.{arith}
-use lib.ListN.{length, getD, take, drop-of-length-le}
+use lib.ListN.{length, getD, drop-of-length-le}
 use Rattle.model.specs.declared.Head.{Head}
 use Rattle.model.specs.declared.Exclusions.{Exclusions}
 use Rattle.model.specs.declared.Line.{Line}
 use Rattle.model.specs.Bytes.{bytesOf}
-use Rattle.model.specs.Policy.{Policy, authorized, sorted, meaning}
+use Rattle.model.specs.Policy.{Policy, authorized, meaning}
 use Rattle.model.specs.Line.{SESSIONS, exclusionsMet}
 use Rattle.model.specs.Limits.{Others}
 use Rattle.model.specs.Obstacle.{Obstacle, obstacleOf}
 use Rattle.model.specs.Session.{refuse, tell, obstructed}
 use Rattle.model.specs.Run.{lineOf, returned, filledWith, answered}
 use Rattle.octets.specs.Splice.{splice, bytesOfAll}
-use Rattle.exclusion_rows.specs.Rows.{exclusionOf, exclusionsIn}
 use Rattle.sessions.specs.Calls.{Known}
 use Rattle.asks.specs.Asks.{leftTo, Searched}
 use Rattle.obstacles_lacks.specs.declared.found.Found.{Found}
@@ -57,19 +56,18 @@ pub own-of : (p : Policy) (head : Head) (rows : List ℕ) (xs : Exclusions) (u r
 unfolding meaning
 own-of p head rows xs u r h l e w = let q : getD rows u 0 < 2 ^ 64 = subst (λ (y : ℕ). y < 2 ^ 64) e w in sym (e ∙ h .own-is u l q)
 
--- what is looked with: the exclusions sorted
-pub asking-of : (p : Policy) (u : ℕ) (x : Others) (ledger : List ℕ) (k : ℕ) (granted below : List ℕ) (own free : ℕ) (rows : List (List ℕ)) (count : ℕ)
-    (done : List (List ℕ)) (n : ℕ) (l : Line) → Searched p u x ledger k granted below free (exclusionsIn rows count) → meaning p u .authorized ≡ own
-    → take n (map exclusionOf done) ≡ sorted (take count (map exclusionOf rows)) → l ≡ lineOf SESSIONS ledger u
-    → Asking p u x l k granted below own free (exclusionsIn done n)
-unfolding exclusionsIn meaning
-asking-of p u x ledger k granted below own free rows count done n l s o e f =
+-- what is looked with
+pub asking-of : (p : Policy) (u : ℕ) (x : Others) (ledger : List ℕ) (k : ℕ) (granted below : List ℕ) (own free : ℕ) (xs : Exclusions) (l : Line)
+    → Searched p u x ledger k granted below free xs → meaning p u .authorized ≡ own → l ≡ lineOf SESSIONS ledger u
+    → Asking p u x l k granted below own free xs
+unfolding meaning
+asking-of p u x ledger k granted below own free xs l s o f =
     record {
       granted-is = s .granted-is;
       below-is = s .below-is;
       own-is = o;
       free-is = ap (λ (y : Line). leftTo p u x y k .authorized) f ∙ s .own-is;
-      ordered-are = ap sorted (s .exclusions-are) ∙ sym e;
+      exclusions-are = s .exclusions-are;
       met = ap (exclusionsMet (meaning p u)) f ∙ s .met;
     }
 

@@ -29,7 +29,6 @@ use obstacles_lacks::found::Found;
 use sessions::first::roles_of;
 use sessions::given::Sizes;
 use sessions::given::UserSession;
-use tidy_order::sort::sort;
 
 // Both role sets fill the buffer.
 fn fill(roles: &mut [u8], first: u64, second: u64)
@@ -73,14 +72,12 @@ fn found_for(
         → foundOf f ≡ obstacleOf (meaning p (who .user)) x (lineOf SESSIONS (now (ledger .entry)) (who .user)) (who .session)
         (value (wanted .lower)) (value (wanted .upper))) ⌝ }
 {
-    let mut sorted = [[0u64; 2]; 32];
-    let count = sort(xs, sizes.count, &mut sorted);
     let l = line_of(ledger, who.user as usize);
     obstacle(
         granted,
         below,
-        &sorted,
-        count,
+        xs,
+        sizes.count,
         l,
         who.session as usize,
         roles,

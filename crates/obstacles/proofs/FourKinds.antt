@@ -9,15 +9,12 @@ use Rattle.model.specs.declared.Exclusions.{Exclusions}
 use Rattle.model.specs.declared.Line.{Line}
 use Rattle.model.specs.Tests.{orElse}
 use Rattle.model.specs.Sets.{has}
-use Rattle.model.specs.Policy.{Policy, Meaning, authorized, belowTable, reached, carriedTable, granter, sorted, meaning}
-use Rattle.model.specs.Line.{exclusionsMet}
-use Rattle.model.specs.Limits.{Others, barred, unbarred}
-use Rattle.model.specs.Obstacle.{Obstacle, excludingOnly, left, blocking, blocks, obstacleOf}
-use Rattle.model.specs.Obstacles.{excludingJust}
+use Rattle.model.specs.Policy.{Policy, Meaning, belowTable, sorted, meaning}
+use Rattle.model.specs.Limits.{Others, unbarred}
+use Rattle.model.specs.Obstacle.{Obstacle, left, blocking, blocks, obstacleOf}
 use Rattle.model_laws.proofs.AnyWidth.{within-iff}
 use Rattle.model_laws.proofs.Barred.{left-own}
 use Rattle.model_laws.proofs.Blocking.{or-else-none}
-use Rattle.model_laws.proofs.SortedLaws.{sorted-mem}
 use Rattle.model_laws.proofs.ObstacleLaws.{lacks-none, limit-left}
 use Rattle.sets.specs.Words.{values}
 use Rattle.tables_rows.specs.Carried.{carriedRows}
@@ -30,7 +27,6 @@ use Rattle.obstacles_lacks.specs.declared.found.Found.the-variants.{Nothing, On
 use Rattle.obstacles_lacks.specs.Founds.{foundOf, ownLacks, upperLacks, limitLacks}
 use Rattle.obstacles_lacks.proofs.Carriers.{carry-less}
 use Rattle.obstacles_lacks.proofs.Within.{or-told, or-clear}
-use Rattle.obstacles_blocks.proofs.Lefts.{met-among}
 use Rattle.obstacles.specs.Asking.{Asking}
 
 -- the first of three or else a fourth is the first of four
@@ -39,10 +35,6 @@ unfolding orElse
 or-four (some o) b c d = refl
 or-four none (some o) c d = refl
 or-four none none c d = refl
-
--- the policy with its exclusions in the order of the tidy image
-abbrev pub ordered : Policy → Policy
-ordered p = excludingJust (sorted (p .exclusions)) p
 
 module _ (p : Policy) (u : ℕ) (x : Others) (l : Line) (k : ℕ) (granted below : List ℕ) (own free : ℕ) (xs : Exclusions) (rows : List (List ℕ))
     (g : Asking p u x l k granted below own free xs) (w : own < 2 ^ 64) (e : values rows ≡ carriedRows granted below own) where
@@ -57,13 +49,12 @@ module _ (p : Policy) (u : ℕ) (x : Others) (l : Line) (k : ℕ) (granted below
   unfolding meaning
   own-are = g .own-is
 
-  pub asked : Asked (ordered p) u x l k free xs (rowsOf rows)
-  unfolding excludingJust unbarred barred meaning authorized carriedTable granter reached belowTable exclusionsMet
+  pub asked : Asked p u x l k free xs (rowsOf rows)
   asked =
       record {
         own-is = g .free-is;
-        exclusions-are = g .ordered-are;
-        met = met-among l (p .exclusions) (sorted (p .exclusions)) (λ y i. sorted-mem y (p .exclusions) .0 i) (g .met);
+        exclusions-are = g .exclusions-are;
+        met = g .met;
         carry =
             carry-less m own free (rowsOf rows) carry
             (within-iff free own .1
@@ -78,21 +69,22 @@ module _ (p : Policy) (u : ℕ) (x : Others) (l : Line) (k : ℕ) (granted below
     abbrev fourth : Option Obstacle
     fourth = blocks l k (blocking (left (leftTo p u x l k) l k lower upper) [] (m .ordered))
 
-    abbrev orderedFourth : Option Obstacle
-    orderedFourth = blocks l k (blocking (left (leftTo (ordered p) u x l k) l k lower upper) [] (ordered p .exclusions))
+    -- the fourth as code tells it
+    abbrev sortedFourth : Option Obstacle
+    sortedFourth = blocks l k (blocking (left (leftTo p u x l k) l k lower upper) [] (sorted (p .exclusions)))
 
     whole : orElse three fourth ≡ obstacleOf m x l k lower upper
     unfolding obstacleOf ownLacks upperLacks limitLacks
     whole = or-four (ownLacks m lower) (upperLacks m lower upper) (limitLacks m x l k lower upper) fourth
 
     -- where the third tells nothing, a set is left without exclusions
-    left-nothing : lower < 2 ^ 256 → three ≡ none → left (leftTo (ordered p) u x l k) l k lower upper [] ≡ true
-    unfolding limitLacks left excludingOnly excludingJust unbarred barred meaning authorized carriedTable granter reached belowTable
+    left-nothing : lower < 2 ^ 256 → three ≡ none → left (leftTo p u x l k) l k lower upper [] ≡ true
+    unfolding limitLacks
     left-nothing small h = limit-left m x l k lower upper small (lacks-none 3 _ _ (or-else-none _ _ (or-else-none _ _ h .1) .1))
 
-    ordered-blocks : (o : Option Obstacle) → o ≡ orderedFourth → o ≡ fourth
-    unfolding left excludingOnly excludingJust unbarred barred meaning authorized carriedTable granter reached belowTable
-    ordered-blocks o h = h
+    sorted-blocks : (o : Option Obstacle) → o ≡ sortedFourth → o ≡ fourth
+    unfolding meaning
+    sorted-blocks o h = h
 
     -- ---- what code tells of the kinds 1 to 3
     module _ (f : Found) (q : (p : Policy) (u : ℕ) (x : Others) (l : Line) (k : ℕ) → granted ≡ p .granted → below ≡ belowTable p
@@ -106,8 +98,8 @@ module _ (p : Policy) (u : ℕ) (x : Others) (l : Line) (k : ℕ) (granted below
       told-three t h = or-told f t three fourth h three-is ∙ whole
 
       -- or what it tells of the fourth
-      pub told-fourth : f ≡ Nothing → lower < 2 ^ 256 → (o : Found) → (left (leftTo (ordered p) u x l k) l k lower upper [] ≡ true → foundOf o ≡ orderedFourth)
+      pub told-fourth : f ≡ Nothing → lower < 2 ^ 256 → (o : Found) → (left (leftTo p u x l k) l k lower upper [] ≡ true → foundOf o ≡ sortedFourth)
           → foundOf o ≡ obstacleOf m x l k lower upper
       unfolding foundOf
       told-fourth h small o i =
-          or-clear f three fourth _ h three-is (ordered-blocks _ (i (left-nothing small (sym three-is ∙ ap foundOf h)))) ∙ whole
+          or-clear f three fourth _ h three-is (sorted-blocks _ (i (left-nothing small (sym three-is ∙ ap foundOf h)))) ∙ whole

@@ -24,8 +24,8 @@ pub struct Roles {
 }
 
 // The first kind that holds: the user's roles lack a permission of the lower bound (1), those that fit the upper bound
-// lack one (2), those that fit and are not barred lack one (3), an exclusion leaves no set (4). The exclusions are in
-// the order of the tidy image.
+// lack one (2), those that fit and are not barred lack one (3), an exclusion, in the order of the tidy image, leaves no
+// set (4).
 pub fn obstacle(
     granted: &[[u64; 4]; 64],
     below: &[u64; 64],

@@ -2,9 +2,9 @@
 -- Assumes nothing.
 use mathlib.Core.Path.{_≡_, refl, sym, ap, subst, _∙_}
 use mathlib.Core.Bool.{Bool, true, false}
-use mathlib.Core.List.{List, [], map, List·Memᴰ, Memᴰ·append-left}
+use mathlib.Core.List.{List, [], _∷_, map, List·Memᴰ, Memᴰ·append-left}
 use mathlib.Core.Logic.{_↔_}
-use mathlib.Core.Option.{none, some}
+use mathlib.Core.Option.{Option, none, some}
 use Prim.Native.Nat.{ℕ, _+_, _^_, _≤_, _<_}
 use native.Mathlib.Numerals.{add-one}
 use native.Mathlib.Omega.{arith}
@@ -12,18 +12,18 @@ use lib.ListN.{length, getD, take, drop, length-map, take-append-drop}
 use lib.Seq.{getD-take, length-take-le, take-take}
 use Rattle.model.specs.declared.Exclusion.{Exclusion}
 use Rattle.model.specs.declared.Line.{Line}
-use Rattle.model.specs.Tests.{all}
 use Rattle.model.specs.Sets.{within}
-use Rattle.model.specs.Policy.{Policy, Meaning, authorized, belowTable, reached, carriedTable, granter, met, meaning}
-use Rattle.model.specs.Line.{counted, exclusionsMet}
+use Rattle.model.specs.Policy.{Policy, Meaning, authorized, belowTable, reached, carriedTable, granter, insert, sorted, meaning}
+use Rattle.model.specs.Line.{exclusionsMet}
 use Rattle.model.specs.Limits.{Others, barred, unbarred}
 use Rattle.model.specs.Choice.{admissible}
-use Rattle.model.specs.Obstacle.{excludingOnly, left, blocking}
+use Rattle.model.specs.Obstacle.{Obstacle, excludingOnly, left, blocking, blocks}
 use Rattle.model.specs.Obstacles.{excludingJust}
 use Rattle.model_laws.proofs.Barred.{unbarred-below}
 use Rattle.model_laws.proofs.Blocking.{not-blocked, blocked-behind}
-use Rattle.model_laws.proofs.Every.{all-mem, mem-all}
+use Rattle.model_laws.proofs.Bools.{not-both}
 use Rattle.model_laws.proofs.ObstacleLaws.{left-is, left-front}
+use Rattle.model_laws.proofs.SortedLaws.{sorted-mem}
 use Rattle.exclusion_rows.specs.Rows.{exclusionOf, exclusionsIn}
 use Rattle.exclusion_rows.proofs.Packing.{row-at}
 use Rattle.query.specs.Carry.{Keeps}
@@ -37,14 +37,19 @@ use Rattle.asks.specs.Asks.{leftTo, Asked}
 use Rattle.asks.proofs.Rows.{given-of}
 use Rattle.obstacles_blocks.specs.Blocking.{Blocks}
 use Rattle.obstacles_blocks.specs.Firsts.{Finds, Ends}
-use Rattle.obstacles_blocks.proofs.Firsts.{found-one}
+use Rattle.obstacles_blocks.proofs.AnyOrder.{met-among, left-sorted}
+use Rattle.obstacles_blocks.proofs.Firsts.{found-one, found-none}
 
--- exclusions are met at every session, and so are others that are among them
-pub met-among : (l : Line) (xs ys : List Exclusion) → ((y : Exclusion) → List·Memᴰ y ys → List·Memᴰ y xs)
-    → all (λ s. all (met (counted l s)) xs) (l .sessions) ≡ true → all (λ s. all (met (counted l s)) ys) (l .sessions) ≡ true
-met-among l xs ys among e =
-    mem-all _ (l .sessions) (λ s i. let h = all-mem _ (l .sessions) e s i in
-    mem-all (met (counted l s)) ys (λ y j. all-mem _ xs h y (among y j)))
+-- the policy with its exclusions in the order of the tidy image
+abbrev pub ordered : Policy → Policy
+ordered p = excludingJust (sorted (p .exclusions)) p
+
+-- a single exclusion is in order
+one-sorted : (xs : List Exclusion) → length xs ≡ 1 → sorted xs ≡ xs
+unfolding sorted insert
+one-sorted [] h = absurd (omega arith)
+one-sorted (x ∷ []) h = refl
+one-sorted (x ∷ y ∷ xs) h = absurd (omega arith)
 
 module _ (p : Policy) (u : ℕ) (x : Others) (l : Line) (k lower upper : ℕ) where
   -- with the exclusions xs alone some set is left
@@ -81,9 +86,40 @@ module _ (p : Policy) (u : ℕ) (x : Others) (l : Line) (k lower upper : ℕ) wh
         carry = g .carry;
       }
 
+  -- ---- the same in the order of the tidy image
+  pub asked-ordered : (own : ℕ) (rows : List (List ℕ)) (row : ℕ → ℕ) (count : ℕ) (done : List (List ℕ)) (n : ℕ)
+      → take n (map exclusionOf done) ≡ sorted (take count (map exclusionOf rows)) → Asked p u x l k own (exclusionsIn rows count) row
+      → Asked (ordered p) u x l k own (exclusionsIn done n) row
+  unfolding exclusionsIn excludingJust unbarred barred meaning authorized carriedTable granter reached belowTable exclusionsMet
+  asked-ordered own rows row count done n e g =
+      record {
+        own-is = g .own-is;
+        exclusions-are = ap sorted (g .exclusions-are) ∙ sym e;
+        met = met-among l (p .exclusions) (sorted (p .exclusions)) (λ y i. sorted-mem y (p .exclusions) .0 i) (g .met);
+        carry = g .carry;
+      }
+
+  pub none-ordered : leaves [] ≡ true → left (leftTo (ordered p) u x l k) l k lower upper [] ≡ true
+  unfolding left excludingOnly excludingJust unbarred barred meaning authorized carriedTable granter reached belowTable
+  none-ordered h = h
+
+  pub all-ordered : (b : Bool) → leaves (sorted (p .exclusions)) ≡ b → left (leftTo (ordered p) u x l k) l k lower upper (ordered p .exclusions) ≡ b
+  unfolding left excludingOnly excludingJust unbarred barred meaning authorized carriedTable granter reached belowTable
+  all-ordered b h = h
+
+  pub blocks-ordered : (o : Option Obstacle)
+      → o ≡ blocks l k (blocking (left (leftTo (ordered p) u x l k) l k lower upper) [] (ordered p .exclusions))
+      → o ≡ blocks l k (blocking leaves [] (sorted (p .exclusions)))
+  unfolding left excludingOnly excludingJust unbarred barred meaning authorized carriedTable granter reached belowTable
+  blocks-ordered o h = h
+
+  -- with them all sets are left as they are in the order of the image
+  pub leaves-sorted : (b : Bool) → leaves (p .exclusions) ≡ b → leaves (sorted (p .exclusions)) ≡ b
+  leaves-sorted b h = left-sorted (leftTo p u x l k) l k lower upper small (p .exclusions) ∙ h
+
   -- ---- where they end
-  pub blocked-none : leaves (p .exclusions) ≡ true → none ≡ blocking leaves [] (p .exclusions)
-  blocked-none h = sym (not-blocked leaves (left-front (leftTo p u x l k) l k lower upper small) [] (p .exclusions) h)
+  pub blocked-none : (E : List Exclusion) → leaves E ≡ true → none ≡ blocking leaves [] E
+  blocked-none E h = sym (not-blocked leaves (left-front (leftTo p u x l k) l k lower upper small) [] E h)
 
   -- found between none of them and them all
   pub blocked-at : (own : ℕ) (rows : List (List ℕ)) (row : ℕ → ℕ) (n j : ℕ) → n ≤ length rows → Asked p u x l k own (exclusionsIn rows n) row
@@ -162,12 +198,17 @@ module _ (p : Policy) (u : ℕ) (x : Others) (l : Line) (k lower upper own : ℕ
   pub found-all : (b v : Bool) → Finds (task n) 0 free b → b ≡ v → leaves p u x l k lower upper (p .exclusions) ≡ v
   found-all b v f e = ap (leaves p u x l k lower upper) (sym whole) ∙ found-left n (omega arith) b f ∙ e
 
-  -- where no set is found under them all, and one is left without them
-  pub found-blocking : (b : Bool) (j : ℕ) → Finds (task n) 0 free b → b ≡ false → leaves p u x l k lower upper [] ≡ true
+  none-found : leaves p u x l k lower upper (p .exclusions) ≡ false → Finds (task n) 0 free false
+  none-found e =
+      found-none (task n) 0 free
+      (λ s b v. not-both (leaves p u x l k lower upper (p .exclusions)) (found-all true true (found-one (task n) 0 free s b v) refl) e)
+
+  -- where no set is left under them all, and one without them
+  pub found-blocking : (j : ℕ) → leaves p u x l k lower upper [] ≡ true → leaves p u x l k lower upper (p .exclusions) ≡ false
       → (Finds (task 0) 0 free true → Finds (task n) 0 free false → Ends (λ i. Finds (task i) 0 free) n j)
       → (j < n) × (some (exclusionOf (getD xs j [])) ≡ blocking (leaves p u x l k lower upper) [] (p .exclusions))
-  found-blocking b j f e o h =
-      let w = h (left-found 0 (omega arith) o) (subst (Finds (task n) 0 free) e f) in
+  found-blocking j o e h =
+      let w = h (left-found 0 (omega arith) o) (none-found e) in
       let i = w .inside in (
         i,
         blocked-at p u x l k lower upper own xs row n j few g (
@@ -178,3 +219,14 @@ module _ (p : Policy) (u : ℕ) (x : Others) (l : Line) (k lower upper own : ℕ
             }
             ),
       )
+
+  -- the only exclusion is the one
+  pub found-only : n ≡ 1 → leaves p u x l k lower upper [] ≡ true → leaves p u x l k lower upper (p .exclusions) ≡ false
+      → some (exclusionOf (getD xs 0 [])) ≡ blocking (leaves p u x l k lower upper) [] (sorted (p .exclusions))
+  unfolding exclusionsIn
+  found-only q o e =
+      let long : length (p .exclusions) ≡ 1 =
+      ap length (g .exclusions-are) ∙ length-take-le n (map exclusionOf xs) (omega (arith, length-map xs exclusionOf)) ∙ q in
+      found-blocking 0 o e
+      (λ a b. record { inside = omega arith; leaves = a; stops = subst (λ (i : ℕ). Finds (task i) 0 free false) q b }) .1
+      ∙ ap (blocking (leaves p u x l k lower upper) []) (sym (one-sorted (p .exclusions) long))

@@ -1,19 +1,20 @@
-// An exclusion that stands in the way of an ask: of the exclusions in their order the first with which no role set is
-// left. It is found by halving: with fewer exclusions no fewer sets are left.
+// An exclusion that stands in the way of an ask: of the exclusions in the order of the tidy image the first with which
+// no role set is left. It is found by halving: with fewer exclusions no fewer sets are left.
 ghost use mathlib.Core.Path.{_≡_};
 ghost use mathlib.Core.Bool.{true, false};
 ghost use mathlib.Core.List.{[]};
 ghost use mathlib.Core.Option.{some};
-ghost use Prim.Native.Nat.{ℕ, _≤_, _<_};
+ghost use Prim.Native.Nat.{ℕ, _^_, _≤_, _<_};
 ghost use lib.ListN.{length, getD};
 ghost use Rattle.model.specs.declared.Line.{Line};
 ghost use Rattle.model.specs.Line.{SESSIONS};
-ghost use Rattle.model.specs.Policy.{Policy};
+ghost use Rattle.model.specs.Sets.{within};
+ghost use Rattle.model.specs.Policy.{Policy, sorted};
 ghost use Rattle.model.specs.Limits.{Others};
 ghost use Rattle.model.specs.Obstacle.{left, blocking, blocks};
 ghost use Rattle.sets.specs.Words.{value};
 ghost use Rattle.exclusion_rows.specs.Rows.{exclusionOf, exclusionsIn};
-ghost use Rattle.query.specs.Carry.{rowsOf, Turned};
+ghost use Rattle.query.specs.Carry.{rowsOf, Turned, Keeps};
 ghost use Rattle.asks.specs.Asks.{leftTo, Asked};
 ghost use Rattle.obstacles_lacks.specs.Founds.{foundOf};
 ghost use Rattle.obstacles_blocks.specs.Firsts.{Finds, under, Ends};
@@ -33,6 +34,7 @@ use query::carry::usable;
 use query_rank::Job;
 use query_rooms::exclusions::reduce;
 use query_rooms::rooms::room_for;
+use tidy_order::sort::sort;
 
 // With the first `count` exclusions some set of the free roles, which fit the upper bound, carries the lower bound.
 fn left_with(
@@ -104,8 +106,36 @@ fn told_at(xs: &[[u64; 2]; 32], masks: &[u64; 32], j: usize) -> Told
     }
 }
 
-// The first exclusion with which no set is left, where one is left without exclusions; nothing where one is left with
-// them all. What the searches share is made once: the exclusions reduced, the roles that fit the upper bound, and those
+// The first exclusion with which no set is left, of rows in the order of the tidy image: where one is left without
+// exclusions, and none with them all.
+fn first_blocking(
+    rows: &[[u64; 4]; 64],
+    xs: &[[u64; 2]; 32],
+    count: usize,
+    l: Line,
+    k: usize,
+    lower: [u64; 4],
+    free: u64,
+    turned: &[u64; 256],
+) -> Told
+    requires { ⌜ (count ≤ 32) × (k < SESSIONS) × (length (now xs) ≡ 32) × (Turned (rowsOf (now rows)) (now turned) (value lower) free) ⌝ }
+    ensures { λ t. ⌜ ((p : Policy) (u : ℕ) (x : Others) (upper own : ℕ) → own < 2 ^ 64
+        → Asked p u x l k own (exclusionsIn (now (xs .entry)) count) (rowsOf (now (rows .entry)))
+        → Keeps (λ i. within (rowsOf (now (rows .entry)) i) upper) own free
+        → left (leftTo p u x l k) l k (value lower) upper [] ≡ true
+        → left (leftTo p u x l k) l k (value lower) upper (p .exclusions) ≡ false
+        → foundOf (Found.One t) ≡ blocks l k (blocking (left (leftTo p u x l k) l k (value lower) upper) [] (p .exclusions))) ⌝ }
+{
+    let reduced = reduce(xs, count, l, k);
+    let masks = reduced.masks;
+    let rooms = reduced.rooms;
+    let j = before_blocking(rows, &masks, &rooms, lower, free, turned, 0, count);
+    told_at(xs, &masks, j)
+}
+
+// The first exclusion in the order of the tidy image with which no set is left, where one is left without exclusions;
+// nothing where one is left with them all. That has nothing to do with their order, so they are sorted only where none
+// is, and a single one is in order. What the searches share is made once: the roles that fit the upper bound, and those
 // that carry each permission.
 pub fn blocked(
     rows: &[[u64; 4]; 64],
@@ -119,7 +149,8 @@ pub fn blocked(
     requires { ⌜ (count ≤ 32) × (k < SESSIONS) × (length (now xs) ≡ 32) ⌝ }
     ensures { λ f. ⌜ ((p : Policy) (u : ℕ) (x : Others) → Asked p u x l k authorized (exclusionsIn (now (xs .entry)) count) (rowsOf (now (rows .entry)))
         → left (leftTo p u x l k) l k (value (wanted .lower)) (value (wanted .upper)) [] ≡ true
-        → foundOf f ≡ blocks l k (blocking (left (leftTo p u x l k) l k (value (wanted .lower)) (value (wanted .upper))) [] (p .exclusions))) ⌝ }
+        → foundOf f
+        ≡ blocks l k (blocking (left (leftTo p u x l k) l k (value (wanted .lower)) (value (wanted .upper))) [] (sorted (p .exclusions)))) ⌝ }
 {
     let lower = wanted.lower;
     let upper = wanted.upper;
@@ -132,6 +163,10 @@ pub fn blocked(
     if left_with(rows, &masks, &rooms, lower, count, free, &turned) {
         return Found::Nothing;
     }
-    let j = before_blocking(rows, &masks, &rooms, lower, free, &turned, 0, count);
-    Found::One(told_at(xs, &masks, j))
+    if count == 1 {
+        return Found::One(told_at(xs, &masks, 0));
+    }
+    let mut ordered = [[0u64; 2]; 32];
+    let n = sort(xs, count, &mut ordered);
+    Found::One(first_blocking(rows, &ordered, n, l, k, lower, free, &turned))
 }

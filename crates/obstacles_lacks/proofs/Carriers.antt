@@ -94,7 +94,7 @@ module _ (m : Meaning) (p : ℕ) where
 
 -- ---- what is told
 
-below-none : (p : ℕ) → 256 ≤ p → ifBelow 256 p ≡ none
+pub below-none : (p : ℕ) → 256 ≤ p → ifBelow 256 p ≡ none
 unfolding ifBelow
 below-none p h = rw (le-ltb p 256 h, ifBelow)
 

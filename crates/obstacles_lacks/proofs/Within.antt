@@ -3,10 +3,10 @@
 use mathlib.Core.Path.{_≡_, sym, ap, subst, _∙_}
 use mathlib.Core.Bool.{true}
 use mathlib.Core.List.{List}
-use mathlib.Core.Option.{Option}
-use Prim.Native.Nat.{ℕ, _^_, _<_}
+use mathlib.Core.Option.{Option, none}
+use Prim.Native.Nat.{ℕ, _^_, _≤_, _<_}
 use Rattle.model.specs.declared.Line.{Line}
-use Rattle.model.specs.Tests.{orElse}
+use Rattle.model.specs.Tests.{orElse, ifBelow}
 use Rattle.model.specs.Sets.{has, within}
 use Rattle.model.specs.Policy.{Meaning}
 use Rattle.model.specs.Limits.{Others, unbarred}
@@ -15,12 +15,13 @@ use Rattle.model_laws.proofs.Bools.{and-l, and-r, both}
 use Rattle.model_laws.proofs.SetLaws.{within-has}
 use Rattle.model_laws.proofs.AnyWidth.{within-iff}
 use Rattle.model_laws.proofs.Barred.{left-own}
+use Rattle.model_laws.proofs.ObstacleLaws.{upper-none, own-none}
 use Rattle.query.specs.Carry.{rowsOf, Carry, Keeps}
 use Rattle.obstacles_lacks.specs.declared.found.Found.{Found}
 use Rattle.obstacles_lacks.specs.declared.found.Told.{Told}
 use Rattle.obstacles_lacks.specs.declared.found.Found.the-variants.{Nothing, One}
 use Rattle.obstacles_lacks.specs.Founds.{foundOf, ownLacks, upperLacks, limitLacks}
-use Rattle.obstacles_lacks.proofs.Carriers.{carry-less, fitting-is}
+use Rattle.obstacles_lacks.proofs.Carriers.{carry-less, fitting-is, below-none}
 
 -- ---- one kind before the others
 
@@ -51,6 +52,21 @@ module _ (m : Meaning) (x : Others) (l : Line) (k own free : ℕ) (rows : List (
   free-carry : Carry (unbarred m x l k) free (rowsOf rows)
   unfolding unbarred
   free-carry = carry-less m own free (rowsOf rows) carry free-own
+
+  -- where those that fit lack nothing, none of the three kinds holds
+  pub clear-lacks : lower < 2 ^ 256 → (left : ℕ) → Keeps (λ i. within (rowsOf rows i) upper) free left → (p : ℕ) → 256 ≤ p
+      → (Carry m left (rowsOf rows) → ifBelow 256 p ≡ lacking m lower left)
+      → foundOf Nothing ≡ orElse (ownLacks m lower) (orElse (upperLacks m lower upper) (limitLacks m x l k lower upper))
+  unfolding foundOf orElse ownLacks upperLacks limitLacks lacks
+  clear-lacks small left kept p h e =
+      let inside = within-iff left own .1 (λ r i. within-has free own free-own r (and-l (has free r) _ (sym (kept r) ∙ i))) in
+      let c : lacking m lower (fitting (unbarred m x l k) upper) ≡ none =
+      ap (lacking m lower) (sym (fitting-is (unbarred m x l k) rows free v free-carry free-is upper left kept))
+      ∙ sym (e (carry-less m own left (rowsOf rows) carry inside)) ∙ below-none p h in
+      let b = upper-none m x l k lower upper small c in
+      let a = own-none m x l k lower upper small b in
+      (λ i. orElse (lacks 1 (carriersOf m (λ r. true)) (sym a i))
+      (orElse (lacks 2 (carriersOf m (has (m .authorized))) (sym b i)) (lacks 3 (carriersOf m (has (fitting m upper))) (sym c i))))
 
   module _ (fit : ℕ) (keeps : Keeps (λ i. within (rowsOf rows i) upper) own fit) where
     fit-own : within fit own ≡ true

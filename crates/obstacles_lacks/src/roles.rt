@@ -94,7 +94,8 @@ fn lacked_within(
     lacked(rows, 3, fit, left, lower)
 }
 
-// The kinds 1 to 3: the first that holds.
+// The kinds 1 to 3: the first that holds. The roles of each are among those of the one before, so none holds where
+// those of the third lack nothing, and that is looked at first.
 pub fn lacked_by_any(
     rows: &[[u64; 4]; 64],
     own: u64,
@@ -110,6 +111,10 @@ pub fn lacked_by_any(
         → foundOf f ≡ orElse (ownLacks (meaning p u) (value lower))
         (orElse (upperLacks (meaning p u) (value lower) (value upper)) (limitLacks (meaning p u) x l k (value lower) (value upper)))) ⌝ }
 {
+    let least = usable(rows, upper, free);
+    if 256 <= lacking(rows, least, lower) {
+        return Found::Nothing;
+    }
     let found = lacked_by_own(rows, own, lower, granted, below);
     let Found::Nothing = found else {
         return found;

@@ -1,7 +1,7 @@
 -- `obstacles::obstacle` meets its contract: the kinds 1 to 3, or else the fourth.
 -- Assumes nothing.
 use borrow.Author.Needs.{needs}
-use Rattle.obstacles.proofs.FourKinds.{ordered, asked, told-three, told-fourth}
+use Rattle.obstacles.proofs.FourKinds.{asked, told-three, told-fourth}
 use Rattle.obstacles.proofs.obstacle.Statement.{statement}
 use Rattle.obstacles.proofs.obstacle.Tie as tie
 
@@ -19,7 +19,7 @@ returns-2 c p u x g =
     let r = d .before .before .before .before .carried in
     let y = d .lacked-by-any .ensures in
     told-fourth p u x _ _ _ _ _ _ _ (r .result) g (y .0) (r .ensures) _ _ _ (y .2) (e .enum-told .given .1) (y .1) _
-    (c .blocked .ensures (ordered p) u x (asked p u x _ _ _ _ _ _ _ (r .result) g (y .0) (r .ensures)))
+    (c .blocked .ensures p u x (asked p u x _ _ _ _ _ _ _ (r .result) g (y .0) (r .ensures)))
 
 pub obstacle-spec : {M : Type 1} → statement M
 obstacle-spec =
