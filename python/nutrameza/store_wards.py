@@ -10,7 +10,7 @@ from typing import Callable, FrozenSet, List, Optional
 from . import calls, cli, limits, policy, why
 from .limits import Number
 from .policy import Names, Policy
-from .progress import Progress, ctrl_c, end_by_ctrl_c
+from .progress import Progress, ctrl_c, end_by_ctrl_c, folded
 from .store import Finding, GoOn, Report, Session, Store, StoreAnswer, StoreFailed, StoreNumber, StorePolicy, Verified
 from .store_ward import REFUSED, STATUS, USAGE, Failed, Ward, counted, counts_of, failure, local_time, plain, table
 
@@ -205,7 +205,7 @@ def replay(ward: Ward, found: Callable[[Finding], None], progress: Progress, pre
 
 def ended(ward: Ward, answer: Verified) -> int:
     """Tells how far a replay came that Ctrl-C has ended, and ends as it does."""
-    print(f"{replayed(ward, answer.report)} so far: ended by Ctrl-C", file=sys.stderr)
+    print(folded(f"{replayed(ward, answer.report)} so far: ended by Ctrl-C", sys.stderr), file=sys.stderr)
     return end_by_ctrl_c()
 
 

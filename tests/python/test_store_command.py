@@ -658,7 +658,10 @@ class Help(OnStore):
     def test_completion_of_wards_names_windows_and_files(self):
         window = self.opened()
         self.path("one.img", b"")
-        self.assertEqual(self.completed("nutrameza", "store", "who", "wa"), ["ward\\ 3"])
+        for typed, offered in (("wa", "ward\\ 3"), ("ward\\ ", "ward\\ 3"), ("'ward ", "ward 3"), ('"w', "ward 3")):
+            self.assertEqual(self.completed("nutrameza", "store", "who", typed), [offered])
+        for typed in ("ward\\ 3", "'ward 3'", '"ward 3"'):
+            self.assertEqual(self.completed("nutrameza", "store", "show", typed, "ANNA", ""), [window])
         self.assertEqual(self.completed("nutrameza", "store", "show", NAME, ""), ["ANNA"])
         self.assertEqual(self.completed("nutrameza", "store", "show", "--names", NEXT, NAME, "B"), ["BEN"])
         self.assertEqual(self.completed("nutrameza", "store", "show", NAME, "ANNA", ""), [window])
