@@ -49,7 +49,7 @@ const char *const nms_statements[STATEMENTS] = {
     [REPLAY] = "SELECT usr, nr, turn, call, win, args, returned, answer, at FROM journal"
                " WHERE ward = $1 AND version = $2 ORDER BY turn, usr, nr",
     [JOURNAL] = "SELECT usr, nr, version, win, returned, turn, call, host, at, token, args, answer FROM journal"
-                " WHERE ward = $1 AND (usr > $2 OR (usr = $2 AND nr >= $3)) ORDER BY usr, nr LIMIT $4",
+                " WHERE ward = $1 AND (usr, nr) >= ($2, $3) ORDER BY usr, nr LIMIT $4",
     [WARDS] = "SELECT name, version FROM ward ORDER BY name",
     [POLICIES] = "SELECT version, image, host, at FROM policy WHERE ward = $1 ORDER BY version",
     [NEW_WARD] = "INSERT INTO ward SELECT coalesce(max(id), 0) + 1, CAST($1 AS TEXT), 1, 0, 1, 0 FROM ward"

@@ -100,7 +100,7 @@ PY
 }
 
 typed() {
-  cd "$root/python" && "$python" -m mypy --strict --python-version 3.9 --cache-dir "$work/mypy" nutrameza
+  cd "$root/python" && "$checker" -m mypy --strict --python-version 3.9 --cache-dir "$work/mypy" nutrameza
 }
 
 # By pip, with a build of its own and no index, into a fresh environment; then run outside the repository.
@@ -165,7 +165,9 @@ else
 fi
 it 'no source needs more than the grammar of Python 3.9' old_grammar
 it 'no source needs a package beyond the standard library' standard_library_alone
-if "$python" -c 'import mypy' 2> /dev/null; then it 'mypy --strict has nothing to say' typed; else echo 'not installed: mypy'; fi
+checker=''
+for each in "$python" /usr/bin/python3; do [ -n "$checker" ] || ! "$each" -c 'import mypy' 2> /dev/null || checker=$each; done
+if [ -n "$checker" ]; then it 'mypy --strict has nothing to say' typed; else echo 'not installed: mypy'; fi
 it 'pip installs it offline into a fresh environment, and its commands run' by_pip
 it 'in an environment that has the library no variable is needed' in_the_environment
 it 'the wheel and the source archive come out the same twice, and pip takes either' same_wheel

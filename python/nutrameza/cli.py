@@ -367,12 +367,14 @@ def run(parser: argparse.ArgumentParser, words: Optional[Sequence[str]], prefix:
         return 2
 
 
-def as_program(parser: argparse.ArgumentParser, prefix: str) -> int:
-    """Runs the program's own words; a closed pipe and Ctrl-C end it as they end other programs."""
+def as_program(parser: Callable[[], argparse.ArgumentParser], prefix: str) -> int:
+    """Runs the program's own words; a closed pipe and Ctrl-C end it as they end other programs. Where it is started
+    without an output, nobody reads what it says."""
+    sys.stdout, sys.stderr = (file or open(os.devnull, "w", encoding="utf-8") for file in (sys.stdout, sys.stderr))
     signal.signal(signal.SIGPIPE, signal.SIG_DFL)
     if signal.getsignal(signal.SIGINT) is not signal.SIG_IGN:  # as in the background of a script
         signal.signal(signal.SIGINT, signal.SIG_DFL)
-    return run(parser, None, prefix)
+    return run(parser(), None, prefix)
 
 
 DESCRIPTION = """The session kit for operators and help desks: policies as text and as images, why an ask is
@@ -395,13 +397,18 @@ def policy_parser() -> argparse.ArgumentParser:
     return command_line(program, f"{POLICY}\n\n{TEXT_FORM}", overwrites=True)
 
 
-def main() -> int:
-    """The command nutrameza."""
+def parser() -> argparse.ArgumentParser:
+    """The command line of nutrameza."""
     from . import store_cli  # they stand on this module
     from .desk import command
-    return as_program(command_line("nutrameza", DESCRIPTION, overwrites=False, more=[store_cli.add, command.add]), "nutrameza: ")
+    return command_line("nutrameza", DESCRIPTION, overwrites=False, more=[store_cli.add, command.add])
+
+
+def main() -> int:
+    """The command nutrameza."""
+    return as_program(parser, "nutrameza: ")
 
 
 def policy_main() -> int:
     """The command nutrameza-policy."""
-    return as_program(policy_parser(), "")
+    return as_program(policy_parser, "")

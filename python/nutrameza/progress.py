@@ -22,12 +22,13 @@ def width(file: TextIO) -> int:
         return 80
 
 
-def folded(text: str, file: TextIO) -> str:
-    """A text as a reader of this file has it: on a terminal no word is broken at its edge."""
+def folded(text: str, file: TextIO, indent: str = "") -> str:
+    """A text as a reader of this file has it: on a terminal no word is broken at its edge, and a line goes on behind
+    the indent."""
     if not file.isatty():
         return text
     room = max(20, width(file) - 1)
-    return "\n".join(textwrap.fill(line, room, drop_whitespace=False, break_on_hyphens=False).replace(" \n", "\n") if len(line) > room else line
+    return "\n".join(textwrap.fill(line, room, subsequent_indent=indent, break_on_hyphens=False, break_long_words=False)
                      for line in text.split("\n"))
 
 

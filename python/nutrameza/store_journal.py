@@ -148,7 +148,7 @@ def printing(ward: Ward, as_csv: bool) -> Callable[[Entry], None]:
     """How an entry is printed."""
     lines = Lines(ward)
     if not as_csv:
-        return lambda entry: print(folded(lines.line(entry), sys.stdout))
+        return lambda entry: print(folded(lines.line(entry), sys.stdout, indent="  "))
     writer = csv.writer(sys.stdout, lineterminator="\n")
     writer.writerow(COLUMNS)
     return lambda entry: writer.writerow(lines.row(entry)) and None

@@ -112,6 +112,15 @@ class Commands(Folder):
         told = "nutrameza: /nowhere: there is no such file, and NUTRAMEZA_LIBRARY names it\n"
         self.assertEqual(self.run_it("build", WARD, NUTRAMEZA_LIBRARY="/nowhere"), (2, "", told))
 
+    def test_an_output_that_is_full_or_closed(self):
+        self.run_it("build", WARD)
+        with open("/dev/full", "wb") as full:
+            done = subprocess.run([*COMMAND, "list", "policy.img"], cwd=self.folder.name, stdout=full, stderr=subprocess.PIPE, check=False)
+        self.assertEqual((done.returncode, done.stderr), (2, b"nutrameza: standard output: No space left on device\n"))
+        script = ['exec "$@" >&-', "sh", *COMMAND, "list", "policy.img"]
+        done = subprocess.run(["sh", "-c", *script], cwd=self.folder.name, stderr=subprocess.PIPE, check=False)
+        self.assertEqual((done.returncode, done.stderr), (0, b""))
+
     def test_a_closed_pipe_ends_it_quietly(self):
         self.path("p", b"user A\nrole R\npermission " + b" ".join(b"P%d" % k for k in range(256)) + b"\n")
         self.run_it("build", "p")

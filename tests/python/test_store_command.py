@@ -14,11 +14,13 @@ import sqlite3
 import subprocess
 import sys
 import tempfile
+import threading
 import time
 import traceback
 import unittest
+import unittest.mock
 
-from nutrameza import cli, policy, store_cli, store_journal
+from nutrameza import cli, policy, store, store_cli, store_journal
 from nutrameza.store import Store
 from test_command import COMMAND, COMPLETION, NEXT, WARD, Folder
 
@@ -109,6 +111,21 @@ class OnStore(Folder):
         self.addCleanup(made.disconnect)
         return made
 
+    def on_terminal(self, *words):
+        """Exit status and output of the command on a terminal of its own, where progress is shown at once."""
+        program = "import sys; from nutrameza import cli, progress; progress.FIRST = progress.NEXT = 0.01; sys.exit(cli.main())"
+        pid, terminal = pty.fork()
+        if pid == 0:
+            os.environ.update(NUTRAMEZA_STORE=self.name, NUTRAMEZA_NAMES=WARD)
+            os.execv(sys.executable, [sys.executable, "-B", "-c", program, "store", *words])
+        said = b""
+        try:
+            while True:
+                said += os.read(terminal, 4096)
+        except OSError:
+            os.close(terminal)
+        return os.waitpid(pid, 0)[1], said.decode()
+
     def opened(self, *words, host="desk-7"):
         """The number of a window that a host opens for ANNA, with an ask for these permissions in it."""
         window = self.done("open", NAME, "ANNA", "--host", host).strip()
@@ -179,6 +196,7 @@ class Story(OnStore):
                 window = host.open(NAME, user).window
                 host.short_ask(NAME, user, window, [wish], range(5))
                 host.close(NAME, user, window)
+                time.sleep(0.01)  # SQLite's clock has milliseconds
         said = [timeless(line) for line in self.done("journal", NAME, names=NEXT).splitlines()]
         self.assertEqual(said, [
             "TIME BEN (1) open window 8 [desk-7]", "TIME BEN (1) ask window 8 for Read_id (0): Nurse (2) [desk-7]",
@@ -210,14 +228,10 @@ class OnPostgresql(Story):
         subprocess.run(["psql", "-q", POSTGRESQL, "-c", f"create database {name}"], check=True)
         return POSTGRESQL.replace("/postgres?", f"/{name}?")
 
-    def test_a_store_without_tables_and_a_server_that_is_not_there(self):
+    def test_a_database_without_tables(self):
         name = self.new_store()
         self.assertEqual(self.refused("wards", "--store", name, status=3),
                          f"nutrameza: {name}: no tables; 'nutrameza store make' makes them\n")
-        gone = "postgresql://anna:secret@/none?host=/nowhere&port=1"
-        said = self.refused("who", NAME, "--store", gone, status=3)
-        self.assertTrue(said.startswith("nutrameza: postgresql://anna:***@/none?host=/nowhere&port=1: the storage failed, and nothing is changed: "))
-        self.assertNotIn("secret", said)
 
 
 class Wards(OnStore):
@@ -388,6 +402,13 @@ class Windows(OnStore):
             "ask window 8 for Read_health_records (1) (most permissions, fewest roles): Doctor (0)",
             "ask window 8 for Read_health_records (1) (fewest permissions, any roles): Data_Manager (1)"])
 
+    def test_on_a_terminal_no_word_is_broken(self):
+        window, other = self.opened("Prescribe"), self.opened()
+        told = f"Send_data (4) needs Data_Manager (1), which ms-dmer 2 of Doctor (0),\nData_Manager (1) bars while window {window} holds Doctor (0)\n"
+        self.assertEqual(self.on_terminal("obstacle", NAME, "ANNA", other, "Send_data"), (0, told.replace("\n", "\r\n")))
+        lines = self.on_terminal("journal", NAME)[1].splitlines()
+        self.assertEqual((timeless(lines[1]), lines[2]), ("TIME ANNA (0) ask window 8 for Prescribe (2): Doctor (0)", "  [desk-7]"))
+
     def test_a_token_names_a_request(self):
         token = "00112233445566778899aabbccddeeff"
         window = self.done("open", NAME, "ANNA", "--token", token)
@@ -395,6 +416,31 @@ class Windows(OnStore):
         self.assertEqual(self.refused("close", NAME, "ANNA", window.strip(), "--token", token),
                          "refused: 132 token of another request: this token is on record for another request\n")
         self.assertEqual(self.refused("open", NAME, "ANNA", "--token", "12", status=2), "nutrameza: 12 is no token: 32 digits from 0 to f\n")
+
+    def test_a_storage_that_fails_within_a_call(self):
+        window = self.done("open", NAME, "ANNA").strip()
+        lost = {"error": "sqlite: disk I/O error", "token": bytes(range(16))}
+        unknown = "nutrameza: the storage failed within the commit, so that it may be done or not: sqlite: disk I/O error\n"
+        repeat = "Repeat it with --token 000102030405060708090a0b0c0d0e0f until another answer comes.\n"
+        for call, kind, words in (("open", store.StoreOpened, ("open", NAME, "ANNA")), ("short_ask", store.StoreChosen, ("ask", NAME, "ANNA", window, "Read_id")),
+                                  ("close", store.StoreAnswer, ("close", NAME, "ANNA", window))):
+            self.assertEqual(self.answered(call, kind(call, 130, 0, b"", store.Told(**lost)), *words), (4, "", unknown + repeat))
+        busy = store.StoreAnswer("close", 128, 0, b"", store.Told())
+        self.assertEqual(self.answered("close", busy, "close", NAME, "ANNA", window),
+                         (3, "", "nutrameza: busy: others have held the lock for 10 s, and nothing is changed; try again\n"))
+        changed = store.StorePolicy("policy", 130, 0, bytes(8), store.Told(**lost))
+        self.assertEqual(self.answered("policy", changed, "policy", NAME, WARD)[::2],
+                         (4, unknown + "'nutrameza store policies' says whether version 2 is in place.\n"))
+        made = store.StoreAnswer("create", 130, 0, b"", store.Told(**lost))
+        self.assertEqual(self.answered("create", made, "create", "w", WARD), (4, "", unknown + "'nutrameza store wards' says whether it is there.\n"))
+        replayed = store.Verified("verify", 129, 0, b"", store.Told(**lost))
+        self.assertEqual(self.answered("verify", replayed, "mend", NAME, "ANNA"),
+                         (3, "", "nutrameza: the storage failed, and nothing is changed: sqlite: disk I/O error\n"))
+
+    def answered(self, call, answer, *words):
+        """What a sub-command says where a call of the store gives this answer."""
+        with unittest.mock.patch.object(Store, call, lambda *_: answer):
+            return self.store(*words)
 
     def test_refusals_in_words(self):
         window = self.done("open", NAME, "ANNA").strip()
@@ -457,6 +503,9 @@ class Journals(OnStore):
         """The command at work."""
         environment = {**os.environ, "NUTRAMEZA_STORE": self.name, "NUTRAMEZA_NAMES": WARD}
         began = subprocess.Popen([*COMMAND, "store", *words], env=environment, stdout=subprocess.PIPE, stderr=subprocess.PIPE, text=True)
+        ending = threading.Timer(60, began.kill)  # so that no line is waited for in vain
+        ending.start()
+        self.addCleanup(ending.cancel)
         self.addCleanup(lambda: (began.kill(), began.communicate()) if began.poll() is None else None)
         return began
 
@@ -496,21 +545,6 @@ class Long(OnStore):
             other.execute("insert into journal with recursive n(nr) as (select 2 union all select nr + 1 from n where nr < ?) select ward, usr, n.nr, "
                           "turn, version, null, 4, 9, x'', 13, null, host, at from n, journal where ward = 1 and usr = 0 and journal.nr = 1",
                           [self.entries])
-
-    def on_terminal(self, *words):
-        """Exit status and output of the command on a terminal of its own, where progress is shown at once."""
-        program = "import sys; from nutrameza import cli, progress; progress.FIRST = progress.NEXT = 0.01; sys.exit(cli.main())"
-        pid, terminal = pty.fork()
-        if pid == 0:
-            os.environ.update(NUTRAMEZA_STORE=self.name, NUTRAMEZA_NAMES=WARD)
-            os.execv(sys.executable, [sys.executable, "-B", "-c", program, "store", *words])
-        said = b""
-        try:
-            while True:
-                said += os.read(terminal, 4096)
-        except OSError:
-            os.close(terminal)
-        return os.waitpid(pid, 0)[1], said.decode()
 
     def test_progress_is_on_a_terminal_alone_and_goes(self):
         last = f"ward 3: {self.entries:,} entries replayed, 1 difference, no incident"
@@ -561,6 +595,12 @@ class Connecting(OnStore):
     def test_a_storage_that_fails(self):
         self.path("ward.db", b"this is no database, but a text that is long enough to be looked at as one" * 20)
         self.assertEqual(self.refused("wards", status=3), f"nutrameza: {self.name}: the storage failed, and nothing is changed: sqlite: file is not a database (26)\n")
+
+    def test_a_server_that_is_not_there_and_no_password_is_shown(self):
+        gone = "postgresql://anna:secret@/none?host=/nowhere&port=1"
+        said = self.refused("who", NAME, "--store", gone, status=3)
+        self.assertTrue(said.startswith("nutrameza: postgresql://anna:***@/none?host=/nowhere&port=1: the storage failed, and nothing is changed: "))
+        self.assertNotIn("secret", said)
 
     def test_wrong_usage(self):
         for words, told in ((("wards", "--store", ""), "no store is named: --store or NUTRAMEZA_STORE, as sqlite:PATH or postgresql://.."),
@@ -618,7 +658,10 @@ class Help(OnStore):
     def test_completion_of_wards_names_windows_and_files(self):
         window = self.opened()
         self.path("one.img", b"")
-        self.assertEqual(self.completed("nutrameza", "store", "who", "wa"), ["ward\\ 3"])
+        for typed, offered in (("wa", "ward\\ 3"), ("ward\\ ", "ward\\ 3"), ("'ward ", "ward 3"), ('"w', "ward 3")):
+            self.assertEqual(self.completed("nutrameza", "store", "who", typed), [offered])
+        for typed in ("ward\\ 3", "'ward 3'", '"ward 3"'):
+            self.assertEqual(self.completed("nutrameza", "store", "show", typed, "ANNA", ""), [window])
         self.assertEqual(self.completed("nutrameza", "store", "show", NAME, ""), ["ANNA"])
         self.assertEqual(self.completed("nutrameza", "store", "show", "--names", NEXT, NAME, "B"), ["BEN"])
         self.assertEqual(self.completed("nutrameza", "store", "show", NAME, "ANNA", ""), [window])
