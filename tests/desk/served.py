@@ -64,6 +64,7 @@ class Running:
         self.first = self.process.stdout.readline() + self.process.stdout.readline()
         found = re.search(r"http://(127\.0\.0\.1):(\d+)/([\w-]+)/$", self.first.split("\n")[0])
         if found is None:
+            self.process.kill()
             raise AssertionError(f"no address: {self.first!r} {self.process.communicate()}")
         self.address, self.host, self.port, self.secret = found.group(0), found.group(1), int(found.group(2)), found.group(3)
 

@@ -5,6 +5,7 @@ import json
 import os
 import signal
 import socket
+import struct
 import subprocess
 import time
 import unittest
@@ -170,6 +171,17 @@ class Start(Desks):
         out, err = served.process.communicate(timeout=10)
         self.assertEqual((served.process.returncode, out, err), (0, "\n", ""))
         self.assertEqual(os.listdir(served.folder.name), [])
+
+    def test_a_browser_that_goes_away_amid_an_answer_does_not_end_it(self):
+        served = self.desk(self.largest())
+        for _ in range(5):
+            with socket.create_connection((served.host, served.port)) as gone:
+                gone.setsockopt(socket.SOL_SOCKET, socket.SO_LINGER, struct.pack("ii", 1, 0))
+                gone.sendall(f"GET /{served.secret}/ HTTP/1.1\r\nHost: {served.host}:{served.port}\r\n\r\n".encode() * 20)
+        time.sleep(1)
+        self.assertEqual((served.process.poll(), served.get("policy")[0]), (None, 200))
+        served.process.send_signal(signal.SIGINT)
+        self.assertEqual((served.process.communicate(timeout=10)[1], served.process.returncode), ("", 0))
 
     def run_it(self, *words):
         """The exit status of a desk that does not start, and what it said."""

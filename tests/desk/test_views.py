@@ -86,6 +86,8 @@ class PolicyView(unittest.TestCase):
         made = said(largest.text())
         shown, table = view.accepted(made), calls.table(made.image)
         self.assertEqual(shown["counts"] + [len(shown["exclusions"])], [64, 64, 256, 32])
+        self.assertEqual([one["figure"] for one in shown["exclusions"][:4]],
+                         [f"{figures} combinations are allowed" for figures in ("3 of 4", "4 of 8", "11 of 16", "3 of 4")])
         for role, one in enumerate(shown["roles"]):
             ways = set(one["granted"]).union(*(way["permissions"] for way in one["through"]))
             self.assertEqual(ways, table.carried_by(role))

@@ -33,6 +33,7 @@ def desk(arguments: argparse.Namespace) -> int:
     """Serves the desk until Ctrl-C."""
     if signal.getsignal(signal.SIGINT) is not signal.SIG_IGN:  # as in the background of a script
         signal.signal(signal.SIGINT, signal.default_int_handler)
+    signal.signal(signal.SIGPIPE, signal.SIG_IGN)  # a browser may go away amid an answer
     served = server.Server(server.Desk(arguments.image, names_of(arguments.names)), arguments.port)
     print(f"{arguments.image}: the desk is at {served.address()}\nCtrl-C ends it", flush=True)
     if not arguments.no_browser and has_screen():

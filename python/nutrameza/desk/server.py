@@ -7,6 +7,7 @@ import http.server
 import json
 import os
 import secrets
+import sys
 import threading
 from typing import Any, Callable, Dict, NamedTuple, Optional
 
@@ -192,6 +193,11 @@ class Server(http.server.ThreadingHTTPServer):
             super().__init__((HOST, port), Handler)
         except OSError as wrong:
             raise OSError(wrong.errno, wrong.strerror, f"port {port}") from None
+
+    def handle_error(self, request: Any, client_address: Any) -> None:
+        """A browser that goes away amid an answer is nothing to tell."""
+        if not isinstance(sys.exc_info()[1], OSError):
+            super().handle_error(request, client_address)
 
     def host(self) -> str:
         """The host name and port that a request has to be for."""
