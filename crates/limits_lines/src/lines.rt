@@ -9,8 +9,7 @@ ghost use Rattle.exclusion_rows.specs.Rows.{exclusionsIn};
 ghost use Rattle.sessions.specs.Calls.{Known};
 ghost use Rattle.limits_lines.specs.Lines.{blamed as blamedFor, linesRefusal, othersRefusal};
 use ledger::bytes::LINE;
-use ledger::bytes::line_of;
-use ledger::sound::sound;
+use ledger::plainly::sound_at;
 use limits_left::has_limits;
 use sessions::first::roles_of;
 use sessions::given::Rules;
@@ -28,9 +27,8 @@ pub fn line_sound(
     ensures { λ r. ⌜ ((p : Policy) → Known (rules .head) (now (authorized .entry)) (exclusionsIn (now (xs .entry)) (rules .count)) p
         → r ≡ soundBy SESSIONS (meaning p v) (lineOf SESSIONS (now (ledger .entry)) v)) ⌝ }
 {
-    let l = line_of(ledger, v);
     let own = roles_of(authorized, v);
-    sound(l, rules.head.roles, own, xs, rules.count)
+    sound_at(ledger, v, rules.head.roles, own, xs, rules.count)
 }
 
 // 11 for the line of user v; the extra is that user plus 1, where it is not the asker.

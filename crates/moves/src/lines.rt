@@ -8,7 +8,7 @@ ghost use Rattle.model.specs.Run.{returned};
 ghost use Rattle.model.specs.Moves.{moveAnswer, resizedLines, moveOn};
 ghost use Rattle.exclusion_rows.specs.Rows.{exclusionsIn};
 ghost use Rattle.sessions.specs.Calls.{Known, Gives};
-use moves_line::line_bytes;
+use ledger::bytes::line_bytes;
 use moves_line::line_fault;
 use moves_line::line_size;
 use moves_line::put_resized;

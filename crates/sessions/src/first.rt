@@ -8,8 +8,7 @@ ghost use Rattle.exclusion_rows.specs.Rows.{exclusionsIn};
 ghost use Rattle.sessions.specs.Calls.{Known, firstRefusal};
 use crate::given::Rules;
 use ledger::bytes::LINE;
-use ledger::bytes::line_of;
-use ledger::sound::sound;
+use ledger::plainly::sound_at;
 
 // A word, with what its type says of it, which nothing says of a word behind a reference.
 fn word(row: u64) -> u64
@@ -47,9 +46,8 @@ pub fn first_refusal(
         return 10;
     }
     let u = user as usize;
-    let l = line_of(ledger, u);
     let own = roles_of(authorized, u);
-    if !sound(l, head.roles, own, xs, rules.count) {
+    if !sound_at(ledger, u, head.roles, own, xs, rules.count) {
         return 11;
     }
     0
