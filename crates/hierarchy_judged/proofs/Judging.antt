@@ -3,7 +3,9 @@
 use mathlib.Core.Path.{_≡_, refl, sym, ap, ap₂, subst, _∙_}
 use mathlib.Core.Bool.{Bool, true, false}
 use mathlib.Core.List.{List}
-use Prim.Native.Nat.{ℕ, _≤_, _<_}
+use Prim.Native.Nat.{ℕ, zero, suc, _≤_, _<_}
+use native.Mathlib.Decide.{decLt}
+use native.Mathlib.Omega.{arith}
 use lib.Dec.{ltb}
 use lib.ListN.{getD}
 use borrow.Author.Tests.{lt-ltb, le-ltb}
@@ -15,8 +17,13 @@ use Rattle.model.specs.Sets.{has}
 use Rattle.model.specs.Policy.{Policy, belowTable, reached, authorized, closureBy}
 use Rattle.model.specs.Judgement.{lowestOnLoop, lowestOverReach, refusing, judgeMeaning}
 use Rattle.model_laws.proofs.Accepted.{not-accepted}
-use Rattle.hierarchy_judged.specs.Loops.{Gives, Judged}
+use Rattle.model_laws.proofs.Bools.{not-both}
+use Rattle.model_laws.proofs.LowestLaws.{lowest-is}
+use Rattle.model_laws.proofs.UnionLaws.{has-none}
+use Rattle.hierarchy.proofs.Closing.{passed-over}
+use Rattle.hierarchy_judged.specs.Loops.{Fit, Gives, Judged}
 use Rattle.hierarchy_judged.specs.Reach.{reachAt, wideAt, Authorizes}
+use Rattle.hierarchy_judged.proofs.Reaching.{flat-alone}
 
 -- the lowest role that stands below itself in a table
 abbrev pub onLoop : List ℕ → ℕ → ℕ
@@ -25,6 +32,14 @@ onLoop below roles = lowest (λ a. has (getD below a 0) a) 0 roles
 -- the order of the tests: a role on a loop, then a user with more than 16 roles
 abbrev verdict : Bool → Bool → ℕ → ℕ → Checked → Checked
 verdict a b r u v = elim a [ true ↦ Refused 22 r | false ↦ elim b [ true ↦ Refused 23 u | false ↦ v ] ]
+
+-- a table whose first n rows are empty is closed as it is
+flat-closed : (n : ℕ) (rows : List ℕ) → ((r : ℕ) → r < n → getD rows r 0 ≡ 0) → rows ≡ closureBy n rows
+unfolding closureBy
+flat-closed zero rows z = refl
+flat-closed (suc n) rows z =
+    let e = flat-closed n rows (λ r l. z r (omega arith)) in
+    e ∙ passed-over n (closureBy n rows) (ap (λ (x : List ℕ). getD x n 0) (sym e) ∙ z n (omega arith))
 
 -- an image that its words refuse stays refused
 pub judged-refused : (p : Policy) (c : Checked) (own below : List ℕ) (n place : ℕ) → c ≡ Refused n place → Judged p c c own below
@@ -108,3 +123,21 @@ module _ (p : Policy) (h : Head) (assigned juniors below : List ℕ) (g : Gives 
               below-is = λ x q. table-is;
               own-is = λ x q v i. w .rows k v (subst (λ (y : Head). v < y .users) (g .head-is) i) ∙ reach-is v;
             }
+
+-- where no role stands over another, the image is accepted, and both tables are right as they are
+module _ (p : Policy) (h : Head) (assigned juniors : List ℕ) (g : Gives p h assigned juniors) (f : Fit h assigned juniors)
+    (flat : (r : ℕ) → r < h .roles → getD juniors r 0 ≡ 0) where
+  none : h .roles ≤ onLoop juniors (h .roles)
+  none =
+      let r : ℕ = onLoop juniors (h .roles) in
+      elim (decLt r (h .roles)) [
+        | yes q ↦
+            not-both (has (getD juniors r 0) r) (lowest-is (λ a. has (getD juniors a 0) a) 0 (h .roles) .passes (omega arith))
+            (ap (λ (s : ℕ). has s r) (flat r q) ∙ has-none r)
+        | no q ↦ omega arith
+      ]
+
+  pub judged-flat : (c : Checked) → c ≡ Accepted h → Judged p c (Accepted h) assigned juniors
+  judged-flat c e =
+      judged-ordered p h assigned juniors juniors g (flat-closed (h .roles) juniors flat) c e (onLoop juniors (h .roles)) refl none (h .users) assigned
+      (flat-alone juniors (h .users) assigned (h .roles) (f .roles) flat (f .few)) (omega arith)

@@ -109,9 +109,9 @@ module _ (below : List ℕ) (users : ℕ) (assigned₀ : List ℕ) where
         }
 
   -- where no role stands over another, each row is right as it is
-  pub all-alone : (roles seniors : ℕ) → roles ≤ 64 → seniors ≡ setOf (standsOver below) roles → Few roles assigned₀ → seniors ≡ 0
+  pub flat-alone : (roles : ℕ) → roles ≤ 64 → ((r : ℕ) → r < roles → getD below r 0 ≡ 0) → Few roles assigned₀
       → Authorizes below users assigned₀ users assigned₀
-  all-alone roles seniors r e f z =
+  flat-alone roles r flat f =
       let w = lowest-is (wideAt below assigned₀) 0 users in
       let u : ℕ = lowest (wideAt below assigned₀) 0 users in
       record {
@@ -125,8 +125,19 @@ module _ (below : List ℕ) (users : ℕ) (assigned₀ : List ℕ) where
     where
       alone : (v : ℕ) → getD assigned₀ v 0 ≡ reachAt below assigned₀ v
       alone v =
-          reach-alone below seniors (getD assigned₀ v 0) (lt-of-lt-of-le (f v .0) (pow-mono r)) (over-of below roles seniors (getD assigned₀ v 0) e (f v .0))
-          (ap (inter (getD assigned₀ v 0)) z ∙ and-zero-r (getD assigned₀ v 0))
+          let s = getD assigned₀ v 0 in
+          sym (reaches-itself below s (lt-of-lt-of-le (f v .0) (pow-mono r)) (λ a h. flat a (has-below roles s a (f v .0) h)))
 
       narrow : (v : ℕ) → wideAt below assigned₀ v ≡ false
       narrow v = le-ltb 16 (count 64 (reachAt below assigned₀ v)) (omega (arith, ap (count 64) (alone v), f v .1))
+
+  -- by the seniors, of whom there are none
+  pub all-alone : (roles seniors : ℕ) → roles ≤ 64 → seniors ≡ setOf (standsOver below) roles → Few roles assigned₀ → seniors ≡ 0
+      → Authorizes below users assigned₀ users assigned₀
+  all-alone roles seniors r e f z = flat-alone roles r flat f
+    where
+      flat : (a : ℕ) → a < roles → getD below a 0 ≡ 0
+      flat a l =
+          cases (eqb (getD below a 0) 0) (eqb-true (getD below a 0) 0)
+          (λ q. not-both (has seniors a) (ap (λ (x : ℕ). has x a) e ∙ has-setOf (standsOver below) roles a l (ap not q))
+          (ap (λ (x : ℕ). has x a) z ∙ has-none a))

@@ -1,8 +1,9 @@
 // The lowest role on a loop of senior words, and an image judged by what its words mean together once they pass: the
 // refusals 22 and 23.
 ghost use mathlib.Core.Path.{_≡_};
+ghost use mathlib.Core.Bool.{false};
 ghost use lib.ListN.{getD};
-ghost use Prim.Native.Nat.{_≤_};
+ghost use Prim.Native.Nat.{ℕ, _≤_, _<_};
 ghost use Rattle.model.specs.declared.Head.{Head as HeadOf};
 ghost use Rattle.model.specs.Tests.{lowest};
 ghost use Rattle.model.specs.Sets.{has};
@@ -27,9 +28,23 @@ pub fn lowest_on_loop(below: &[u64; 64], roles: usize) -> usize
     roles
 }
 
+// One of so many roles stands over another.
+fn some_over(below: &[u64; 64], roles: usize) -> bool
+    requires { ⌜ roles ≤ 64 ⌝ }
+    ensures { λ b. ⌜ (b ≡ false → (r : ℕ) → r < roles → getD (now (below .entry)) r 0 ≡ 0) ⌝ }
+{
+    for r in 0..roles {
+        if below[r] != 0 {
+            return true;
+        }
+    }
+    false
+}
+
 // What an image whose words are judged is judged by what they mean together: 22 with the lowest role on a loop, then 23
 // with the lowest user who may activate more than 16 roles. The table of direct juniors is closed in place, and the
-// table of assigned roles becomes that of the roles that each user may activate.
+// table of assigned roles becomes that of the roles that each user may activate. Where no role stands over another,
+// both are right as they are.
 pub fn judged(c: Checked, assigned: &mut [u64; 64], juniors: &mut [u64; 64]) -> Checked
     requires { ⌜ ((h : HeadOf) → c ≡ Checked.Accepted h → Fit h (now assigned) (now juniors)) ⌝ }
     ensures { λ r. ⌜ ((p : Policy) → Passed p c (now (assigned .entry)) (now (juniors .entry)) → Judged p c r (now (assigned .exit)) (now (juniors .exit))) ⌝ }
@@ -39,6 +54,9 @@ pub fn judged(c: Checked, assigned: &mut [u64; 64], juniors: &mut [u64; 64]) -> 
     };
     let roles = head.roles as usize;
     let users = head.users as usize;
+    if !some_over(juniors, roles) {
+        return c;
+    }
     close(juniors, roles);
     let r = lowest_on_loop(juniors, roles);
     if r < roles {

@@ -117,6 +117,8 @@ fn gather(
 }
 
 // The assignments from a place on to the user that the word names, taken in where they leave the user 16 roles at most.
+// All bits of the turned word go into the user's number, so that the word is read as a whole; one of another kind, or
+// with a spare bit, has no user in range.
 fn spell(
     image: &[u8],
     words: usize,
@@ -130,8 +132,12 @@ fn spell(
     ensures { λ r. ⌜ ((juniors : List ℕ)
         → Led (now (image .entry)) h words from sum (now (assigned .entry)) juniors (r .place) (r .sum) (now (assigned .exit)) juniors) ⌝ }
 {
-    let u = w / layout::FIRST_UNIT % 64;
+    let x = w / layout::SECOND_UNIT + w % layout::SECOND_UNIT * 65536;
+    let u = std::num::wrapping_sub_u32(x / 64, ASSIGNMENT_TURNED);
     if h.users as u32 <= u {
+        return Run { place: from, sum };
+    }
+    if 64 <= u {
         return Run { place: from, sum };
     }
     let who = u as usize;

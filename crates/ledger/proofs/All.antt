@@ -11,6 +11,7 @@ use lib.ListN.{length, getD, take, drop, length-take, drop-of-length-le}
 use lib.Seq.{drop-cons, getD-take, length-take-le}
 use borrow.Author.Tests.{not-true, not-false}
 use Rattle.model.specs.Tests.{all}
+use Rattle.model_laws.proofs.Bools.{and-l, and-r, both}
 
 -- the member at k and those behind it, by a test b of that member
 module _ {A : Type 0} (f : A → Bool) (d : A) (xs : List A) (k : ℕ) where
@@ -83,3 +84,10 @@ unfolding all
 all-swap f [] ys = sym (all-true ys)
 all-swap f (x ∷ xs) ys =
     ap (λ (b : Bool). all (f x) ys && b) (all-swap f xs ys) ∙ sym (all-and (f x) (λ y. all (λ x. f x y) xs) ys)
+
+-- a test that passes wherever another does
+pub all-then : {A : Type 0} (f g : A → Bool) (xs : List A) → ((x : A) → f x ≡ true → g x ≡ true) → all f xs ≡ true → all g xs ≡ true
+unfolding all
+all-then f g [] h e = refl
+all-then f g (x ∷ xs) h e =
+    both (g x) (all g xs) (h x (and-l (f x) (all f xs) e)) (all-then f g xs h (and-r (f x) (all f xs) e))

@@ -6,7 +6,7 @@ use Prim.Native.Nat.{ℕ, zero, suc, _+_, _-_, _*_, _≤_, _<_}
 use native.Mathlib.Nat.{zero-add, suc-add}
 use native.Mathlib.Numerals.{add-one}
 use native.Mathlib.Omega.{arith}
-use lib.ListN.{length, getD, set, take, drop, length-append}
+use lib.ListN.{length, getD, set, take, drop, length-append, length-drop}
 use lib.Seq.{take-nil, drop-nil, take-take, drop-drop, take-suc, take-suc-set, length-take-le}
 use Rattle.model.specs.declared.Session.{Session}
 use Rattle.model.specs.declared.Line.{Line}
@@ -55,6 +55,20 @@ read-snoc (suc k) bs =
     ∙ ap (λ (x : List ℕ). readSessions k (drop 16 bs) ++ (sessionIn x ∷ []))
     (drop-drop (16 * k) 16 bs ∙ ap (λ (n : ℕ). drop n bs) (sym e)))
 
+-- one session of those read
+read-at : (n k : ℕ) (bs : List ℕ) (d : Session) → k < n → getD (readSessions n bs) k d ≡ sessionIn (drop (16 * k) bs)
+unfolding readSessions sessionIn
+read-at zero k bs d h = absurd (omega arith)
+read-at (suc n) zero bs d h = refl
+read-at (suc n) (suc k) bs d h =
+    let e : 16 * suc k ≡ 16 + 16 * k = omega arith in
+    read-at n k (drop 16 bs) d (omega arith) ∙ ap sessionIn (drop-drop (16 * k) 16 bs ∙ ap (λ (i : ℕ). drop i bs) (sym e))
+
+-- session k of a line of n, by where its bytes stand
+pub session-there : (n k : ℕ) (bytes : List ℕ) (d s : Session) → k < n → s ≡ sessionIn (drop (16 + 16 * k) bytes)
+    → s ≡ getD (readSessions n (drop 16 bytes)) k d
+session-there n k bytes d s h e = e ∙ ap sessionIn (sym (drop-drop (16 * k) 16 bytes)) ∙ sym (read-at n k (drop 16 bytes) d h)
+
 -- a turn of the loop that reads sessions
 pub read-next : (l : List ℕ) (at k : ℕ) (ss : List Session) (s : Session) → take k ss ≡ readSessions k (drop at l) → k < length ss
     → s ≡ sessionIn (drop (at + 16 * k) l) → take (k + 1) (set ss k s) ≡ readSessions (k + 1) (drop at l)
@@ -62,6 +76,11 @@ read-next l at k ss s inv h e =
     ap (λ (n : ℕ). take n (set ss k s)) (add-one k) ∙ take-suc-set ss k s h
     ∙ ap₂ (λ (x : List Session) (y : Session). x ++ (y ∷ [])) inv (e ∙ ap sessionIn (sym (drop-drop (16 * k) at l)))
     ∙ sym (read-snoc k (drop at l)) ∙ ap (λ (n : ℕ). readSessions n (drop at l)) (sym (add-one k))
+
+-- the line of user u has its bytes, where the ledger does
+pub length-line : (z u : ℕ) (ledger : List ℕ) → z * u + z ≤ length ledger → length (lineAt z u ledger) ≡ z
+unfolding lineAt
+length-line z u ledger h = length-take-le z (drop (z * u) ledger) (omega (arith, length-drop (z * u) ledger))
 
 -- the line of user u, by where its numbers stand
 pub line-read : (W u : ℕ) (ledger : List ℕ)

@@ -18,7 +18,7 @@ use Rattle.model.specs.declared.Exclusions.{Exclusions}
 use Rattle.model.specs.declared.Session.{Session}
 use Rattle.model.specs.declared.Line.{Line}
 use Rattle.model.specs.Tests.{all}
-use Rattle.model.specs.Sets.{count, within}
+use Rattle.model.specs.Sets.{has, count, within}
 use Rattle.model.specs.Policy.{Meaning, met}
 use Rattle.model.specs.Line.{isOpen, activeIn, counted, exclusionsMet, sessionSound, sessionsSound}
 use Rattle.model_laws.proofs.Bools.{and-l, and-r, or-r, all-four}
@@ -59,6 +59,14 @@ module _ (m : Meaning) (l : Line) (k : ℕ) (s : Session) where
       unless : (o : Bool) → (o || false) ≡ o
       unless true = refl
       unless false = refl
+
+  -- by the four tests of a session that is not empty, of a line with these open bits and this history
+  pub tests-sound : {f i o w : Bool} (opened history authorized : ℕ) → m .authorized ≡ authorized → l .opened ≡ opened → l .history ≡ history
+      → (eqb (s .active) 0 && eqb (s .history) 0) ≡ false → f ≡ has opened k → i ≡ within (s .active) (s .history) → o ≡ within (s .history) history
+      → w ≡ within (s .active) authorized → (f && i && o && w) ≡ sessionSound m l k s
+  unfolding isOpen
+  tests-sound opened history authorized ea eo eh z ef ei eu ew =
+      rw (ef, ei, eu, ew, ← ea, ← eo, ← eh) (filled-sound z)
 
 -- ---- the sessions from k on are sound, by a test b of session k
 module _ (m : Meaning) (l : Line) (d : Session) (ss : List Session) (k : ℕ) where

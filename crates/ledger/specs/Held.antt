@@ -5,6 +5,7 @@ use mathlib.Core.Path.{_≡_}
 use mathlib.Core.Bool.{Bool}
 use mathlib.Core.List.{List, [], _∷_}
 use Prim.Native.Nat.{ℕ}
+use lib.Dec.{ltb}
 use lib.ListN.{take}
 use Rattle.model.specs.declared.Kind.{Kind}
 use Rattle.model.specs.declared.Exclusion.{Exclusion}
@@ -12,7 +13,7 @@ use Rattle.model.specs.declared.Exclusions.{Exclusions}
 use Rattle.model.specs.declared.Session.{Session}
 use Rattle.model.specs.declared.Line.{Line}
 use Rattle.model.specs.Tests.{all}
-use Rattle.model.specs.Sets.{union}
+use Rattle.model.specs.Sets.{union, inter, count}
 use Rattle.model.specs.Policy.{Meaning, met}
 use Rattle.model.specs.Line.{counted}
 
@@ -28,6 +29,10 @@ namedIn (s ∷ ss) = union (union (s .active) (s .history)) (namedIn ss)
 -- every role that the line names: in its history, or by a session
 unfoldable pub namedBy : Line → ℕ
 namedBy l = union (l .history) (namedIn (l .sessions))
+
+-- of each exclusion fewer than n members are in the set
+unfoldable pub fewIn : ℕ → Exclusions → Bool
+fewIn set xs = all (λ x. ltb (count 64 (inter (x .members) set)) (x .n)) (take (xs .count) (xs .list))
 
 -- every exclusion of the meaning is met exactly where the listed ones are
 abbrev pub Listed : Exclusions → Meaning → Type 0

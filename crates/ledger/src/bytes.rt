@@ -16,6 +16,15 @@ pub const LINE: usize = 16 + 16 * SESSIONS;
 
 // ---- reads
 
+// The bytes of the user's line, of a ledger with lines of so many bytes.
+pub fn line_bytes(ledger: &[u8], size: usize, user: usize) -> &[u8]
+    requires { ⌜ size * user + size ≤ length (now ledger) ⌝ }
+    ensures { λ r. ⌜ now r ≡ lineAt size user (now (ledger .entry)) ⌝ }
+{
+    let at = size * user;
+    &ledger[at..at + size]
+}
+
 // The session whose bytes start at the offset.
 pub fn session_at(s: &[u8], at: usize) -> Session
     requires { ⌜ at + 16 ≤ length (now s) ⌝ }

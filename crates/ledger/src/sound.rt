@@ -3,6 +3,7 @@ ghost use mathlib.Core.Path.{_≡_};
 ghost use Prim.Native.Nat.{_≤_, _<_, _^_};
 ghost use lib.Dec.{ltb};
 ghost use lib.ListN.{length};
+ghost use Rattle.model.specs.declared.Line.{Line as LineOf};
 ghost use Rattle.model.specs.Policy.{Meaning, met};
 ghost use Rattle.model.specs.Line.{SESSIONS, activeIn, counted as countedBy, exclusionsMet, sessionSound, sessionsSound, sound as soundBy};
 ghost use Rattle.exclusion_rows.specs.Rows.{exclusionsIn};
@@ -11,6 +12,7 @@ use exclusion_rows::exclusion_of;
 use model::Exclusion;
 use model::Kind;
 use model::Line;
+use model::Role;
 use model::SESSIONS;
 use model::Session;
 
@@ -127,19 +129,21 @@ pub fn exclusions_met(l: Line, xs: &[[u64; 2]; 32], count: usize) -> bool
 
 // ---- sessions
 
-// Session k is zero where it is closed, its active roles are in its history, that in the user's, and it has no role
-// active that the user may not activate. An empty session is, open or closed.
-fn session_sound(l: Line, k: usize, s: Session, authorized: u64) -> bool
+// Session k, of a line with these open bits and this history, is zero where it is closed, its active roles are in its
+// history, that in the user's, and it has no role active that the user may not activate. An empty session is, open or
+// closed.
+pub fn session_sound(opened: u64, history: u64, k: usize, s: Session, authorized: u64) -> bool
     requires { ⌜ k < 64 ⌝ }
-    ensures { λ r. ⌜ ((m : Meaning) → m .authorized ≡ authorized → r ≡ sessionSound m l k s) ⌝ }
+    ensures { λ r. ⌜ ((m : Meaning) (l : LineOf) → m .authorized ≡ authorized → l .opened ≡ opened → l .history ≡ history
+        → r ≡ sessionSound m l k s) ⌝ }
 {
     let zero = (s.active == 0) & (s.history == 0);
     if zero {
         return true;
     }
-    let formed = ledger_change::is_open(l, k);
+    let formed = sets::has(opened, Role(k as u8));
     let inner = sets::within(s.active, s.history);
-    let outer = sets::within(s.history, l.history);
+    let outer = sets::within(s.history, history);
     formed & inner & outer & sets::within(s.active, authorized)
 }
 
@@ -149,7 +153,7 @@ fn sessions_sound(l: Line, authorized: u64) -> bool
 {
     for k in 0..SESSIONS {
         let s = l.sessions[k];
-        if !session_sound(l, k, s, authorized) {
+        if !session_sound(l.opened, l.history, k, s, authorized) {
             return false;
         }
     }

@@ -9,8 +9,7 @@ ghost use Rattle.exclusion_rows.specs.Rows.{exclusionsIn};
 ghost use Rattle.sessions.specs.Calls.{Known};
 ghost use Rattle.limits_lines.specs.Lines.{blamed as blamedFor, linesRefusal, othersRefusal};
 use ledger::bytes::LINE;
-use ledger::bytes::line_of;
-use ledger::sound::sound;
+use ledger::plainly::sound_at;
 use limits_left::has_limits;
 use model::refusals;
 use sessions::first::roles_of;
@@ -29,9 +28,8 @@ pub fn line_sound(
     ensures { λ r. ⌜ ((p : Policy) → Known (sizes .head) (now (authorized .entry)) (exclusionsIn (now (xs .entry)) (sizes .count)) p
         → r ≡ soundBy SESSIONS (meaning p v) (lineOf SESSIONS (now (ledger .entry)) v)) ⌝ }
 {
-    let l = line_of(ledger, v);
     let own = roles_of(authorized, v);
-    sound(l, sizes.head.roles, own, xs, sizes.count)
+    sound_at(ledger, v, sizes.head.roles, own, xs, sizes.count)
 }
 
 // 11 for the line of user v; the extra is that user plus 1, where it is not the asker.

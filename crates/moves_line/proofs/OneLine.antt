@@ -18,7 +18,7 @@ use Rattle.model.specs.Moves.{resized, padded, lineFault}
 use Rattle.model_laws.proofs.Resizing.{getD-padded, length-resized, byte-resized}
 use Rattle.model_laws.proofs.Padding.{padded-sound}
 use Rattle.model_laws.proofs.LineLaws.{length-readSessions}
-use Rattle.octets.specs.Splice.{splice}
+use Rattle.octets.specs.Splice.{splice, numberAt}
 use Rattle.octets.proofs.Splices.{splice-splice}
 
 -- ---- a list filled from the front
@@ -37,7 +37,7 @@ filled-whole k xs ys zs e f = sym (take-append-drop k xs) ∙ ap₂ (λ (a b : L
 -- ---- why it cannot go
 
 -- a line of F sessions, judged as the line of W that it is with empty ones behind it
-module _ (F W T : ℕ) (m : Meaning) (anti : Antitone m) (bs : List ℕ) (pos : 0 < F) (few : F ≤ W) (l : Line)
+module _ (F W : ℕ) (m : Meaning) (anti : Antitone m) (bs : List ℕ) (pos : 0 < F) (few : F ≤ W) (l : Line)
     (read : l ≡ padded (W - F) (readLine F bs)) where
   opened-is : l .opened ≡ readLine F bs .opened
   unfolding padded
@@ -47,28 +47,31 @@ module _ (F W T : ℕ) (m : Meaning) (anti : Antitone m) (bs : List ℕ) (pos : 
   unfolding readLine
   some = subst (λ (x : ℕ). 0 < x) (sym (length-readSessions F (drop 16 bs))) pos
 
-  -- by the three tests that code makes
-  module _ {a b low : Bool} (e : a ≡ ltb (l .opened) (2 ^ F)) (f : b ≡ sound W m l) (g : low ≡ ltb (l .opened) (2 ^ T)) where
-    formed-by : sound F m (readLine F bs) ≡ (a && b)
-    formed-by =
-        let w : F + (W - F) ≡ W = omega arith in
-        padded-sound F (W - F) m anti (readLine F bs) some
-        ∙ sym (ap₂ (λ (x y : Bool). x && y) (e ∙ ap (λ (x : ℕ). ltb x (2 ^ F)) opened-is) (f ∙ ap₂ (λ (k : ℕ) (x : Line). sound k m x) (sym w) read))
+  -- by the two tests that code makes
+  pub formed-by : {a b : Bool} → a ≡ ltb (l .opened) (2 ^ F) → b ≡ sound W m l → (a && b) ≡ sound F m (readLine F bs)
+  formed-by e f =
+      let w : F + (W - F) ≡ W = omega arith in
+      sym (padded-sound F (W - F) m anti (readLine F bs) some
+      ∙ sym (ap₂ (λ (x y : Bool). x && y) (e ∙ ap (λ (x : ℕ). ltb x (2 ^ F)) opened-is) (f ∙ ap₂ (λ (k : ℕ) (x : Line). sound k m x) (sym w) read)))
 
-    low-by : ltb (readLine F bs .opened) (2 ^ T) ≡ low
-    low-by = sym (g ∙ ap (λ (x : ℕ). ltb x (2 ^ T)) opened-is)
+-- by whether it is sound, and whether its open sessions go to T
+module _ (F T : ℕ) (m : Meaning) (bs : List ℕ) {formed low : Bool} {opened : ℕ} (e : formed ≡ sound F m (readLine F bs))
+    (o : opened ≡ numberAt bs 0) (g : low ≡ ltb opened (2 ^ T)) where
+  low-by : ltb (readLine F bs .opened) (2 ^ T) ≡ low
+  unfolding readLine numberAt
+  low-by = sym (g ∙ ap (λ (x : ℕ). ltb x (2 ^ T)) o)
 
-    pub fault11 : not (a && b) ≡ true → 11 ≡ lineFault F T m bs
-    unfolding lineFault pick
-    fault11 s = rw (formed-by ∙ not-true _ s)
+  pub fault11 : not formed ≡ true → 11 ≡ lineFault F T m bs
+  unfolding lineFault pick
+  fault11 s = rw (sym e ∙ not-true _ s)
 
-    pub fault24 : not (a && b) ≡ false → not low ≡ true → 24 ≡ lineFault F T m bs
-    unfolding lineFault pick
-    fault24 s o = rw (formed-by ∙ not-false _ s, low-by ∙ not-true _ o)
+  pub fault24 : not formed ≡ false → not low ≡ true → 24 ≡ lineFault F T m bs
+  unfolding lineFault pick
+  fault24 s k = rw (sym e ∙ not-false _ s, low-by ∙ not-true _ k)
 
-    pub fault0 : not (a && b) ≡ false → not low ≡ false → 0 ≡ lineFault F T m bs
-    unfolding lineFault pick
-    fault0 s o = rw (formed-by ∙ not-false _ s, low-by ∙ not-false _ o)
+  pub fault0 : not formed ≡ false → not low ≡ false → 0 ≡ lineFault F T m bs
+  unfolding lineFault pick
+  fault0 s k = rw (sym e ∙ not-false _ s, low-by ∙ not-false _ k)
 
 -- ---- its bytes, resized
 

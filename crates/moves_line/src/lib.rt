@@ -5,14 +5,14 @@ ghost use mathlib.Core.List.{_++_};
 ghost use Prim.Native.Nat.{_+_, _-_, _*_, _≤_, _<_};
 ghost use lib.ListN.{length, drop, replicate};
 ghost use Rattle.model.specs.Policy.{Meaning};
-ghost use Rattle.model.specs.Line.{SESSIONS, lineSize, readSessions, readLine, emptySession};
-ghost use Rattle.model.specs.Run.{lineAt};
+ghost use Rattle.model.specs.Line.{SESSIONS, lineSize, readSessions, readLine, emptySession, sound as soundBy};
 ghost use Rattle.model.specs.Kept.{Antitone};
 ghost use Rattle.model.specs.Moves.{resized, padded, lineFault};
 ghost use Rattle.octets.specs.Splice.{splice};
 ghost use Rattle.exclusion_rows.specs.Rows.{exclusionsIn};
 ghost use Rattle.ledger.specs.Held.{Held};
 use ledger::bytes::session_at;
+use ledger::plainly::plainly_sound;
 use ledger::sound::below;
 use ledger::sound::sound;
 use model::Line;
@@ -28,15 +28,6 @@ pub fn line_size(sessions: u8) -> usize
 }
 
 // ---- reads
-
-// The bytes of the user's line, of a ledger with lines of so many bytes.
-pub fn line_bytes(ledger: &[u8], size: usize, user: usize) -> &[u8]
-    requires { ⌜ size * user + size ≤ length (now ledger) ⌝ }
-    ensures { λ r. ⌜ now r ≡ lineAt size user (now (ledger .entry)) ⌝ }
-{
-    let at = size * user;
-    &ledger[at..at + size]
-}
 
 // The sessions of a line with so many, and empty ones behind them.
 fn sessions_in(bytes: &[u8], count: usize) -> [Session; SESSIONS]
@@ -67,6 +58,26 @@ fn line_in(bytes: &[u8], count: u8) -> Line
     }
 }
 
+// The line of so many sessions is sound: plainly, or as the line of SESSIONS that it is with empty ones behind it.
+fn line_sound(
+    bytes: &[u8],
+    sessions: u8,
+    roles: u8,
+    authorized: u64,
+    xs: &[[u64; 2]; 32],
+    count: usize,
+) -> bool
+    requires { ⌜ (length (now bytes) ≡ lineSize sessions) × (0 < sessions) × (sessions ≤ SESSIONS) × (count ≤ 32) × (length (now xs) ≡ 32) ⌝ }
+    ensures { λ r. ⌜ ((m : Meaning) → Antitone m → Held roles authorized (exclusionsIn (now (xs .entry)) count) m
+        → r ≡ soundBy sessions m (readLine sessions (now (bytes .entry)))) ⌝ }
+{
+    if plainly_sound(bytes, sessions, roles, authorized, xs, count) {
+        return true;
+    }
+    let l = line_in(bytes, sessions);
+    below(l.opened, sessions) & sound(l, roles, authorized, xs, count)
+}
+
 // Why a line of `from` sessions cannot go to `to`: 11 where it is not sound, 24 where a session from `to` on is open,
 // else 0.
 pub fn line_fault(
@@ -82,9 +93,8 @@ pub fn line_fault(
     ensures { λ r. ⌜ (r ≤ 24) × ((m : Meaning) → Antitone m → Held roles authorized (exclusionsIn (now (xs .entry)) count) m
         → r ≡ lineFault from to m (now (bytes .entry))) ⌝ }
 {
-    let l = line_in(bytes, from);
-    let formed = below(l.opened, from) & sound(l, roles, authorized, xs, count);
-    let low = below(l.opened, to);
+    let low = below(octets::get_u64(bytes, 0), to);
+    let formed = line_sound(bytes, from, roles, authorized, xs, count);
     if !formed {
         return refusals::LINE;
     }

@@ -9,8 +9,7 @@ ghost use Rattle.exclusion_rows.specs.Rows.{exclusionsIn};
 ghost use Rattle.sessions.specs.Calls.{Known, firstRefusal, sessionRefusal};
 use crate::given::Sizes;
 use ledger::bytes::LINE;
-use ledger::bytes::line_of;
-use ledger::sound::sound;
+use ledger::plainly::sound_at;
 use ledger_change::is_open;
 use model::Line;
 use model::SESSIONS;
@@ -52,9 +51,8 @@ pub fn first_refusal(
         return refusals::PERSON;
     }
     let u = user as usize;
-    let l = line_of(ledger, u);
     let own = roles_of(authorized, u);
-    if !sound(l, head.roles, own, xs, sizes.count) {
+    if !sound_at(ledger, u, head.roles, own, xs, sizes.count) {
         return refusals::LINE;
     }
     0

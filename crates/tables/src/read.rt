@@ -86,11 +86,22 @@ fn read_words(
         sum: first,
     };
     while at.place + 1 < words {
-        let w = octets::word_at(image, at.place);
+        let joined = members(image, words, at, h.roles, t);
+        t = joined.scan;
+        let from = Run {
+            place: joined.place,
+            sum: joined.sum,
+        };
+        let here = pass(image, words, from, h, t.due, assigned, granted, juniors);
+        if words <= here.place + 1 {
+            at = here;
+            continue;
+        }
+        let w = octets::word_at(image, here.place);
         let word = decode(w);
         let placed = Placed {
             word,
-            place: at.place,
+            place: here.place,
         };
         let number = step(
             h,
@@ -103,21 +114,14 @@ fn read_words(
             placed,
         );
         if number != 0 {
-            return refused(number, at.place as u16);
+            return refused(number, here.place as u16);
         }
         let e = word.entry;
-        let after = next(t, e);
-        let behind = Run {
-            place: at.place + 1,
-            sum: std::num::wrapping_add_u32(at.sum, w),
+        t = next(t, e);
+        at = Run {
+            place: here.place + 1,
+            sum: std::num::wrapping_add_u32(here.sum, w),
         };
-        let joined = members(image, words, behind, h.roles, after);
-        t = joined.scan;
-        let from = Run {
-            place: joined.place,
-            sum: joined.sum,
-        };
-        at = pass(image, words, from, h, t.due, assigned, granted, juniors);
     }
     let checked = closing(image, words, h, t.due, at.sum);
     let Checked::Accepted(_) = checked else {

@@ -28,7 +28,7 @@ returns : tie.Need-returns Inv-loop μ-loop
 unfolding emptySession
 returns c m e =
     let s = c .before .before .before .before in
-    sound-stop m _ emptySession _ (s .loop .k) (omega arith) (c .before .session-sound .ensures m e) (c .if1 .taken) ∙ s .loop .inv .2 m e
+    sound-stop m _ emptySession _ (s .loop .k) (omega arith) (c .before .session-sound .ensures m _ e refl refl) (c .if1 .taken) ∙ s .loop .inv .2 m e
 
 loop-again : tie.Need-loop-again Inv-loop μ-loop
 unfolding emptySession
@@ -37,7 +37,7 @@ loop-again c =
       omega arith,
       s .loop .inv .1,
       λ m e.
-          sound-next m _ emptySession _ (s .loop .k) (omega arith) (c .before .session-sound .ensures m e) (c .if1 .left) ∙ s .loop .inv .2 m e,
+          sound-next m _ emptySession _ (s .loop .k) (omega arith) (c .before .session-sound .ensures m _ e refl refl) (c .if1 .left) ∙ s .loop .inv .2 m e,
     )
 
 returns-2 : tie.Need-returns-2 Inv-loop μ-loop

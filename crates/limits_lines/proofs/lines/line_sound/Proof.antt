@@ -11,17 +11,19 @@ use Rattle.sessions.proofs.FirstSteps.{held}
 use Rattle.limits_lines.proofs.lines.line_sound.Statement.{statement}
 use Rattle.limits_lines.proofs.lines.line_sound.Tie as tie
 
-line-of-requires : tie.Need-line-of-requires
+sound-at-requires : tie.Need-sound-at-requires
 unfolding lineSize
-line-of-requires c κs = omega arith
+sound-at-requires c κs =
+    let s = c .before .before in
+    (omega arith, s .pre .1, s .pre .2)
 
 returns : tie.Need-returns
 unfolding lineOf
 returns c p h =
-    let a = c .before .before .before .before .args in
+    let a = c .before .before .before .args in
     let e = ap (λ (x : Head). x .users) (h .head-is) in
     let k = held (a .sizes .head) (a .authorized .now) _ p (a .v) _ h (omega arith) (c .before .roles-of .ensures) in
-    c .sound .ensures (meaning p (a .v)) k ∙ ap (sound SESSIONS (meaning p (a .v))) (c .before .before .line-of .ensures)
+    c .sound-at .ensures (meaning p (a .v)) k
 
 pub line-sound-spec : {M : Type 1} → statement M
-line-sound-spec = tie.close (tie.spec line-of-requires (λ c κs. search needs) (λ c κs. search needs) returns)
+line-sound-spec = tie.close (tie.spec (λ c κs. search needs) sound-at-requires returns)

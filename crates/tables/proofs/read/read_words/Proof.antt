@@ -44,19 +44,74 @@ loop-holds c =
     let e = c .fresh .ensures in
     (omega arith, omega (arith, a .pre .1), rw e, rw e (omega arith), refl, none, refl, refl, refl, refl, rw e)
 
+pass-requires : tie.Need-pass-requires Inv-loop μ-loop
+pass-requires c κs =
+    let m = c .before .before .before .before in
+    let a = m .before .before .before .before .before .before in
+    (a .pre .0, omega (arith, a .pre .1), a .pre .2, m .members .ensures .inside _ (omega arith) (omega (arith, m .before .if1 .taken)))
+
+loop-less : tie.Need-loop-less Inv-loop μ-loop
+loop-less c =
+    let p = c .before .before in
+    let i = p .before .before .before .before .before .before in
+    omega (arith, p .pass .ensures .inside, c .if2 .taken, i .if1 .taken)
+
+-- a run takes the place of the words that it passes
+loop-again : tie.Need-loop-again Inv-loop μ-loop
+unfolding assigning granting ordering limiting
+loop-again c =
+    let p = c .before .before in
+    let r = p .pass .ensures in
+    let m = p .before .before .before .before .before in
+    let j = m .members .ensures in
+    let inv = m .before .before .before .loop .inv in (
+      omega (arith, r .passed .onward, j .onward),
+      r .inside,
+      r .passed .scanned (m .members .result .scan) refl ∙ j .scanned _ _ refl ∙ inv .2,
+      rw (j .exclusions-same) (inv .3),
+      inv .4,
+      inv .5,
+      r .passed .assigned-is ∙ j .folded assigning (λ x y. refl) _ ∙ inv .6,
+      r .granted-is ∙ j .folded granting (λ x y. refl) _ ∙ inv .7,
+      r .passed .juniors-is ∙ j .folded ordering (λ x y. refl) _ ∙ inv .8,
+      r .limits-is _ ∙ j .folded limiting (λ x y. refl) _ ∙ inv .9,
+      rw (j .exclusions-same, r .places-are, j .places-are) (inv .10),
+    )
+
+word-at-requires : tie.Need-word-at-requires Inv-loop μ-loop
+word-at-requires c κs =
+    let p = c .before .before in
+    let m = p .before .before .before .before .before in
+    let a = m .before .before .before .before .before .before in
+    omega (arith, c .if2 .left, a .pre .0)
+
+cast-place : tie.Need-cast-refused Inv-loop μ-loop
+cast-place c =
+    let f = c .before .before in
+    let d = f .before .before .before .before .before .before in
+    let i = d .before .before in
+    let p = i .before .before in
+    let m = p .before .before .before .before .before in
+    let a = m .before .before .before .before .before .before in
+    omega (arith, i .if2 .left, a .pre .2)
+
 returns : tie.Need-returns Inv-loop μ-loop
 returns c =
-    let i = c .before .before in
-    let f = i .before in
+    let z = c .before .before in
+    let f = z .before in
     let d = f .before .before .before .before .before .before in
     let w = d .before in
-    let l = w .before .before .before in
-    let a = l .before .before .before .args in
-    let more = w .before .if1 .taken in
-    let lt : l .loop .at .place < length (a .image .now) / 4 = omega (arith, more) in
+    let p = w .before .before .before in
+    let r = p .pass .ensures in
+    let m = p .before .before .before .before .before in
+    let j = m .members .ensures in
+    let inv = m .before .before .before .loop .inv in
+    let more = w .before .if2 .left in
+    let lt : p .pass .result .place < length (m .before .before .before .before .before .before .args .image .now) / 4 = omega (arith, more) in
     let e = before-last _ _ _ _ _ _ _ more (f .step .ensures .faulty) in (
       c .refused .ensures
-          ∙ stops _ _ _ _ _ _ _ _ _ _ lt (w .word-at .ensures) (d .decode .ensures .0) e _ (i .if2 .taken) (l .loop .inv .2),
+          ∙ stops _ _ _ _ _ _ _ _ _ _ lt (w .word-at .ensures) (d .decode .ensures .0) e _ (z .if3 .taken)
+          (r .passed .scanned (m .members .result .scan) refl ∙ j .scanned _ _ refl ∙ inv .2),
       λ g e. not-accepted _ _ g (sym (c .refused .ensures) ∙ e),
     )
 
@@ -64,57 +119,62 @@ next-requires : tie.Need-next-requires Inv-loop μ-loop
 next-requires c κs =
     let f = c .before in
     let d = f .before .before .before .before .before .before in
-    (d .decode .ensures .1, due-of _ _ _ _ _ _ (f .step .ensures .faulty) (c .if2 .left))
+    (d .decode .ensures .1, due-of _ _ _ _ _ _ (f .step .ensures .faulty) (c .if3 .left))
 
-pass-requires : tie.Need-pass-requires Inv-loop μ-loop
-pass-requires c κs =
-    let m = c .before .before .before .before in
-    let f = m .before .before .before .before .before in
+add-place : tie.Need-add-t24 Inv-loop μ-loop
+add-place c =
+    let f = c .before .before .before in
     let d = f .before .before .before .before .before .before in
-    let w = d .before in
-    let a = w .before .before .before .before .before .before in
-    (a .pre .0, omega (arith, a .pre .1), a .pre .2, m .members .ensures .inside _ (omega arith) (omega (arith, w .before .if1 .taken)))
+    let i = d .before .before in
+    let p = i .before .before in
+    let m = p .before .before .before .before .before in
+    let a = m .before .before .before .before .before .before in
+    omega (arith, i .if2 .left, a .pre .2)
 
-loop-less : tie.Need-loop-less Inv-loop μ-loop
-loop-less c =
-    let j = c .before .before .before .before .before .members .ensures in
-    omega (arith, c .pass .ensures .passed .onward, c .pass .ensures .inside, j .onward)
+loop-less-2 : tie.Need-loop-less-2 Inv-loop μ-loop
+loop-less-2 c =
+    let f = c .before .before .before .before in
+    let d = f .before .before .before .before .before .before in
+    let i = d .before .before in
+    let p = i .before .before in
+    let m = p .before .before .before .before .before in
+    omega (arith, p .pass .ensures .passed .onward, i .if2 .left, m .members .ensures .onward)
 
-loop-again : tie.Need-loop-again Inv-loop μ-loop
+loop-again-2 : tie.Need-loop-again-2 Inv-loop μ-loop
 unfolding assigning granting ordering limiting
-loop-again c =
-    let r = c .pass .ensures in
-    let m = c .before .before .before .before .before in
-    let j = m .members .ensures in
-    let s = m .before in
-    let n = s .before .before in
+loop-again-2 c =
+    let n = c .before .before in
     let f = n .before .before in
     let d = f .before .before .before .before .before .before in
     let w = d .before in
-    let l = w .before .before .before in
-    let a = l .before .before .before .args in
-    let z = n .before .if2 .left in
-    let more = w .before .if1 .taken in
-    let lt : l .loop .at .place < length (a .image .now) / 4 = omega (arith, more) in
+    let p = w .before .before .before in
+    let r = p .pass .ensures in
+    let m = p .before .before .before .before .before in
+    let j = m .members .ensures in
+    let inv = m .before .before .before .loop .inv in
+    let a = m .before .before .before .before .before .before .args in
+    let z = n .before .if3 .left in
+    let more = w .before .if2 .left in
+    let lt : p .pass .result .place < length (a .image .now) / 4 = omega (arith, more) in
     let ew = w .word-at .ensures in
     let ed = d .decode .ensures .0 in
     let e = f .step .ensures in
     let due = due-of _ _ _ _ _ _ (e .faulty) z in
-    let noted = e .places-is z in (
+    let noted = e .places-is z in
+    let few : m .members .result .scan .exclusions ≤ 32 = rw (j .exclusions-same) (inv .3) in (
       omega (arith, r .passed .onward, j .onward),
-      r .inside,
-      r .passed .scanned (m .members .result .scan) refl ∙ j .scanned _ _ refl
-          ∙ goes _ _ _ _ _ _ _ _ _ _ lt ew ed (before-last _ _ _ _ _ _ _ more (e .faulty)) _ z _ _ _ (e .assigned-is z) (n .next .ensures)
-          (s .wrapping-add-u32 .ensures) (l .loop .inv .2),
-      rw (j .exclusions-same) (subst (λ (x : Scan). x .exclusions ≤ 32) (sym (n .next .ensures)) (next-few (l .loop .t) _ due (l .loop .inv .3))),
-      ap length noted ∙ length-noted _ _ _ _ ∙ l .loop .inv .4,
-      λ j. subst (λ (v : List ℕ). getD v j 0 < length (a .image .now) / 4) (sym noted) (noted-below _ _ _ _ _ lt (l .loop .inv .5) j),
-      r .passed .assigned-is ∙ j .folded assigning (λ x y. refl) _ ∙ fold-next _ _ _ _ _ _ _ _ _ lt ew ed (e .assigned-is z) (l .loop .inv .6),
-      r .granted-is ∙ j .folded granting (λ x y. refl) _ ∙ fold-next _ _ _ _ _ _ _ _ _ lt ew ed (e .granted-is z) (l .loop .inv .7),
-      r .passed .juniors-is ∙ j .folded ordering (λ x y. refl) _ ∙ fold-next _ _ _ _ _ _ _ _ _ lt ew ed (e .juniors-is z) (l .loop .inv .8),
-      r .limits-is _ ∙ j .folded limiting (λ x y. refl) _ ∙ fold-next _ _ _ _ _ _ _ _ _ lt ew ed (e .limits-is z) (l .loop .inv .9),
-      rw (j .exclusions-same, r .places-are, j .places-are)
-          (places-next _ _ _ _ _ _ _ _ _ lt (l .loop .inv .4) ew ed due (n .next .ensures) noted ∙ l .loop .inv .10),
+      omega (arith, more),
+      goes _ _ _ _ _ _ _ _ _ _ lt ew ed (before-last _ _ _ _ _ _ _ more (e .faulty)) _ z _ _ _ (e .assigned-is z) (n .next .ensures)
+          (c .wrapping-add-u32 .ensures) (r .passed .scanned (m .members .result .scan) refl ∙ j .scanned _ _ refl ∙ inv .2),
+      subst (λ (x : Scan). x .exclusions ≤ 32) (sym (n .next .ensures)) (next-few (m .members .result .scan) _ due few),
+      ap length noted ∙ length-noted _ _ _ _ ∙ inv .4,
+      λ j. subst (λ (v : List ℕ). getD v j 0 < length (a .image .now) / 4) (sym noted) (noted-below _ _ _ _ _ lt (inv .5) j),
+      fold-next _ _ _ _ _ _ _ _ _ lt ew ed (e .assigned-is z) (r .passed .assigned-is ∙ j .folded assigning (λ x y. refl) _ ∙ inv .6),
+      fold-next _ _ _ _ _ _ _ _ _ lt ew ed (e .granted-is z) (r .granted-is ∙ j .folded granting (λ x y. refl) _ ∙ inv .7),
+      fold-next _ _ _ _ _ _ _ _ _ lt ew ed (e .juniors-is z) (r .passed .juniors-is ∙ j .folded ordering (λ x y. refl) _ ∙ inv .8),
+      fold-next _ _ _ _ _ _ _ _ _ lt ew ed (e .limits-is z) (r .limits-is _ ∙ j .folded limiting (λ x y. refl) _ ∙ inv .9),
+      places-next _ _ _ _ _ _ _ _ _ lt (inv .4) ew ed due (n .next .ensures) noted
+          ∙ (rw (j .exclusions-same, r .places-are, j .places-are) (inv .10)),
     )
 
 -- where the loop ends is the place of the last word
@@ -166,7 +226,7 @@ returns-3 c =
 pub read-words-spec : {M : Type 1} → statement M
 read-words-spec =
     tie.close
-    (tie.spec Inv-loop μ-loop (λ c κs. search needs) loop-holds (λ c. search needs) (λ c κs. search needs) (λ c κs. search needs) (λ c κs. search needs)
-    (λ c. search needs) (λ c κs. search needs) returns next-requires (λ c. search needs) (λ c κs. search needs) (λ c κs. search needs) pass-requires
-    loop-less loop-again
+    (tie.spec Inv-loop μ-loop (λ c κs. search needs) loop-holds (λ c. search needs) (λ c κs. search needs) pass-requires (λ c. search needs) loop-less
+    loop-again word-at-requires (λ c κs. search needs) (λ c κs. search needs) cast-place (λ c κs. search needs) returns next-requires add-place
+    (λ c κs. search needs) loop-less-2 loop-again-2
     (λ c κs. search needs) (λ c. search needs) (λ c. search needs) returns-2 (λ c. search needs) exclusions-at-requires returns-3)

@@ -1,4 +1,4 @@
--- `moves_line::line_bytes` meets its contract.
+-- `ledger::bytes::line_bytes` meets its contract.
 -- Assumes nothing.
 use mathlib.Core.Path.{_≡_, ap}
 use Prim.Native.Nat.{ℕ, _+_, _-_, _*_}
@@ -6,8 +6,8 @@ use native.Mathlib.Omega.{arith}
 use lib.ListN.{take, drop}
 use borrow.Author.Needs.{needs}
 use Rattle.model.specs.Run.{lineAt}
-use Rattle.moves_line.proofs.line_bytes.Statement.{statement}
-use Rattle.moves_line.proofs.line_bytes.Tie as tie
+use Rattle.ledger.proofs.bytes.line_bytes.Statement.{statement}
+use Rattle.ledger.proofs.bytes.line_bytes.Tie as tie
 
 returns : tie.Need-returns
 unfolding lineAt
