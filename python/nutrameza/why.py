@@ -73,7 +73,7 @@ class Ask(Named):
 
     def holders(self, roles: AbstractSet[int], users: Iterable[int]) -> List[Holder]:
         """The windows, this one left out, in which one of these roles is active, each with those that are."""
-        held = [(user, session, roles & self.active(user, session)) for user, session in self.windows(users)]
+        held = [(user, session, self.active(user, session) & roles) for user, session in self.windows(users)]
         return [one for one in held if one[2] and one[:2] != (self.user, self.session)]
 
     def holding(self, roles: AbstractSet[int], users: Iterable[int]) -> str:

@@ -5,7 +5,6 @@ import json
 import os
 import signal
 import socket
-import struct
 import subprocess
 import time
 import unittest
@@ -176,8 +175,7 @@ class Start(Desks):
         served = self.desk(self.largest())
         for _ in range(5):
             with socket.create_connection((served.host, served.port)) as gone:
-                gone.setsockopt(socket.SOL_SOCKET, socket.SO_LINGER, struct.pack("ii", 1, 0))
-                gone.sendall(f"GET /{served.secret}/ HTTP/1.1\r\nHost: {served.host}:{served.port}\r\n\r\n".encode() * 20)
+                gone.sendall(f"GET /{served.secret}/desk.css HTTP/1.1\r\nHost: {served.host}:{served.port}\r\n\r\n".encode() * 20)
         time.sleep(1)
         self.assertEqual((served.process.poll(), served.get("policy")[0]), (None, 200))
         served.process.send_signal(signal.SIGINT)

@@ -9,6 +9,7 @@ import os
 import secrets
 import sys
 import threading
+from html import escape
 from typing import Any, Callable, Dict, NamedTuple, Optional
 
 from ..policy import Errors, Names, Refused
@@ -89,7 +90,7 @@ class Desk:
         """The page."""
         text = report.static("index.html").decode("utf-8")
         badge = '<span class="badge good">accepted</span>' if self.loaded else '<span class="badge bad">refused</span>'
-        for mark, made in (("file", page.escape(self.file)), ("badge", badge), ("state", "accepted" if self.loaded else "refused"),
+        for mark, made in (("file", escape(self.file)), ("badge", badge), ("state", "accepted" if self.loaded else "refused"),
                            ("policy", page.policy_view(self.view))):
             text = text.replace(f"<!--{mark}-->", made)
         return Reply(200, HTML, text.encode("utf-8"))
@@ -155,7 +156,7 @@ def wish_of(asked: Dict[str, Any], tried: trial.Trial) -> trial.Wish:
     if aims is not None and not (isinstance(aims, list) and [aim for aim in aims if aim in (0, 1, 2)] == aims and len(aims) == 2):
         raise Wrong("aims are two numbers from 0 to 2")
     return trial.Wish(number(asked, "user", users) if "user" in asked else 0, window, asked.get("add") is True, asked.get("narrow") is True,
-                      tuple(aims) if aims else None)
+                      (aims[0], aims[1]) if aims else None)
 
 
 def act(tried: trial.Trial, asked: Dict[str, Any], wish: trial.Wish) -> None:

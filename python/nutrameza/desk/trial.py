@@ -5,7 +5,7 @@ import re
 from typing import Any, Dict, FrozenSet, Iterable, List, NamedTuple, Optional, Tuple
 
 from .. import calls, why
-from ..answers import Answer, Chosen
+from ..answers import Answer, Chosen, members
 from ..limits import ROLES_BYTES, SET_BYTES, Aim, Number
 from .view import Loaded, closed
 
@@ -111,7 +111,7 @@ def outcome(words: why.Ask, call: Call, answer: Answer) -> Tuple[str, List[why.H
     if answer.done:
         return "no role is live in it yet" if call.name == "open" else "its roles are off, its past stays", []
     if call.name == "ask" and answer.number == Number.NONE:
-        bounds = (why.members(call.lower), why.members(call.upper))
+        bounds = (members(call.lower), members(call.upper))
         return words.why(*bounds) or "", words.in_the_way(words.obstacle(*bounds))
     return words.reason(answer) or f"extra {answer.extra}", []
 
@@ -187,7 +187,7 @@ class Trial:
                 if step.call.name == "open" and step.answer.extra == window:
                     break
                 if step.call.name == "ask" and step.call.session == window:
-                    return why.members(step.call.lower)
+                    return members(step.call.lower)
         return frozenset()
 
     # ---- telling ----
@@ -199,12 +199,12 @@ class Trial:
             return f"{who} opens window {answer.extra}" if answer.done else f"{who} opens a window"
         if call.name != "ask":
             return f"{who} {call.name}s window {call.session}"
-        what = words.list("permission", why.members(call.lower), " and ") or "no permission"
+        what = words.list("permission", members(call.lower), " and ") or "no permission"
         told = f"{who} asks in window {call.session} for {what}"
         if call.upper == call.lower:
             told += " and nothing else"
         elif call.upper != self.everything:
-            told += f", within {len(why.members(call.upper))} permissions"
+            told += f", within {len(members(call.upper))} permissions"
         if call.aims is not None:
             told += f", with {AIMS.get(call.aims[0], 'unknown')} permissions, then {AIMS.get(call.aims[1], 'unknown')} roles"
         return told
