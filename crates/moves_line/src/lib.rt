@@ -116,6 +116,19 @@ fn put_zeros(s: &mut [u8], at: usize, count: usize)
     }
 }
 
+// Copies all of the bytes into s at the offset. The 80 of a line of four sessions, which both moves copy, are named by
+// their number: the compiler then has a few moves of many bytes in place of a loop.
+fn put(s: &mut [u8], at: usize, bytes: &[u8])
+    requires { ⌜ at + length (now bytes) ≤ length (now s) ⌝ }
+    ensures { λ _. ⌜ now (s .exit) ≡ splice (now (s .entry)) at (now (bytes .entry)) ⌝ }
+{
+    if bytes.len() == 80 {
+        octets::put(s, at, &bytes[0..80]);
+        return;
+    }
+    octets::put(s, at, bytes);
+}
+
 // Writes the line at the user's place of a ledger with so many sessions a user: with zeros behind it, or cut.
 pub fn put_resized(ledger: &mut [u8], sessions: u8, user: usize, bytes: &[u8])
     requires { ⌜ lineSize sessions * user + lineSize sessions ≤ length (now ledger) ⌝ }
@@ -125,9 +138,9 @@ pub fn put_resized(ledger: &mut [u8], sessions: u8, user: usize, bytes: &[u8])
     let at = size * user;
     let len = bytes.len();
     if len < size {
-        octets::put(ledger, at, bytes);
+        put(ledger, at, bytes);
         put_zeros(ledger, at + len, size - len);
         return;
     }
-    octets::put(ledger, at, &bytes[0..size]);
+    put(ledger, at, &bytes[0..size]);
 }
