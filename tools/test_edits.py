@@ -1,5 +1,6 @@
 #!/usr/bin/env python3
-"""tools/edits: which refusals of a wrong version pass, on logs as the prover writes them; what its replacements make.
+"""tools/edits: which refusals of a wrong version pass, on logs as the prover writes them; what its replacements make;
+in which order crates come that are still being proved.
 
 The last line is 'N passed, M failed'.
 """
@@ -70,8 +71,28 @@ def replaced(text, pairs):
         return edits.apply(edit, folder) or "", open(source, encoding="utf-8").read()
 
 
+def turns():
+    """The crates a, b and c while b alone is proved, then c too, then with the proofs over; and with no file named."""
+    here = os.getcwd()
+    with tempfile.TemporaryDirectory() as folder:
+        os.chdir(folder)
+        os.makedirs("target/stamp")
+        open("target/stamp/b", "w").close()
+        order = edits.in_turn("abc", "over")
+        first = next(order)
+        open("target/stamp/c", "w").close()
+        second = next(order)
+        open("over", "w").close()
+        found = [first, second, *order], list(edits.in_turn("abc", None))
+        os.chdir(here)
+    return found
+
+
 def main():
     failed = 0
+    if turns() != (["b", "c", "a"], ["a", "b", "c"]):
+        failed += 1
+        print("FAILED: crates that are still being proved: %r" % (turns(),))
     for name, text, pairs, words, then in REPLACED:
         found, left = replaced(text, pairs)
         if left != then or (found != "" if words == "" else words not in found):
@@ -83,7 +104,7 @@ def main():
         if not good:
             failed += 1
             print("FAILED: %s: %r" % (name, found))
-    print("%d passed, %d failed" % (len(CASES) + len(REPLACED) - failed, failed))
+    print("%d passed, %d failed" % (1 + len(CASES) + len(REPLACED) - failed, failed))
     return 1 if failed else 0
 
 
