@@ -23,22 +23,23 @@ module _ (a n : ℕ) where
   unfolding cost
   cost-any e = record { same = rw e; small = zero-le }
 
-  pub cost-min : a ≡ 1 → n ≤ 256 → Costs a n n
-  unfolding cost
-  cost-min e h = record { same = rw e; small = h }
+  module _ (m : ℕ) where
+    pub cost-min : a ≡ 1 → n ≤ 256 → m ≡ n → Costs a n m
+    unfolding cost
+    cost-min e h k = record { same = rw (e, k); small = rw k h }
 
-  pub cost-max : (a ≡ 0 → ⊥) → (a ≡ 1 → ⊥) → Costs a n (256 - n)
-  cost-max f g = go a f g
-    where
-      go : (x : ℕ) → (x ≡ 0 → ⊥) → (x ≡ 1 → ⊥) → Costs x n (256 - n)
-      go zero f g = absurd (f refl)
-      go (suc zero) f g = absurd (g refl)
-      go (suc (suc x)) f g = record { same = unfold cost in refl; small = omega arith }
+    pub cost-max : (a ≡ 0 → ⊥) → (a ≡ 1 → ⊥) → m ≡ n → Costs a n (256 - m)
+    cost-max f g k = go a f g
+      where
+        go : (x : ℕ) → (x ≡ 0 → ⊥) → (x ≡ 1 → ⊥) → Costs x n (256 - m)
+        go zero f g = absurd (f refl)
+        go (suc zero) f g = absurd (g refl)
+        go (suc (suc x)) f g = record { same = unfold cost in rw k; small = omega arith }
 
 -- ---- the key
-pub key-joins : (a b c s x y m n : ℕ) → m ≡ count 256 c → n ≡ count 64 s → Costs a m x → Costs b n y → x * 512 + y ≡ keyBy a b c s
+pub key-joins : (a b c s x y : ℕ) → Costs a (count 256 c) x → Costs b (count 64 s) y → x * 512 + y ≡ keyBy a b c s
 unfolding keyBy
-key-joins a b c s x y m n em en p q = rw (p .same, q .same, em, en)
+key-joins a b c s x y p q = rw (p .same, q .same)
 
 -- ---- a set's rank, compared by its key first
 pub rank-test : (j r k s : ℕ) → r < 2 ^ 64 → s < 2 ^ 64 → (ltb j k || (eqb j k && leb r s)) ≡ leb (rank j r) (rank k s)

@@ -26,27 +26,40 @@ pub struct Job {
     pub second: u8,
 }
 
-// What an objective makes of a count: the lower, the better.
-pub fn cost(objective: u8, n: u32) -> u64
-    requires { ⌜ n ≤ 256 ⌝ }
-    ensures { λ r. ⌜ Costs objective n r ⌝ }
+// What an objective makes of the number of the permissions carried: the lower, the better. They are counted where the
+// number is used, so that the compiler counts the four words side by side.
+fn permissions_cost(objective: u8, carried: [u64; 4]) -> u32
+    ensures { λ r. ⌜ Costs objective (count 256 (value carried)) r ⌝ }
 {
     if objective == 0 {
         return 0;
     }
     if objective == 1 {
-        return n as u64;
+        return sets::perm_size(carried);
     }
-    (256 - n) as u64
+    256 - sets::perm_size(carried)
+}
+
+// The same of the roles.
+fn roles_cost(objective: u8, chosen: u64) -> u32
+    ensures { λ r. ⌜ Costs objective (count 64 chosen) r ⌝ }
+{
+    if objective == 0 {
+        return 0;
+    }
+    if objective == 1 {
+        return sets::size(chosen);
+    }
+    256 - sets::size(chosen)
 }
 
 // The key of the chosen roles, which carry these permissions.
 pub fn key_of(job: Job, chosen: u64, carried: [u64; 4]) -> u64
     ensures { λ r. ⌜ r ≡ keyBy (job .first) (job .second) (value carried) chosen ⌝ }
 {
-    let first = job.first;
-    let second = job.second;
-    cost(first, sets::perm_size(carried)) * 512 + cost(second, sets::size(chosen))
+    let first = permissions_cost(job.first, carried) as u64;
+    let second = roles_cost(job.second, chosen) as u64;
+    first * 512 + second
 }
 
 // The best so far is no worse than the roles with this key.

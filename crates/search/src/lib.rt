@@ -18,7 +18,7 @@ use query_rank::Job;
 use query_rank::NONE;
 use query_rooms::rooms::room_for;
 use search_steps::Node;
-use search_steps::permission_step;
+use search_steps::first_step;
 use search_steps::subset_step;
 
 // The answer of a query: no set is admissible, or the best one.
@@ -59,7 +59,7 @@ fn best_of(rows: &[[u64; 4]; 64], masks: &[u64; 32], rooms: &[u32; 32], job: Job
             let lower = job.lower;
             let mut turned = [0u64; 256];
             join_carriers(&mut turned, rows, free, lower);
-            return permission_step(rows, masks, rooms, job, root, none, &turned);
+            return first_step(rows, masks, rooms, job, root, none, &turned);
         }
     }
     let from = reach(rows, free);

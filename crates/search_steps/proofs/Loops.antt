@@ -6,7 +6,7 @@ use Prim.Native.Nat.{ℕ, _^_, _<_}
 use native.Mathlib.Nat.{lt-of-le-of-lt}
 use native.Mathlib.Omega.{arith}
 use Rattle.model.specs.Sets.{has, with, count}
-use Rattle.sets.specs.Members.{without}
+use Rattle.sets.specs.Members.{without, Lowest}
 use Rattle.query_rank.specs.declared.Best.{Best}
 use Rattle.query.specs.Carry.{Sub, Reaches}
 use Rattle.query.proofs.Members.{sub-le, sub-count, fewer-sub}
@@ -48,6 +48,12 @@ trying-start t tries chosen free a h = record { inside = h; fewer = λ i m. m; r
 pub trying-end : (t : Task) (tries chosen free : ℕ) (a : Best) (left still : ℕ) (b : Best) → Trying t tries chosen free a left still b → left ≡ 0
     → Tried t tries chosen free a b
 trying-end t tries chosen free a left still b w e = w .rest b (runs-out t left chosen still b e)
+
+-- with one tried, fewer are left
+pub trying-less : (t : Task) (tries chosen free : ℕ) (a : Best) (left still : ℕ) (b : Best) → Trying t tries chosen free a left still b → free < 2 ^ 64
+    → (role rest : ℕ) → Lowest left role → rest ≡ without left role → count 64 rest < count 64 left
+trying-less t tries chosen free a left still b w small role rest low e =
+    fewer-left free left role rest small (λ i m. w .fewer i (w .inside i m)) (low .small) (low .member) e
 
 module _ (t : Task) (falls : Falls t) (tries chosen free : ℕ) (a : Best) (left still : ℕ) (c : Best) (w : Trying t tries chosen free a left still c)
     (role rest less more : ℕ) (b : Bool) (m : has left role ≡ true) (er : rest ≡ without left role) (el : less ≡ without still role)

@@ -1,5 +1,8 @@
 // The steps of the two searches for a role set. Each is given the roles chosen so far with what they carry, the roles
 // still free, and the best set so far. Which roles carry a wanted permission is read off the turned table.
+ghost use mathlib.Core.Path.{_≡_};
+ghost use mathlib.Core.Bool.{false};
+ghost use Rattle.model.specs.Sets.{within};
 ghost use Rattle.sets.specs.Words.{value};
 ghost use Rattle.query.specs.Carry.{rowsOf, Turned, Sub, Reaches};
 ghost use Rattle.search_steps.specs.Search.{taskOf, Ready, Modest, Found, Tried};
@@ -22,8 +25,86 @@ pub struct Node {
 }
 
 // 003's Procedure 3: a permission that is asked for and not carried is taken up, and the roles that carry it are tried.
-// A set that is no better than the best so far is given up, since a larger one is no better than it.
 pub fn permission_step(
+    rows: &[[u64; 4]; 64],
+    masks: &[u64; 32],
+    rooms: &[u32; 32],
+    job: Job,
+    node: Node,
+    best: Best,
+    turned: &[u64; 256],
+) -> Best
+    requires { ⌜ (Ready (taskOf (now rows) (now masks) (now rooms) job) (job .count) (node .chosen) (value (node .carried)))
+        × (Modest (taskOf (now rows) (now masks) (now rooms) job)) × (Turned (rowsOf (now rows)) (now turned) (value (job .lower)) (node .free)) ⌝ }
+    ensures { λ r. ⌜ (within (value (job .lower)) (value (node .carried)) ≡ false
+        → Found (taskOf (now (rows .entry)) (now (masks .entry)) (now (rooms .entry)) job) (node .chosen) (node .free) best r) ⌝ }
+{
+    let lower = job.lower;
+    let carried = node.carried;
+    let p = missing(lower, carried);
+    let tries = sets::inter(node.free, turned[p.0 as usize]);
+    role_step(rows, masks, rooms, job, tries, node, best, turned)
+}
+
+// The roles of tries are tried. One that was tried is barred from what is tried after it. A set that is no better than
+// the best so far is given up, since a larger one is no better than it: most are, so that a set is judged before a step
+// is made from it.
+pub fn role_step(
+    rows: &[[u64; 4]; 64],
+    masks: &[u64; 32],
+    rooms: &[u32; 32],
+    job: Job,
+    tries: u64,
+    node: Node,
+    best: Best,
+    turned: &[u64; 256],
+) -> Best
+    requires { ⌜ (Ready (taskOf (now rows) (now masks) (now rooms) job) (job .count) (node .chosen) (value (node .carried)))
+        × (Modest (taskOf (now rows) (now masks) (now rooms) job)) × (Sub tries (node .free))
+        × (Turned (rowsOf (now rows)) (now turned) (value (job .lower)) (node .free)) ⌝ }
+    ensures { λ r. ⌜ Tried (taskOf (now (rows .entry)) (now (masks .entry)) (now (rooms .entry)) job) tries (node .chosen) (node .free) best r ⌝ }
+{
+    let lower = job.lower;
+    let chosen = node.chosen;
+    let carried = node.carried;
+    let mut left = tries;
+    let mut still = node.free;
+    let mut found = best;
+    while left != 0 {
+        let role = sets::lowest(left);
+        let rest = sets::without(left, role);
+        let less = sets::without(still, role);
+        let more = sets::with(chosen, role);
+        left = rest;
+        still = less;
+        if !room_for(masks, rooms, job.count, more) {
+            continue;
+        }
+        let sum = sets::perm_union(carried, rows[role.0 as usize]);
+        let key = key_of(job, more, sum);
+        if no_worse(found, key, more) {
+            continue;
+        }
+        if sets::perm_within(lower, sum) {
+            found = Best {
+                key: key,
+                roles: more,
+            };
+            continue;
+        }
+        let below = Node {
+            free: less,
+            chosen: more,
+            carried: sum,
+        };
+        let next = permission_step(rows, masks, rooms, job, below, found, turned);
+        found = next;
+    }
+    found
+}
+
+// The first step of Procedure 3: the chosen roles are judged, and a permission is taken up where they lack one.
+pub fn first_step(
     rows: &[[u64; 4]; 64],
     masks: &[u64; 32],
     rooms: &[u32; 32],
@@ -49,54 +130,7 @@ pub fn permission_step(
             roles: chosen,
         };
     }
-    let p = missing(lower, carried);
-    let tries = sets::inter(node.free, turned[p.0 as usize]);
-    role_step(rows, masks, rooms, job, tries, node, best, turned)
-}
-
-// The roles of tries are tried. One that was tried is barred from what is tried after it.
-pub fn role_step(
-    rows: &[[u64; 4]; 64],
-    masks: &[u64; 32],
-    rooms: &[u32; 32],
-    job: Job,
-    tries: u64,
-    node: Node,
-    best: Best,
-    turned: &[u64; 256],
-) -> Best
-    requires { ⌜ (Ready (taskOf (now rows) (now masks) (now rooms) job) (job .count) (node .chosen) (value (node .carried)))
-        × (Modest (taskOf (now rows) (now masks) (now rooms) job)) × (Sub tries (node .free))
-        × (Turned (rowsOf (now rows)) (now turned) (value (job .lower)) (node .free)) ⌝ }
-    ensures { λ r. ⌜ Tried (taskOf (now (rows .entry)) (now (masks .entry)) (now (rooms .entry)) job) tries (node .chosen) (node .free) best r ⌝ }
-{
-    let count = job.count;
-    let chosen = node.chosen;
-    let carried = node.carried;
-    let mut left = tries;
-    let mut still = node.free;
-    let mut found = best;
-    while left != 0 {
-        let role = sets::lowest(left);
-        let rest = sets::without(left, role);
-        let less = sets::without(still, role);
-        let more = sets::with(chosen, role);
-        left = rest;
-        still = less;
-        if !room_for(masks, rooms, count, more) {
-            continue;
-        }
-        let i = role.0 as usize;
-        let sum = sets::perm_union(carried, rows[i]);
-        let below = Node {
-            free: less,
-            chosen: more,
-            carried: sum,
-        };
-        let next = permission_step(rows, masks, rooms, job, below, found, turned);
-        found = next;
-    }
-    found
+    permission_step(rows, masks, rooms, job, node, best, turned)
 }
 
 // Every set that has the chosen roles and some of the free ones: with the lowest where the exclusions have room, and

@@ -9,9 +9,9 @@ use Rattle.search_steps.proofs.Turns.{ready-none}
 use Rattle.search.proofs.best_of.Statement.{statement}
 use Rattle.search.proofs.best_of.Tie as tie
 
-permission-step-requires : tie.Need-permission-step-requires
+first-step-requires : tie.Need-first-step-requires
 unfolding value joined
-permission-step-requires c κs =
+first-step-requires c κs =
     let i = c .before .before .before .before in
     let s = i .before .before in
     let g = s .args in (
@@ -32,4 +32,4 @@ subset-step-requires c κs =
 pub best-of-spec : {M : Type 1} → statement M
 best-of-spec =
     tie.close
-    (tie.spec (λ c κs. search needs) permission-step-requires (λ c. search needs) (λ c κs. search needs) subset-step-requires (λ c. search needs))
+    (tie.spec (λ c κs. search needs) first-step-requires (λ c. search needs) (λ c κs. search needs) subset-step-requires (λ c. search needs))

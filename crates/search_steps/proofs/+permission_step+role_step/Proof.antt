@@ -3,7 +3,7 @@
 -- Assumes nothing.
 use Prim.Native.Nat.{ℕ, _+_, _*_, _<_}
 use native.Mathlib.Omega.{arith}
-use mathlib.Core.Path.{refl}
+use mathlib.Core.Path.{refl, sym, _∙_}
 use borrow.Author.Needs.{needs}
 use borrow.Author.Tests.{not-true, not-false}
 use borrow.Fn.Kinds.{In}
@@ -16,7 +16,7 @@ use Rattle.search_steps.specs.Search.{taskOf}
 use Rattle.query_rooms.proofs.RoomLaws.{roomy-less}
 use Rattle.query.proofs.Turned.{turned-sub}
 use Rattle.search_steps.proofs.Turns.{gives-up, reaches, goes-on, tries-sub, ready-more, wanted, wanted-less}
-use Rattle.search_steps.proofs.Loops.{Trying, trying-start, trying-end, trying-off, trying-on, less-free, fewer-left, fewer-free}
+use Rattle.search_steps.proofs.Loops.{Trying, trying-start, trying-end, trying-less, trying-off, trying-on, less-free, fewer-free}
 use Rattle.search_steps.proofs.permission_step.Reads as permission-step
 use Rattle.search_steps.proofs.permission_step.Kinds as permission-step-kinds
 use Rattle.search_steps.proofs.+permission_step+role_step.Lts-permission_step as permission-step-lts
@@ -55,21 +55,15 @@ abbrev role-step-below : ℕ → In 4 role-step-kinds.ps
 role-step-below t = and 4 role-step-kinds.ps (falls 4 role-step-kinds.ps _<_ μ-role-step t) role-step.Pre
 
 abbrev Inv-loop : role-step-lts.InvT-loop
-Inv-loop rows masks rooms job tries turned n chosen carried left₀ still₀ found₀ left still found =
+Inv-loop rows masks rooms job tries turned lower chosen carried left₀ still₀ found₀ left still found =
     Trying (taskOf rows masks rooms job) tries chosen still₀ found₀ left still found
 
 abbrev μ-loop : role-step-lts.MeasureT-loop
-μ-loop rows masks rooms job tries turned n chosen carried left₀ still₀ found₀ left still found = count 64 left
+μ-loop rows masks rooms job tries turned lower chosen carried left₀ still₀ found₀ left still found = count 64 left
 
 pub +permission-step+role-step-spec : {M : Type 1} → statement M
 +permission-step+role-step-spec =
     close μ-permission-step μ-role-step (λ t. permission-step-lts.spec (
-      key-of-reads.Asked,
-      key-of-reads.Learnt,
-      no-worse-reads.Asked,
-      no-worse-reads.Learnt,
-      perm-within-reads.Asked,
-      perm-within-reads.Learnt,
       missing-reads.Asked,
       missing-reads.Learnt,
       inter-reads.Asked,
@@ -80,33 +74,18 @@ pub +permission-step+role-step-spec : {M : Type 1} → statement M
     (permission-step-at t)
     permission-step.Post
     (λ c κs. search needs)
-    (λ c κs. search needs)
-    (λ c. let s = c .before .before .before .before in
-    let g = s .args in
-    gives-up (taskOf (now (g .rows)) (now (g .masks)) (now (g .rooms)) (g .job)) _ _ _ _ _ _ (s .pre .1 .0) (c .before .before .key-of .ensures)
-    (c .before .no-worse .ensures) _ (s .pre .1 .1) (c .if1 .taken))
-    (λ c κs. search needs)
-    (λ c. let w = c .before .before .before in
-    let s = w .before .before .before .before in
-    let g = s .args in
-    reaches (taskOf (now (g .rows)) (now (g .masks)) (now (g .rooms)) (g .job)) _ _ _ _ _ _ (s .pre .1 .0)
-    (c .before .before .before .before .before .key-of .ensures) (c .before .before .before .before .no-worse .ensures) _ (s .pre .1 .1)
-    (c .before .before .before .if1 .left) _ (c .before .perm-within .ensures) (c .if2 .taken))
-    (λ c κs. search needs)
     (λ c. search needs)
     (λ c. search needs)
     (λ c. search needs)
     (λ c κs. search needs)
-    (λ c κs. let k = c .before .before .before .before .before in
-    let s = k .before .before .before .before .before .before in
+    (λ c κs. let s = c .before .before .before .before .before .before in
     (omega (arith, s .pre .0), (s .pre .1 .0, s .pre .1 .1, tries-sub (s .args .node .free) _ (c .inter .result) (c .inter .ensures), s .pre .1 .2)))
-    (λ c. let h = c .before in
+    (λ c lacking. let h = c .before in
     let m = h .before .before .before in
-    let w = m .before .before in
-    let s = w .before .before .before .before .before .before in
+    let s = m .before .before .before in
     let g = s .args in
-    goes-on (taskOf (now (g .rows)) (now (g .masks)) (now (g .rooms)) (g .job)) _ _ _ _ (s .pre .1 .0) _ (w .perm-within .ensures) (now (g .turned))
-    _ (m .missing .result .0) (h .inter .result) _ (m .before .if2 .left) (m .missing .ensures) (s .pre .1 .2) (h .inter .ensures) (c .role-step .ensures)))
+    goes-on (taskOf (now (g .rows)) (now (g .masks)) (now (g .rooms)) (g .job)) _ _ _ _ (s .pre .1 .0) _ refl (now (g .turned)) _ (m .missing .result .0)
+    (h .inter .result) _ lacking (m .missing .ensures) (s .pre .1 .2) (h .inter .ensures) (c .role-step .ensures)))
     λ t. role-step-lts.spec (
       lowest-reads.Asked,
       lowest-reads.Learnt,
@@ -118,6 +97,12 @@ pub +permission-step+role-step-spec : {M : Type 1} → statement M
       room-for-reads.Learnt,
       perm-union-reads.Asked,
       perm-union-reads.Learnt,
+      key-of-reads.Asked,
+      key-of-reads.Learnt,
+      no-worse-reads.Asked,
+      no-worse-reads.Learnt,
+      perm-within-reads.Asked,
+      perm-within-reads.Learnt,
       permission-step-below t,
       permission-step.Post,
     )
@@ -125,25 +110,23 @@ pub +permission-step+role-step-spec : {M : Type 1} → statement M
     role-step.Post
     Inv-loop
     μ-loop
-    (λ c. trying-start _ _ _ _ _ (c .before .pre .1 .2))
+    (λ c. trying-start _ _ _ _ _ (c .before .before .pre .1 .2))
     (λ c κs. search needs)
     (λ c κs. search needs)
     (λ c κs. search needs)
     (λ c κs. search needs)
-    (λ c κs. let l = c .before .before .before in
-    l .before .before .before .before .pre .1 .0 .few)
+    (λ c κs. let k = c .before .before .before .before .before in
+    k .before .before .before .pre .1 .0 .few)
     (λ c. let r = c .before .before .before .before in
     let l = r .before in
     let k = l .before .before in
-    let inv = k .loop .inv in
-    let s = k .before .before in
-    fewer-left (s .args .node .free) (k .loop .left) (l .lowest .result .0) _ (s .good .1 .1 .1 .1 .1 .0 .1 .1 .0 .1) (λ i m. inv .fewer i (inv .inside i m))
-    (l .lowest .ensures .small) (l .lowest .ensures .member) (r .without .ensures))
+    let s = k .before .before .before in
+    trying-less _ _ _ _ _ (k .loop .left) _ _ (k .loop .inv) (s .good .1 .1 .1 .1 .1 .0 .1 .1 .0 .1) _ _ (l .lowest .ensures) (r .without .ensures))
     (λ c. let w = c .before .before in
     let f = w .before in
     let l = f .before .before in
     let k = l .before .before in
-    let g = k .before .before .args in
+    let g = k .before .before .before .args in
     trying-off (taskOf (now (g .rows)) (now (g .masks)) (now (g .rooms)) (g .job)) (roomy-less (now (g .masks)) (now (g .rooms)) (g .job .count)) _ _ _ _
     (k .loop .left) _ _ (k .loop .inv) _ _ _ _ _ (l .lowest .ensures .member) (f .before .without .ensures) (f .without2 .ensures) (w .with .ensures)
     (c .before .room-for .ensures) (not-true _ (c .if1 .taken)))
@@ -151,12 +134,63 @@ pub +permission-step+role-step-spec : {M : Type 1} → statement M
     (λ c. search needs)
     (λ c. search needs)
     (λ c κs. search needs)
-    (λ c κs. let i = c .before .before .before in
+    (λ c κs. search needs)
+    (λ c κs. search needs)
+    (λ c. let i = c .before .before .before .before .before .before in
+    let r = i .before .before .before .before in
+    let l = r .before in
+    let k = l .before .before in
+    let s = k .before .before .before in
+    trying-less _ _ _ _ _ (k .loop .left) _ _ (k .loop .inv) (s .good .1 .1 .1 .1 .1 .0 .1 .1 .0 .1) _ _ (l .lowest .ensures) (r .without .ensures))
+    (λ c. let u = c .before .before .before in
+    let i = u .before .before .before in
     let w = i .before .before in
     let f = w .before in
     let l = f .before .before in
     let k = l .before .before in
-    let s = k .before .before in
+    let s = k .before .before .before in
+    let g = s .args in
+    let t = taskOf (now (g .rows)) (now (g .masks)) (now (g .rooms)) (g .job) in
+    trying-on t (roomy-less (now (g .masks)) (now (g .rooms)) (g .job .count)) _ _ _ _
+    (k .loop .left) _ _ (k .loop .inv) _ _ _ _ _ (l .lowest .ensures .member) (f .before .without .ensures) (f .without2 .ensures) (w .with .ensures)
+    (i .before .room-for .ensures) _
+    (gives-up t _ _ _ _ _ _
+    (ready-more t _ _ _ _ (s .pre .1 .0) _ _ _ _ (l .lowest .ensures .small) (w .with .ensures) (u .perm-union .ensures) refl (i .before .room-for .ensures)
+    (not-false _ (i .if1 .left)))
+    (c .before .before .key-of .ensures) (c .before .no-worse .ensures) _ (s .pre .1 .1) (c .if2 .taken)))
+    (λ c κs. search needs)
+    (λ c. let j = c .before .before in
+    let i = j .before .before .before .before .before .before in
+    let r = i .before .before .before .before in
+    let l = r .before in
+    let k = l .before .before in
+    let s = k .before .before .before in
+    trying-less _ _ _ _ _ (k .loop .left) _ _ (k .loop .inv) (s .good .1 .1 .1 .1 .1 .0 .1 .1 .0 .1) _ _ (l .lowest .ensures) (r .without .ensures))
+    (λ c. let j = c .before .before in
+    let u = j .before .before .before in
+    let i = u .before .before .before in
+    let w = i .before .before in
+    let f = w .before in
+    let l = f .before .before in
+    let k = l .before .before in
+    let s = k .before .before .before in
+    let g = s .args in
+    let t = taskOf (now (g .rows)) (now (g .masks)) (now (g .rooms)) (g .job) in
+    trying-on t (roomy-less (now (g .masks)) (now (g .rooms)) (g .job .count)) _ _ _ _
+    (k .loop .left) _ _ (k .loop .inv) _ _ _ _ _ (l .lowest .ensures .member) (f .before .without .ensures) (f .without2 .ensures) (w .with .ensures)
+    (i .before .room-for .ensures) _
+    (reaches t _ _ _ _ _ _
+    (ready-more t _ _ _ _ (s .pre .1 .0) _ _ _ _ (l .lowest .ensures .small) (w .with .ensures) (u .perm-union .ensures) refl (i .before .room-for .ensures)
+    (not-false _ (i .if1 .left)))
+    (j .before .before .key-of .ensures) (j .before .no-worse .ensures) _ (s .pre .1 .1) (j .if2 .left) _ (c .before .perm-within .ensures) (c .if3 .taken)))
+    (λ c κs. let j = c .before .before in
+    let u = j .before .before .before in
+    let i = u .before .before .before in
+    let w = i .before .before in
+    let f = w .before in
+    let l = f .before .before in
+    let k = l .before .before in
+    let s = k .before .before .before in
     let g = s .args in
     let low = l .lowest .ensures in
     let inv = k .loop .inv in
@@ -166,31 +200,32 @@ pub +permission-step+role-step-spec : {M : Type 1} → statement M
         s .pre .0,
         fewer-free (g .node .free) (k .loop .still) (l .lowest .result .0) _ (s .good .1 .1 .1 .1 .1 .0 .1 .1 .0 .1) (inv .fewer) (low .small)
             on (f .without2 .ensures),
-        wanted-less (value (g .job .lower)) (value (g .node .carried)) _ (value (c .perm-union .result)) (c .perm-union .ensures),
+        wanted-less (value (g .job .lower)) (value (g .node .carried)) _ (value (u .perm-union .result)) (u .perm-union .ensures),
       ),
       (
         ready-more (taskOf (now (g .rows)) (now (g .masks)) (now (g .rooms)) (g .job)) _ _ _ _ (s .pre .1 .0) _ _ _ _ (low .small) (w .with .ensures)
-            (c .perm-union .ensures) refl (i .before .room-for .ensures) (not-false _ (i .if1 .left)),
+            (u .perm-union .ensures) refl (i .before .room-for .ensures) (not-false _ (i .if1 .left)),
         s .pre .1 .1,
         turned-sub (rowsOf (now (g .rows))) (now (g .turned)) (value (g .job .lower)) (g .node .free) _ (s .pre .1 .3)
             (less-free (g .node .free) (k .loop .still) (l .lowest .result .0) _ (inv .fewer) on (f .without2 .ensures)),
       ),
     ))
-    (λ c. let i = c .before .before .before .before in
+    (λ c. let j = c .before .before .before in
+    let i = j .before .before .before .before .before .before in
     let r = i .before .before .before .before in
     let l = r .before in
     let k = l .before .before in
-    let inv = k .loop .inv in
-    let s = k .before .before in
-    fewer-left (s .args .node .free) (k .loop .left) (l .lowest .result .0) _ (s .good .1 .1 .1 .1 .1 .0 .1 .1 .0 .1) (λ i m. inv .fewer i (inv .inside i m))
-    (l .lowest .ensures .small) (l .lowest .ensures .member) (r .without .ensures))
-    (λ c. let i = c .before .before .before .before in
+    let s = k .before .before .before in
+    trying-less _ _ _ _ _ (k .loop .left) _ _ (k .loop .inv) (s .good .1 .1 .1 .1 .1 .0 .1 .1 .0 .1) _ _ (l .lowest .ensures) (r .without .ensures))
+    (λ c. let h = c .before in
+    let u = h .before .before .before .before .before in
+    let i = u .before .before .before in
     let w = i .before .before in
     let f = w .before in
     let l = f .before .before in
     let k = l .before .before in
-    let g = k .before .before .args in
+    let g = k .before .before .before .args in
     trying-on (taskOf (now (g .rows)) (now (g .masks)) (now (g .rooms)) (g .job)) (roomy-less (now (g .masks)) (now (g .rooms)) (g .job .count)) _ _ _ _
     (k .loop .left) _ _ (k .loop .inv) _ _ _ _ _ (l .lowest .ensures .member) (f .before .without .ensures) (f .without2 .ensures) (w .with .ensures)
-    (i .before .room-for .ensures) _ (c .permission-step .ensures))
+    (i .before .room-for .ensures) _ (c .permission-step .ensures (sym (h .before .perm-within .ensures) ∙ h .if3 .left)))
     (λ c. let k = c .before in trying-end _ _ _ _ _ _ _ _ (k .loop .inv) (c .loop-test .left))
