@@ -11,7 +11,6 @@ import random
 import struct
 import subprocess
 import sys
-import tempfile
 import unittest
 
 sys.dont_write_bytecode = True
@@ -33,6 +32,7 @@ def module(name, path):
 # The tool finds the package and links the library; the rules are the separate judge.
 tool = module("tool", TOOL)
 rules = module("rules", os.path.join(ROOT, "tests", "host", "rules.py"))
+folder = module("folder", os.path.join(ROOT, "tests", "python", "folder.py"))
 import nutrameza  # noqa: E402 - found by the tool
 from nutrameza import cli, policy, why  # noqa: E402
 
@@ -585,24 +585,12 @@ class Order(unittest.TestCase):
             self.assertEqual(refusal_of(policy.to_bytes(words)), refusal)
 
 
-class Folder(unittest.TestCase):
+class Folder(folder.Folder):
     """A folder of its own, and the tool run in it."""
 
-    def setUp(self):
-        self.folder = tempfile.TemporaryDirectory()
-        self.addCleanup(self.folder.cleanup)
-
-    def path(self, name, content=None):
-        path = os.path.join(self.folder.name, name)
-        if content is not None:
-            with open(path, "wb") as file:
-                file.write(content)
-        return path
-
     def run_tool(self, *words, **environment):
-        here = {**os.environ, **environment}
-        done = subprocess.run([sys.executable, TOOL, *words], cwd=self.folder.name, env=here, capture_output=True, text=True, check=False)
-        return done.returncode, done.stdout, done.stderr
+        """The exit status of the tool, and what it printed."""
+        return self.ran([sys.executable, TOOL, *words], environment)
 
 
 class Commands(Folder):

@@ -4,9 +4,9 @@ import os
 import signal
 import subprocess
 import sys
-import tempfile
 import unittest
 
+import folder
 from nutrameza import cli
 
 ROOT = os.path.dirname(os.path.dirname(os.path.dirname(os.path.abspath(__file__))))
@@ -16,31 +16,12 @@ COMPLETION = os.path.join(ROOT, "python", "completion", "nutrameza")
 COMMAND = [sys.executable, "-B", "-m", "nutrameza"]
 
 
-class Folder(unittest.TestCase):
+class Folder(folder.Folder):
     """A folder of its own, and the command run in it."""
-
-    def setUp(self):
-        self.folder = tempfile.TemporaryDirectory()
-        self.addCleanup(self.folder.cleanup)
-
-    def path(self, name, content=None):
-        """A path in the folder, with this content."""
-        path = os.path.join(self.folder.name, name)
-        if content is not None:
-            with open(path, "wb") as file:
-                file.write(content)
-        return path
-
-    def content(self, name):
-        """A file's bytes."""
-        with open(self.path(name), "rb") as file:
-            return file.read()
 
     def run_it(self, *words, **environment):
         """The exit status of the command, and what it printed."""
-        done = subprocess.run([*COMMAND, *words], cwd=self.folder.name, env={**os.environ, **environment}, capture_output=True, text=True,
-                              check=False)
-        return done.returncode, done.stdout, done.stderr
+        return self.ran([*COMMAND, *words], environment)
 
 
 class Commands(Folder):

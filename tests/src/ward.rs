@@ -15,12 +15,29 @@ pub fn image_a() -> Vec<u8> {
     words::bytes(&A)
 }
 
-/// Image A with its exclusion made of this kind and limit.
+/// Image A with its exclusion made of this kind and n.
 pub fn image_a_with(kind: u32, n: u32) -> Vec<u8> {
     let mut image = A;
     image[9] = words::exclusion_head(kind, n, 2);
     words::rebalance(&mut image);
     words::bytes(&image)
+}
+
+/// Image A with a grant repeated up to 4,096 words.
+pub fn image_a_filled() -> Vec<u8> {
+    let mut image = A.to_vec();
+    image.splice(3..3, std::iter::repeat_n(words::grant(0, 0), 4096 - A.len()));
+    words::rebalance(&mut image);
+    words::bytes(&image)
+}
+
+/// So many users with the roles 0 and 1 of four, which exclude each other over the open windows of a user.
+pub fn image_of_users(users: u32) -> Vec<u8> {
+    let mut list = vec![words::head(users, 4, 4)];
+    list.extend((0..users).flat_map(|user| [words::assignment(user, 0), words::assignment(user, 1)]));
+    list.extend((0..4).map(|role| words::grant(role, role)));
+    list.extend(words::exclusion(1, 2, &[0, 1]));
+    words::bytes(&words::closed(list))
 }
 
 /// Image A for two users who both have both roles, with limits: each a role and its t.

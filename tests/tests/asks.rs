@@ -351,8 +351,7 @@ fn answers_users_of_sixteen_roles_under_thirty_two_exclusions() {
 #[test]
 fn each_user_is_told_the_same_whatever_the_others_do() {
     let tally = spread("runs of several users", 3_000, |rng, tally| {
-        let mut draft = policy::policy(rng, policy::SMALL);
-        draft.users = draft.users.max(2);
+        let draft = policy::of_several(rng);
         let (image, policy) = draft.built();
         let first = ledger::ledger(rng, &policy, 8);
         let calls: Vec<Call> = (0..16).map(|_| call::any(rng, &policy, &first)).collect();

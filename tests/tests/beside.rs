@@ -124,8 +124,7 @@ fn busy(rng: &mut Rng, policy: &Policy, ledger: &[u8], asks: bool) -> Vec<Call> 
 #[test]
 fn calls_of_different_users_may_be_made_in_any_order_without_limits() {
     let tally = spread("interleaved runs", 4_000, |rng, tally| {
-        let mut draft = unlimited(policy::policy(rng, policy::SMALL));
-        draft.users = draft.users.max(2);
+        let draft = unlimited(policy::of_several(rng));
         let image = words::bytes(&draft.words());
         let policy = policy::accepted(&image);
         let first = ledger::ledger(rng, &policy, 6);

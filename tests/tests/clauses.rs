@@ -433,8 +433,7 @@ fn others_in_place(rng: &mut Rng, draft: &policy::Draft, user: u32) -> policy::D
 #[test]
 fn each_user_is_told_the_same_text_whatever_the_others_do() {
     let tally = spread("clause texts in runs of several users", 3_000, |rng, tally| {
-        let mut draft = policy::policy(rng, policy::SMALL);
-        draft.users = draft.users.max(2);
+        let draft = policy::of_several(rng);
         let (image, policy) = draft.built();
         let first = ledger::ledger(rng, &policy, 8);
         let drawn = |rng: &mut Rng| match rng.one_in(3) {

@@ -326,9 +326,7 @@ fn answers_calls_under_random_limits_as_the_solver_does() {
 #[test]
 fn without_limits_an_ask_answers_the_same_whatever_stands_in_other_lines() {
     let tally = spread("garbage beside", 4_000, |rng, tally| {
-        let mut draft = policy::policy(rng, policy::SMALL);
-        draft.users = draft.users.max(2);
-        let (image, policy) = draft.built();
+        let (image, policy) = policy::of_several(rng).built();
         let (sound, user) = (ledger::ledger(rng, &policy, 0), rng.place(policy.users));
         let mut garbage = rng.bytes(sound.len());
         garbage[LINE * user..LINE * (user + 1)].copy_from_slice(&sound[LINE * user..LINE * (user + 1)]);

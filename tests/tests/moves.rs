@@ -11,19 +11,10 @@ use nutrameza_tests::solver::image::judge;
 use nutrameza_tests::solver::line::{sound, Line, LINE, SESSIONS};
 use nutrameza_tests::solver::moves::{Move, BOTH, OLD_LINE, OLD_SESSIONS};
 use nutrameza_tests::solver::policy::Policy;
-use nutrameza_tests::{ward, words};
+use nutrameza_tests::ward::{self, image_of_users};
 
 /// The numbers that a move can give, narrowing; widening gives all but 24.
 const NUMBERS: [&str; 15] = ["0", "1", "2", "3", "4", "5", "6", "7", "8", "22", "23", "9", "19", "11", "24"];
-
-/// So many users with the roles 0 and 1 of four, which exclude each other over the open windows of a user.
-fn image(users: u32) -> Vec<u8> {
-    let mut list = vec![words::head(users, 4, 4)];
-    list.extend((0..users).flat_map(|user| [words::assignment(user, 0), words::assignment(user, 1)]));
-    list.extend((0..4).map(|role| words::grant(role, role)));
-    list.extend(words::exclusion(1, 2, &[0, 1]));
-    words::bytes(&words::closed(list))
-}
 
 /// A line of so many sessions: roles of the user's history, then sessions that are open, each with what is active in it
 /// and its history.
@@ -93,8 +84,8 @@ fn a_line_of_four_sessions_has_80_bytes_and_one_of_eight_144() {
     assert_eq!((Move::Widen.lines(), Move::Narrow.lines()), ((80, 144), (144, 80)));
     for users in [1, 2, 3, 17, 64] {
         let (old, wide) = (vec![0; 80 * users], vec![0; 144 * users]);
-        assert_eq!(target(Move::Widen, &image(users as u32), &old), wide);
-        assert_eq!(target(Move::Narrow, &image(users as u32), &wide), old);
+        assert_eq!(target(Move::Widen, &image_of_users(users as u32), &old), wide);
+        assert_eq!(target(Move::Narrow, &image_of_users(users as u32), &wide), old);
     }
 }
 
@@ -107,8 +98,8 @@ fn the_past_and_each_session_stand_under_their_numbers_and_new_sessions_are_clos
         let (others, wide_others) = ([line(4, 4, &[]), line(4, 2, &[(3, 2, 2)])], [line(8, 4, &[]), line(8, 2, &[(3, 2, 2)])]);
         let olds = [others[0].clone(), old, others[1].clone()].concat();
         let wides = [wide_others[0].clone(), wide, wide_others[1].clone()].concat();
-        assert_eq!(target(Move::Widen, &image(3), &olds), wides);
-        assert_eq!(target(Move::Narrow, &image(3), &wides), olds);
+        assert_eq!(target(Move::Widen, &image_of_users(3), &olds), wides);
+        assert_eq!(target(Move::Narrow, &image_of_users(3), &wides), olds);
     }
 }
 
@@ -135,7 +126,7 @@ fn an_old_ledger_of_another_length_is_9_whatever_the_target_is() {
             let (from, to) = (way.lines().0 * users, way.lines().1 * users);
             for length in other_lengths(from, to) {
                 for room in [to, 0, to - 1, to + 1, from] {
-                    let carried = carry(way, &image(users as u32), &vec![0xFF; length], &filler(room), Empty::Null, 5);
+                    let carried = carry(way, &image_of_users(users as u32), &vec![0xFF; length], &filler(room), Empty::Null, 5);
                     assert_eq!((carried.number, carried.extra), (9, 0), "{way:?} of {length} bytes to {room}");
                 }
             }
@@ -150,7 +141,8 @@ fn a_target_of_another_length_is_19_before_any_line_is_looked_at() {
             let (from, to) = (way.lines().0 * users, way.lines().1 * users);
             for room in other_lengths(to, from) {
                 for byte in [0, 0xFF] {
-                    let carried = carry(way, &image(users as u32), &vec![byte; from], &filler(room), Empty::Somewhere, 5);
+                    let carried =
+                        carry(way, &image_of_users(users as u32), &vec![byte; from], &filler(room), Empty::Somewhere, 5);
                     assert_eq!((carried.number, carried.extra), (19, 0), "{way:?} of {from} bytes to {room}");
                 }
             }
@@ -186,7 +178,7 @@ fn any_of_the_sessions_4_to_7_open_is_24_with_its_user() {
                 for sessions in [sessions, empty] {
                     let mut old = vec![0; LINE * users];
                     old[LINE * user..LINE * (user + 1)].copy_from_slice(&line(8, 7, &sessions));
-                    assert_eq!(answer(Move::Narrow, &image(users as u32), &old), (24, user as u64), "open {open:08b}");
+                    assert_eq!(answer(Move::Narrow, &image_of_users(users as u32), &old), (24, user as u64), "open {open:08b}");
                 }
             }
         }
@@ -198,7 +190,7 @@ fn of_several_users_with_upper_sessions_open_the_lowest_is_told() {
     for lowest in 0..8 {
         let lines = (0..8).map(|user| if user < lowest { line(8, 0, &[(3, 0, 0)]) } else { line(8, 1, &[(4, 1, 1)]) });
         let old = lines.collect::<Vec<_>>().concat();
-        assert_eq!(answer(Move::Narrow, &image(8), &old), (24, lowest));
+        assert_eq!(answer(Move::Narrow, &image_of_users(8), &old), (24, lowest));
     }
 }
 
@@ -226,7 +218,7 @@ fn an_unsound_line_is_11_with_its_user_and_of_several_the_lowest() {
             for user in 0..5 {
                 let lines = (0..5).map(|other| if other < user { line(sessions, 3, &[(2, 1, 1)]) } else { unsound.clone() });
                 let old = lines.collect::<Vec<_>>().concat();
-                assert_eq!(answer(way, &image(5), &old), (11, user), "{way:?} {unsound:02x?}");
+                assert_eq!(answer(way, &image_of_users(5), &old), (11, user), "{way:?} {unsound:02x?}");
             }
         }
     }
@@ -241,9 +233,9 @@ fn in_one_line_11_comes_before_24() {
         for session in 4..8 {
             both[0] |= 1 << session;
         }
-        assert_eq!(answer(Move::Narrow, &image(1), &both), (number, 0), "{both:02x?}");
+        assert_eq!(answer(Move::Narrow, &image_of_users(1), &both), (number, 0), "{both:02x?}");
         let old = [line(8, 1, &[(0, 1, 1)]), both.clone(), line(8, 0, &[(7, 0, 0)])].concat();
-        assert_eq!(answer(Move::Narrow, &image(3), &old), (number, 1), "{both:02x?}");
+        assert_eq!(answer(Move::Narrow, &image_of_users(3), &old), (number, 1), "{both:02x?}");
     }
 }
 
@@ -255,7 +247,7 @@ fn in_two_lines_the_lower_user_decides_between_11_and_24() {
                 let mut lines = vec![line(8, 2, &[(0, 2, 2), (3, 0, 2)]); 6];
                 (lines[one], lines[other]) = (unsound.clone(), line(8, 1, &[(6, 1, 1)]));
                 let expected = if one < other { (11, one as u64) } else { (24, other as u64) };
-                assert_eq!(answer(Move::Narrow, &image(6), &lines.concat()), expected);
+                assert_eq!(answer(Move::Narrow, &image_of_users(6), &lines.concat()), expected);
             }
         }
     }
@@ -266,7 +258,7 @@ fn an_old_line_with_open_bits_above_3_is_not_sound() {
     for open in 16..=255 {
         let mut old = vec![0; 3 * OLD_LINE];
         old[OLD_LINE] = open;
-        assert_eq!(answer(Move::Widen, &image(3), &old), (11, 1));
+        assert_eq!(answer(Move::Widen, &image_of_users(3), &old), (11, 1));
     }
 }
 

@@ -100,10 +100,7 @@ fn an_image_that_is_a_folder_counts_as_empty() {
 
 #[test]
 fn an_image_of_4096_words_is_read_whole_and_one_byte_more_is_refused() {
-    let mut image = ward::A.to_vec();
-    image.splice(3..3, std::iter::repeat_n(words::grant(0, 0), 4096 - ward::A.len()));
-    words::rebalance(&mut image);
-    let mut image = words::bytes(&image);
+    let mut image = ward::image_a_filled();
     assert_eq!(image.len(), 16384);
     assert_eq!(text(Some(&image), b"open 0\nask 0 0 3 1f\n"), "1 0 0 0 0\n2 0 0 1 f\n");
     image.push(0);

@@ -12,7 +12,8 @@ use nutrameza_tests::solver::image::judge;
 use nutrameza_tests::solver::line::{sound, LINE};
 use nutrameza_tests::solver::policy::Policy;
 use nutrameza_tests::solver::stopped::{names, USERS};
-use nutrameza_tests::{ward, words};
+use nutrameza_tests::ward::{self, image_of_users};
+use nutrameza_tests::words;
 
 /// The numbers that the stopped call can give.
 const NUMBERS: [&str; 13] = ["0", "1", "2", "3", "4", "5", "6", "7", "8", "22", "23", "9", "19"];
@@ -29,26 +30,17 @@ fn opened(image: &[u8], ledger: &[u8], user: usize) -> u64 {
     kit::open(Empty::Somewhere, image, &mut ledger.to_vec(), user as u64) % 256
 }
 
-/// So many users with the roles 0 and 1 of four, which exclude each other over the open windows of a user.
-fn image(users: u32) -> Vec<u8> {
-    let mut list = vec![words::head(users, 4, 4)];
-    list.extend((0..users).flat_map(|user| [words::assignment(user, 0), words::assignment(user, 1)]));
-    list.extend((0..4).map(|role| words::grant(role, role)));
-    list.extend(words::exclusion(1, 2, &[0, 1]));
-    words::bytes(&words::closed(list))
-}
-
 #[test]
 fn each_user_alone_is_told_as_that_users_bit() {
     for users in [1, 2, 7, 8, 9, 63, 64] {
-        assert_eq!(told(&image(users), &vec![0; LINE * users as usize]).bytes, Some([0; 8]));
+        assert_eq!(told(&image_of_users(users), &vec![0; LINE * users as usize]).bytes, Some([0; 8]));
         for user in 0..users as usize {
             let mut ledger = vec![0; LINE * users as usize];
             ledger[LINE * user + 1] = 1;
-            let told = told(&image(users), &ledger);
+            let told = told(&image_of_users(users), &ledger);
             assert_eq!((told.number, told.extra, told.bytes), (0, 1, Some((1u64 << user).to_le_bytes())));
         }
-        let all = told(&image(users), &vec![0xFF; LINE * users as usize]);
+        let all = told(&image_of_users(users), &vec![0xFF; LINE * users as usize]);
         assert_eq!((all.extra, all.bytes), (users as u64, Some((u64::MAX >> (64 - users)).to_le_bytes())));
     }
 }
@@ -81,7 +73,7 @@ fn a_ledger_of_another_length_is_9_whatever_the_buffer_is() {
         let near = [1, 8, 64, LINE].into_iter().flat_map(|off| [fitting + off, fitting.saturating_sub(off)]);
         for length in near.chain([fitting / 2, 2 * fitting]).chain(0..330).filter(|length| *length != fitting) {
             for room in [8, 0, 7, 9] {
-                let told = stopped(&image(users as u32), &vec![0xFF; length], room, Empty::Null, 5);
+                let told = stopped(&image_of_users(users as u32), &vec![0xFF; length], room, Empty::Null, 5);
                 assert_eq!((told.number, told.extra), (9, 0), "{length} bytes for {users} users");
             }
         }
@@ -93,7 +85,7 @@ fn a_buffer_of_another_size_is_19_and_stays() {
     for users in [1, 2, 64] {
         for room in (0..300).filter(|room| *room != USERS) {
             for byte in [0, 0xFF] {
-                let told = stopped(&image(users as u32), &vec![byte; LINE * users], room, Empty::Somewhere, 5);
+                let told = stopped(&image_of_users(users as u32), &vec![byte; LINE * users], room, Empty::Somewhere, 5);
                 assert_eq!((told.number, told.extra), (19, 0), "a buffer of {room} bytes");
             }
         }
@@ -293,8 +285,7 @@ fn run_on(image: &[u8], ledger: &mut Vec<u8>, calls: &[Call]) -> Vec<Played> {
 #[test]
 fn a_user_is_told_the_same_over_changes_whatever_the_others_do() {
     let tally = spread("histories of one user", 2_000, |rng, tally| {
-        let mut draft = policy::policy(rng, policy::SMALL);
-        draft.users = draft.users.max(2);
+        let mut draft = policy::of_several(rng);
         let user = rng.place(draft.users as usize);
         let mut images = [words::bytes(&draft.words()), words::bytes(&draft.others_redrawn(rng, user as u32).words())];
         let mut ledgers =

@@ -139,10 +139,7 @@ fn an_image_that_is_a_folder_or_whose_reading_fails_counts_as_empty() {
 
 #[test]
 fn an_image_of_4096_words_is_surveyed_whole() {
-    let mut image = ward::A.to_vec();
-    image.splice(3..3, std::iter::repeat_n(words::grant(0, 0), 4096 - ward::A.len()));
-    words::rebalance(&mut image);
-    assert_eq!(text(Some(&words::bytes(&image)), b"open 0\n"), "1 2 2 3\n0 1\n");
+    assert_eq!(text(Some(&ward::image_a_filled()), b"open 0\n"), "1 2 2 3\n0 1\n");
 }
 
 #[test]

@@ -17,14 +17,7 @@ use Rattle.image_reader.proofs.PlaceLaws.{word-found}
 -- the exclusions of some entries: that of the first, and those of the rest
 of-first : (e : Entry) (es : List Entry) → exclusionsOf (e ∷ es) ≡ exclusionBy e es ++ exclusionsOf es
 unfolding exclusionsOf exclusionBy
-of-first (Assignment u r) es = refl
-of-first (Grant r p) es = refl
-of-first (Senior a b) es = refl
-of-first (Exclude x m) es = refl
-of-first (Member r) es = refl
-of-first (Limit r n) es = refl
-of-first End es = refl
-of-first Unknown es = refl
+of-first e es = refl
 
 -- an entry that is no exclusion adds none
 of-other : (e : Entry) (es : List Entry) → excludes e ≡ false → exclusionsOf (e ∷ es) ≡ exclusionsOf es

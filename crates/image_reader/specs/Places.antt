@@ -8,8 +8,8 @@ use lib.Dec.{leb}
 use lib.ListN.{take}
 use Rattle.model.specs.declared.Exclusion.{Exclusion}
 use Rattle.model.specs.declared.Entry.{Entry}
-use Rattle.model.specs.declared.Entry.the-variants.{Assignment, Grant, Senior, Exclude, Member, Limit, End, Unknown}
 use Rattle.model.specs.Tests.{pick, between}
+use Rattle.model.specs.Kinds.{onExclude}
 use Rattle.model.specs.Image.{wordAt, behindHead, decode}
 use Rattle.model.specs.Policy.{entryAt, entriesFrom, withMembers}
 use Rattle.image_reader.specs.declared.Found.{Found}
@@ -25,14 +25,7 @@ placeAfter s place = pick (leb place (behindHead s)) (place + 1) place
 
 -- the entry is an exclusion
 unfoldable pub excludes : Entry → Bool
-excludes (Assignment u r) = false
-excludes (Grant r p) = false
-excludes (Senior a b) = false
-excludes (Exclude x m) = true
-excludes (Member r) = false
-excludes (Limit r t) = false
-excludes End = false
-excludes Unknown = false
+excludes e = onExclude false (λ x m. true) e
 
 -- what was found is an exclusion's word
 unfoldable pub isExclusion : Found → Bool
@@ -60,14 +53,7 @@ entriesBehind s place = entriesFrom s (behindHead s - place) (place + 1)
 
 -- the exclusion that an entry opens, with the members that the entries behind it name; none where it opens none
 unfoldable pub exclusionBy : Entry → List Entry → List Exclusion
-exclusionBy (Assignment u r) es = []
-exclusionBy (Grant r p) es = []
-exclusionBy (Senior a b) es = []
-exclusionBy (Exclude x m) es = withMembers x (take m es) ∷ []
-exclusionBy (Member r) es = []
-exclusionBy (Limit r t) es = []
-exclusionBy End es = []
-exclusionBy Unknown es = []
+exclusionBy e es = onExclude [] (λ x m. withMembers x (take m es) ∷ []) e
 
 -- what is read from a place on; none from 0, which is no place of an exclusion
 unfoldable pub visiting : (ℕ → List Exclusion) → ℕ → List Exclusion

@@ -4,7 +4,7 @@
 ghost use mathlib.Core.Path.{_≡_};
 ghost use Prim.Native.Nat.{_+_};
 ghost use Rattle.model.specs.Image.{behindHead};
-ghost use Rattle.image_reader.specs.Places.{foundAt, placeAfter, excludes as excludesOf, isExclusion, exclusionAfter};
+ghost use Rattle.image_reader.specs.Places.{foundAt, placeAfter, isExclusion, exclusionAfter};
 ghost use Rattle.image_reader.specs.Readers.{movedOn};
 use model::Entry;
 use model::Word;
@@ -85,22 +85,6 @@ pub fn entry_after(image: &[u8], place: usize) -> Found
     next(moved(Reader { image, at: place }))
 }
 
-// The entry is an exclusion.
-fn excludes(e: Entry) -> bool
-    ensures { λ r. ⌜ r ≡ excludesOf e ⌝ }
-{
-    match e {
-        Entry::Assignment(_, _) => false,
-        Entry::Grant(_, _) => false,
-        Entry::Senior(_, _) => false,
-        Entry::Exclude(_, _) => true,
-        Entry::Member(_) => false,
-        Entry::Limit(_, _) => false,
-        Entry::End => false,
-        Entry::Unknown => false,
-    }
-}
-
 // What was found is an exclusion's word.
 fn is_exclusion(f: Found) -> bool
     ensures { λ r. ⌜ r ≡ isExclusion f ⌝ }
@@ -109,7 +93,10 @@ fn is_exclusion(f: Found) -> bool
         return false;
     };
     let e = w.entry;
-    excludes(e)
+    let Entry::Exclude(_, _) = e else {
+        return false;
+    };
+    true
 }
 
 // The place of the first exclusion behind the place, or 0 where there is none: from one to the next, the exclusions in

@@ -15,8 +15,9 @@ use Rattle.model.specs.declared.Word.{Word}
 use Rattle.model.specs.Image.{wordAt, decode}
 use Rattle.model.specs.Policy.{entryAt, entriesFrom, fold, joining, withMembers}
 use Rattle.exclusion_rows.specs.Rows.{exclusionOf}
+use Rattle.image_words.proofs.Others.{Among, notExclude, no-exclusion}
 use Rattle.sets.proofs.Unions.{map-set}
-use Rattle.tables_exclusions.specs.Exclusions.{exclusionBy, exclusionAt}
+use Rattle.tables_exclusions.specs.Exclusions.{nothing, exclusionBy, exclusionAt}
 
 pub take-entries : (s : List ℕ) (m n k p : ℕ) → k ≤ n → k ≤ m → (k < m → k ≡ n) → take m (entriesFrom s n p) ≡ entriesFrom s k p
 unfolding entriesFrom
@@ -34,6 +35,12 @@ pub exclusion-of : (s : List ℕ) (words place w : ℕ) (d : Word) (e : Entry) (
     → x ≡ exclusionBy e (entriesFrom s (words - (place + 1)) (place + 1)) → x ≡ exclusionAt s words place
 unfolding exclusionAt entryAt
 exclusion-of s words place w d e x ew ed ee ex = rw (ex, ← ee, ed, ew)
+
+-- an entry of another kind opens none
+pub nothing-at : (s : List ℕ) (words place w : ℕ) (d : Word) (x : Exclusion) → w ≡ wordAt s place → d ≡ decode w → Among notExclude (d .entry)
+    → x ≡ nothing → x ≡ exclusionAt s words place
+unfolding exclusionBy
+nothing-at s words place w d x ew ed h ex = exclusion-of s words place w d (d .entry) x ew ed refl (ex ∙ no-exclusion nothing _ (d .entry) h)
 
 -- its members, read up to the place `to`
 pub members-of : (s : List ℕ) (words place to m : ℕ) (x : Exclusion) (set : ℕ) → place < words → to ≤ words → place + 1 ≤ to → to ≤ place + 1 + m

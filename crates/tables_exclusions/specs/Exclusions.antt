@@ -6,7 +6,7 @@ use lib.ListN.{take}
 use Rattle.model.specs.declared.Kind.the-variants.{SsDmer}
 use Rattle.model.specs.declared.Exclusion.{Exclusion}
 use Rattle.model.specs.declared.Entry.{Entry}
-use Rattle.model.specs.declared.Entry.the-variants.{Assignment, Grant, Senior, Exclude, Member, Limit, End, Unknown}
+use Rattle.model.specs.Kinds.{onExclude}
 use Rattle.model.specs.Policy.{entryAt, entriesFrom, withMembers}
 
 -- no exclusion
@@ -15,14 +15,7 @@ nothing = record { kind = SsDmer; n = 0; members = 0 }
 
 -- the exclusion that an exclusion word opens, with the members that the entries behind it name
 unfoldable pub exclusionBy : Entry → List Entry → Exclusion
-exclusionBy (Assignment u r) es = nothing
-exclusionBy (Grant r p) es = nothing
-exclusionBy (Senior a b) es = nothing
-exclusionBy (Exclude x m) es = withMembers x (take m es)
-exclusionBy (Member r) es = nothing
-exclusionBy (Limit r t) es = nothing
-exclusionBy End es = nothing
-exclusionBy Unknown es = nothing
+exclusionBy e es = onExclude nothing (λ x m. withMembers x (take m es)) e
 
 -- the exclusion at a place of an image of so many words
 unfoldable pub exclusionAt : List ℕ → ℕ → ℕ → Exclusion

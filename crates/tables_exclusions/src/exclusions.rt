@@ -29,16 +29,10 @@ fn joined(members: u64, e: Entry) -> u64
     requires { ⌜ Small e ⌝ }
     ensures { λ s. ⌜ s ≡ joining members e ⌝ }
 {
-    match e {
-        Entry::Member(r) => sets::with(members, r),
-        Entry::Assignment(_, _) => members,
-        Entry::Grant(_, _) => members,
-        Entry::Senior(_, _) => members,
-        Entry::Exclude(_, _) => members,
-        Entry::Limit(_, _) => members,
-        Entry::End => members,
-        Entry::Unknown => members,
-    }
+    let Entry::Member(r) = e else {
+        return members;
+    };
+    sets::with(members, r)
 }
 
 // The members, with those that the words from one place to another name.
@@ -74,24 +68,16 @@ pub fn exclusion_at(image: &[u8], words: usize, place: usize) -> Exclusion
 {
     let word = decode(octets::word_at(image, place));
     let e = word.entry;
-    match e {
-        Entry::Exclude(x, m) => {
-            let to = place_behind(place + 1, m, words);
-            let members = members_in(image, place + 1, to, x.members);
-            let k = x.kind;
-            Exclusion {
-                kind: k,
-                n: x.n,
-                members,
-            }
-        }
-        Entry::Assignment(_, _) => nothing(),
-        Entry::Grant(_, _) => nothing(),
-        Entry::Senior(_, _) => nothing(),
-        Entry::Member(_) => nothing(),
-        Entry::Limit(_, _) => nothing(),
-        Entry::End => nothing(),
-        Entry::Unknown => nothing(),
+    let Entry::Exclude(x, m) = e else {
+        return nothing();
+    };
+    let to = place_behind(place + 1, m, words);
+    let members = members_in(image, place + 1, to, x.members);
+    let k = x.kind;
+    Exclusion {
+        kind: k,
+        n: x.n,
+        members,
     }
 }
 

@@ -253,6 +253,13 @@ pub fn policy(rng: &mut Rng, size: Size) -> Draft {
     draft
 }
 
+/// A small policy of two users or more.
+pub fn of_several(rng: &mut Rng) -> Draft {
+    let mut draft = policy(rng, SMALL);
+    draft.users = draft.users.max(2);
+    draft
+}
+
 /// A policy whose head stands at the limits, one way or the other.
 pub fn limits(rng: &mut Rng) -> Draft {
     let mut draft = policy(rng, SMALL);
