@@ -137,7 +137,8 @@ module _ (p : Policy) (h : Head) (assigned juniors : List ℕ) (g : Gives p h as
         | no q ↦ omega arith
       ]
 
-  pub judged-flat : (c : Checked) → c ≡ Accepted h → Judged p c (Accepted h) assigned juniors
+  pub judged-flat : (c : Checked) → c ≡ Accepted h → Judged p c c assigned juniors
   judged-flat c e =
-      judged-ordered p h assigned juniors juniors g (flat-closed (h .roles) juniors flat) c e (onLoop juniors (h .roles)) refl none (h .users) assigned
-      (flat-alone juniors (h .users) assigned (h .roles) (f .roles) flat (f .few)) (omega arith)
+      subst (λ (x : Checked). Judged p c x assigned juniors) (sym e)
+      (judged-ordered p h assigned juniors juniors g (flat-closed (h .roles) juniors flat) c e (onLoop juniors (h .roles)) refl none (h .users) assigned
+      (flat-alone juniors (h .users) assigned (h .roles) (f .roles) flat (f .few)) (omega arith))

@@ -1,7 +1,8 @@
 // The lowest role on a loop of senior words, and an image judged by what its words mean together once they pass: the
 // refusals 22 and 23.
 ghost use mathlib.Core.Path.{_≡_};
-ghost use mathlib.Core.Bool.{false};
+ghost use mathlib.Core.Bool.{true, false};
+ghost use mathlib.Core.List.{List};
 ghost use lib.ListN.{getD};
 ghost use Prim.Native.Nat.{ℕ, _≤_, _<_};
 ghost use Rattle.model.specs.declared.Head.{Head as HeadOf};
@@ -41,10 +42,22 @@ fn some_over(below: &[u64; 64], roles: usize) -> bool
     false
 }
 
+// The judgement of an image whose words are judged stands: they are refused, or no role stands over another, and the
+// tables of assigned roles and of direct juniors are right as they are.
+pub fn settled(c: Checked, juniors: &[u64; 64]) -> bool
+    requires { ⌜ ((h : HeadOf) → c ≡ Checked.Accepted h → h .roles ≤ 64) ⌝ }
+    ensures { λ b. ⌜ (b ≡ true → (p : Policy) (assigned : List ℕ) → ((h : HeadOf) → c ≡ Checked.Accepted h → Fit h assigned (now (juniors .entry)))
+        → Passed p c assigned (now (juniors .entry)) → Judged p c c assigned (now (juniors .entry))) ⌝ }
+{
+    let Checked::Accepted(head) = c else {
+        return true;
+    };
+    !some_over(juniors, head.roles as usize)
+}
+
 // What an image whose words are judged is judged by what they mean together: 22 with the lowest role on a loop, then 23
 // with the lowest user who may activate more than 16 roles. The table of direct juniors is closed in place, and the
-// table of assigned roles becomes that of the roles that each user may activate. Where no role stands over another,
-// both are right as they are.
+// table of assigned roles becomes that of the roles that each user may activate.
 pub fn judged(c: Checked, assigned: &mut [u64; 64], juniors: &mut [u64; 64]) -> Checked
     requires { ⌜ ((h : HeadOf) → c ≡ Checked.Accepted h → Fit h (now assigned) (now juniors)) ⌝ }
     ensures { λ r. ⌜ ((p : Policy) → Passed p c (now (assigned .entry)) (now (juniors .entry)) → Judged p c r (now (assigned .exit)) (now (juniors .exit))) ⌝ }
@@ -54,9 +67,6 @@ pub fn judged(c: Checked, assigned: &mut [u64; 64], juniors: &mut [u64; 64]) -> 
     };
     let roles = head.roles as usize;
     let users = head.users as usize;
-    if !some_over(juniors, roles) {
-        return c;
-    }
     close(juniors, roles);
     let r = lowest_on_loop(juniors, roles);
     if r < roles {

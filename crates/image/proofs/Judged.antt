@@ -1,15 +1,17 @@
 -- The judgement of an image, a law for each way that it goes.
 -- Assumes nothing.
-use mathlib.Core.Path.{_≡_, ap, ap₂, _∙_}
+use mathlib.Core.Path.{_≡_, refl, sym, ap, ap₂, _∙_}
 use mathlib.Core.Bool.{Bool, true, false, _&&_}
 use mathlib.Core.List.{List}
 use Prim.Native.Nat.{ℕ, _-_, _/_, _%_, _≤_, _<_}
+use native.Mathlib.Omega.{arith}
 use lib.Dec.{leb}
 use lib.ListN.{length}
 use borrow.Author.Tests.{eq-eqb, ne-eqb, le-leb, lt-leb}
 use Rattle.model.specs.declared.Checked.{Checked}
 use Rattle.model.specs.declared.Checked.the-variants.{Refused}
 use Rattle.model.specs.Image.{wordAt, behindHead, scan, headOf, headRight, lengthRight, emptyRows, start, judgeWords}
+use Rattle.image.specs.Front.{Front}
 
 -- ---- the length
 module _ (n : ℕ) where
@@ -72,3 +74,18 @@ module _ (s : List ℕ) where
         → judgeWords s ≡ scan s (headOf (wordAt s 0)) (length s / 4 - 1) 1 emptyRows start (wordAt s 0)
     unfolding judgeWords behindHead
     right-head w = ap₂ judging (fitting (length s) e l g) w
+
+  -- the front of an image that is refused by its length or its head, and of one that is not
+  pub front-refused : (n : ℕ) → (n ≡ 0 → ⊥) → judgeWords s ≡ Refused n 0 → Front s n
+  front-refused n k e =
+      record { refused = λ z. sym e; whole = omega arith; least = λ z. absurd (k z); most = λ z. absurd (k z); scanned = λ z. absurd (k z) }
+
+  pub front-right : length s % 4 ≡ 0 → 8 ≤ length s → length s ≤ 16384 → headRight (wordAt s 0) ≡ true → Front s 0
+  front-right e l g w =
+      record {
+        refused = λ k. absurd (k refl);
+        whole = omega arith;
+        least = λ z. omega arith;
+        most = λ z. omega arith;
+        scanned = λ z. sym (right-head e l g w);
+      }

@@ -15,10 +15,11 @@ use Rattle.model.specs.declared.Word.{Word}
 use Rattle.model.specs.declared.Entry.{Entry}
 use Rattle.model.specs.declared.Entry.the-variants.{Assignment, Grant, Senior, Exclude, Member, Limit, End, Unknown}
 use Rattle.model.specs.Tests.{pick}
-use Rattle.model.specs.Image.{wrongKind, inRange, repeats, crowds, entryFault, sparing, fault, assigning, behindHead, emptyRows}
+use Rattle.model.specs.Image.{decode, wrongKind, inRange, repeats, crowds, entryFault, sparing, fault, assigning, behindHead, emptyRows}
 use Rattle.model.specs.Policy.{entriesFrom, entriesOf, fold, ordering, policyOf}
 use Rattle.model_laws.proofs.Tables.{assigning-length, ordering-length}
 use Rattle.model_laws.proofs.Bools.{or-false-r}
+use Rattle.image_usual.specs.Usual.{Opens}
 use Rattle.image.specs.Taken.{Due, Taken}
 
 -- ---- a word without fault is due
@@ -90,6 +91,17 @@ pub mistook : {h : Head} {a₀ j₀ : List ℕ} {t : Scan} {final : Bool} {w : W
     → k ≡ true → Taken h a₀ j₀ t final w 3 a j
 mistook {h} {a₀} {j₀} {t} {final} {w} k ek z =
     record { faulty = wrong-kind h a₀ t final w (sym ek ∙ z); assigned-is = λ z. absurd (omega arith); juniors-is = λ z. absurd (omega arith) }
+
+-- an exclusion word known by few tests is taken
+pub opened : {h : Head} {a j : List ℕ} {t t′ : Scan} {w : ℕ} → Opens (h .roles) t w t′ → Taken h a j t false (decode w) 0 a j
+unfolding assigning ordering
+opened {h} {a} {j} k =
+    let ee = ap (λ (x : Word). x .entry) (k .said) in
+    record {
+      faulty = k .faultless h a refl;
+      assigned-is = λ z. sym (ap (assigning a) ee);
+      juniors-is = λ z. sym (ap (ordering j) ee);
+    }
 
 -- the tables of assigned roles and of juniors have 64 rows each
 assigning-keeps : (es : List Entry) (rows : List ℕ) → length (fold assigning rows es) ≡ length rows

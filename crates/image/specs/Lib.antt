@@ -2,3 +2,5 @@
 
 -- Helpers of code and proofs: no theorem and no exported contract is stated in these.
 pub mod Taken
+pub mod Ending
+pub mod Front

@@ -1,14 +1,17 @@
 // The check: each word judged by the words before it, the earliest bad word decides, and the sum of all words comes
 // last.
 ghost use mathlib.Core.Path.{_≡_};
+ghost use mathlib.Core.Bool.{false};
 ghost use mathlib.Core.List.{List};
 ghost use Prim.Native.Nat.{ℕ, _+_, _-_, _*_, _≤_, _<_};
 ghost use lib.ListN.{length};
 ghost use Rattle.model.specs.declared.Head.{Head as HeadOf};
-ghost use Rattle.model.specs.Image.{sparing, entryFault, assigning, next as nextOf, scan, emptyRows, start, judgeWords};
+ghost use Rattle.model.specs.Image.{decode as decodeOf, sparing, entryFault, assigning, next as nextOf, scan, emptyRows, start, judgeWords};
 ghost use Rattle.model.specs.Policy.{entriesFrom, fold, ordering, policyOf};
 ghost use Rattle.image_words.specs.Bounds.{Small};
 ghost use Rattle.image.specs.Taken.{Due, Taken};
+use crate::ending::closing;
+use crate::front::front_fault;
 use image_faults::fault::assignment_fault;
 use image_faults::fault::exclusion_fault;
 use image_faults::fault::grant_fault;
@@ -19,10 +22,10 @@ use image_faults::fault::spared;
 use image_faults::fault::wrong_kind;
 use image_usual::usual::Run;
 use image_usual::usual::members;
+use image_usual::usual::opens;
 use image_usual::usual::pass;
 use image_words::word::decode;
 use image_words::word::head_of;
-use image_words::word::head_right;
 use model::Checked;
 use model::Entry;
 use model::Head;
@@ -30,7 +33,6 @@ use model::Role;
 use model::Scan;
 use model::User;
 use model::Word;
-use model::layout;
 use model::refusals;
 
 // ---- a word judged and, where it has no fault, taken in
@@ -67,22 +69,15 @@ pub fn take_senior(h: Head, juniors: &mut [u64; 64], spare: u32, a: Role, b: Rol
     n
 }
 
-// 3 to 7, or 0. One match a word, so that one jump goes to the arm: each tests the spare bits and judges, and those of
-// an assignment and of a senior word store.
-fn taken(
-    h: Head,
-    assigned: &mut [u64; 64],
-    juniors: &mut [u64; 64],
-    t: Scan,
-    last: bool,
-    w: Word,
-) -> u8
+// 3 to 7, or 0, of a word before the last. One match a word, so that one jump goes to the arm: each tests the spare
+// bits and judges, and those of an assignment and of a senior word store.
+fn taken(h: Head, assigned: &mut [u64; 64], juniors: &mut [u64; 64], t: Scan, w: Word) -> u8
     requires { ⌜ Small (w .entry) ⌝ }
-    ensures { λ n. ⌜ Taken h (now (assigned .entry)) (now (juniors .entry)) t last w n (now (assigned .exit)) (now (juniors .exit)) ⌝ }
+    ensures { λ n. ⌜ Taken h (now (assigned .entry)) (now (juniors .entry)) t false w n (now (assigned .exit)) (now (juniors .exit)) ⌝ }
 {
     let e = w.entry;
     let spare = w.spare;
-    if wrong_kind(last, t.due, e) {
+    if wrong_kind(false, t.due, e) {
         return refusals::KIND;
     }
     match e {
@@ -133,9 +128,39 @@ pub fn next(t: Scan, e: Entry) -> Scan
     }
 }
 
+// A word before the last judged: its fault, or 0 with what it leaves to judge the next one by.
+struct Step {
+    number: u8,
+    scan: Scan,
+}
+
+// A word before the last. An exclusion word without fault is known by few tests, any other is decoded.
+fn take(h: Head, assigned: &mut [u64; 64], juniors: &mut [u64; 64], t: Scan, w: u32) -> Step
+    ensures { λ s. ⌜ Taken h (now (assigned .entry)) (now (juniors .entry)) t false (decodeOf w) (s .number) (now (assigned .exit)) (now (juniors .exit))
+        × (s .number ≡ 0 → s .scan ≡ nextOf t (decodeOf w .entry)) ⌝ }
+{
+    let opened = opens(h.roles, t, w);
+    if opened.due != t.due {
+        return Step {
+            number: 0,
+            scan: opened,
+        };
+    }
+    let word = decode(w);
+    let number = taken(h, assigned, juniors, t, word);
+    if number != 0 {
+        return Step { number, scan: t };
+    }
+    let e = word.entry;
+    Step {
+        number,
+        scan: next(t, e),
+    }
+}
+
 // ---- the words behind the head, and the whole
 
-// Members that are due and usual words in runs, and between them the other words one by one.
+// Usual words in runs, and the other words one by one, each exclusion word with its members.
 fn check_words(
     image: &[u8],
     words: usize,
@@ -144,47 +169,41 @@ fn check_words(
     assigned: &mut [u64; 64],
     juniors: &mut [u64; 64],
 ) -> Checked
-    requires { ⌜ (4 * words ≤ length (now image)) × (1 ≤ words) × (words ≤ 4096) ⌝ }
+    requires { ⌜ (4 * words ≤ length (now image)) × (2 ≤ words) × (words ≤ 4096) ⌝ }
     ensures { λ r. ⌜ (r ≡ scan (now (image .entry)) h (words - 1) 1 (now (assigned .entry)) start first)
         × ((g : HeadOf) → r ≡ Checked.Accepted g
         → (now (assigned .exit) ≡ fold assigning (now (assigned .entry)) (entriesFrom (now (image .entry)) (words - 1) 1))
         × (now (juniors .exit) ≡ fold ordering (now (juniors .entry)) (entriesFrom (now (image .entry)) (words - 1) 1))) ⌝ }
 {
+    let end = words - 1;
     let mut t = fresh();
     let mut at = Run {
         place: 1,
         sum: first,
     };
-    while at.place < words {
-        let joined = members(image, words, at, h.roles, t);
-        t = joined.scan;
-        let from = Run {
-            place: joined.place,
-            sum: joined.sum,
-        };
-        let here = pass(image, words, from, h, t.due, assigned, juniors);
-        if words <= here.place {
+    while at.place < end {
+        let here = pass(image, words, at, h, t.due, assigned, juniors);
+        if end <= here.place {
             at = here;
             continue;
         }
         let w = octets::word_at(image, here.place);
-        let word = decode(w);
-        let number = taken(h, assigned, juniors, t, here.place + 1 == words, word);
-        if number != 0 {
-            return Checked::Refused(number, here.place as u16);
+        let step = take(h, assigned, juniors, t, w);
+        if step.number != 0 {
+            return Checked::Refused(step.number, here.place as u16);
         }
-        let e = word.entry;
-        t = next(t, e);
-        at = Run {
+        let from = Run {
             place: here.place + 1,
             sum: std::num::wrapping_add_u32(here.sum, w),
         };
+        let joined = members(image, words, from, h.roles, step.scan);
+        t = joined.scan;
+        at = Run {
+            place: joined.place,
+            sum: joined.sum,
+        };
     }
-    if at.sum % layout::KIND_UNIT == 0 {
-        Checked::Accepted(h)
-    } else {
-        Checked::Refused(refusals::BALANCE, (words - 1) as u16)
-    }
+    closing(image, words, h, t.due, at.sum)
 }
 
 // Judges an image by its words: accepted with the head's numbers, or refused by 1 to 8 with a place. Of an accepted
@@ -195,20 +214,10 @@ pub fn check(image: &[u8], assigned: &mut [u64; 64], juniors: &mut [u64; 64]) ->
         × ((g : HeadOf) → r ≡ Checked.Accepted g
         → (now (assigned .exit) ≡ policyOf (now (image .entry)) .assigned) × (now (juniors .exit) ≡ policyOf (now (image .entry)) .juniors)) ⌝ }
 {
-    let len = image.len();
-    if len % layout::WORD_BYTES != 0 {
-        return Checked::Refused(refusals::LENGTH, 0);
-    }
-    if len < layout::LEAST_BYTES {
-        return Checked::Refused(refusals::LENGTH, 0);
-    }
-    if layout::MOST_BYTES < len {
-        return Checked::Refused(refusals::LENGTH, 0);
+    let number = front_fault(image);
+    if number != 0 {
+        return Checked::Refused(number, 0);
     }
     let w = octets::word_at(image, 0);
-    if head_right(w) {
-        check_words(image, len / 4, head_of(w), w, assigned, juniors)
-    } else {
-        Checked::Refused(refusals::HEAD, 0)
-    }
+    check_words(image, image.len() / 4, head_of(w), w, assigned, juniors)
 }

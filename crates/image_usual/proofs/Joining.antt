@@ -1,25 +1,49 @@
--- Members in a run: one, none, and one more.
+-- An exclusion word, and members in a run: one, none, and one more.
 -- Assumes nothing.
 use mathlib.Core.Path.{_≡_, refl, sym, ap, _∙_}
 use mathlib.Core.Bool.{false}
 use mathlib.Core.List.{List}
 use Prim.Native.Nat.{ℕ, _+_, _-_, _*_, _/_, _%_, _^_, _≤_, _<_}
 use native.Mathlib.Omega.{arith}
-use borrow.Author.Tests.{ne-eqb, lt-ltb}
+use borrow.Author.Tests.{eq-eqb, ne-eqb, lt-ltb, le-leb, lt-leb}
 use Rattle.model.specs.declared.Head.{Head}
 use Rattle.model.specs.declared.Scan.{Scan}
 use Rattle.model.specs.declared.Word.{Word}
 use Rattle.model.specs.declared.Entry.{Entry}
 use Rattle.model.specs.declared.Entry.the-variants.{Member}
 use Rattle.model.specs.Tests.{pick}
-use Rattle.model.specs.Image.{wordAt, decode, says, role, wrongKind, inRange, repeats, crowds, entryFault, fault, assigning, next}
+use Rattle.model.specs.Image.{wordAt, field, decode, says, role, wrongKind, inRange, repeats, crowds, entryFault, fault, assigning, next}
 use Rattle.model.specs.Sets.{has, with}
 use Rattle.model.specs.Policy.{entryAt}
 use Rattle.image_words.proofs.Folds.{fold-next}
 use Rattle.image_words.proofs.Scans.{before-last, goes}
-use Rattle.image_usual.specs.Usual.{placed, placesFrom, Joins, Joined}
-use Rattle.image_usual.proofs.Words.{member-role, member-said}
+use Rattle.image_usual.specs.Usual.{placed, placesFrom, Opens, Joins, Joined}
+use Rattle.image_usual.proofs.Words.{exclusion-said, member-role, member-said}
 use Rattle.image_usual.proofs.Runs.{places-by}
+
+-- an exclusion word without fault
+pub opens : (roles : ℕ) (t t′ : Scan) (w : ℕ) → w < 2 ^ 32 → (w / 2 ^ 12 + w % 2 ^ 12 * 2 ^ 20) / 2 ^ 16 ≡ 5 → t .due ≡ 0
+    → field w 12 7 ≤ roles → field w 19 7 ≤ field w 12 7 → 2 ≤ field w 19 7 → t .exclusions < 32
+    → t′ ≡ record { exclusions = t .exclusions + 1; due = field w 12 7; members = 0 } → Opens roles t w t′
+unfolding fault entryFault inRange repeats crowds wrongKind next pick
+opens roles t t′ w l e z lm ln two few et =
+    let ed = exclusion-said w l e in
+    let one : 1 ≤ field w 12 7 = omega arith in
+    record {
+      said = ed;
+      faultless = λ h rows eh.
+          sym (rw (
+            ed,
+            eq-eqb (t .due) 0 z,
+            eh,
+            le-leb 1 (field w 12 7) one,
+            le-leb (field w 12 7) roles lm,
+            le-leb 2 (field w 19 7) two,
+            le-leb (field w 19 7) (field w 12 7) ln,
+            lt-leb 32 (t .exclusions) few,
+          ));
+      scan-is = et ∙ rw ed;
+    }
 
 -- a member without fault
 pub joins : (roles : ℕ) (t t′ : Scan) (w r : ℕ) → w < 2 ^ 32 → r < 64 → (r + 384) % 2 ^ 32 ≡ w / 2 ^ 22 + w % 2 ^ 22 * 2 ^ 10

@@ -87,8 +87,8 @@ quick-assignment u r row ed lu lr l eo c =
 -- ---- runs of such words: none, one, and one run behind another
 
 module _ {s : List ℕ} {h : Head} {n p sum : ℕ} {a j : List ℕ} where
-  pub passed-none : {due : ℕ} → p ≤ n → Passed s h n due p sum a j p sum a j
-  passed-none l = record { onward = omega arith; inside = l; scanned = λ t d. refl; assigned-is = refl; juniors-is = refl }
+  pub passed-none : {due : ℕ} → Passed s h n due p sum a j p sum a j
+  passed-none = record { onward = omega arith; inside = λ m k l. l; scanned = λ t d. refl; assigned-is = refl; juniors-is = refl }
 
   pub passed-one : (w : ℕ) {sum′ : ℕ} {a′ j′ : List ℕ} → p + 1 < n → w ≡ wordAt s p → Quick h w a j a′ j′ → sum′ ≡ (sum + w) % 2 ^ 32
       → Passed s h n 0 p sum a j (p + 1) sum′ a′ j′
@@ -96,7 +96,7 @@ module _ {s : List ℕ} {h : Head} {n p sum : ℕ} {a j : List ℕ} where
       let m : p < n = omega arith in
       record {
         onward = omega arith;
-        inside = omega arith;
+        inside = λ i k b. omega arith;
         scanned = λ t d.
             goes s h n p a t sum w (decode w) 0 m ew refl (before-last h a t (decode w) n p 0 l (q .faultless t d)) _ refl a′ t sum′
             (q .assigned-is) (quick-next (decode w .entry) (q .usual) t) em refl;
@@ -109,7 +109,7 @@ module _ {s : List ℕ} {h : Head} {n p sum : ℕ} {a j : List ℕ} where
   passed-then k z k′ =
       record {
         onward = omega (arith, k .onward, k′ .onward);
-        inside = k′ .inside;
+        inside = λ i a b. k′ .inside i a (k .inside i a b);
         scanned = λ t d. k′ .scanned t (d ∙ z) ∙ k .scanned t d;
         assigned-is = k′ .assigned-is ∙ k .assigned-is;
         juniors-is = k′ .juniors-is ∙ k .juniors-is;
@@ -152,7 +152,7 @@ places-by s n p w l ew k =
 
 module _ {s : List ℕ} {h : Head} {n p sum : ℕ} {a g j : List ℕ} where
   pub filled-none : {due : ℕ} → p ≤ n - 1 → Filled s h n due p sum a g j p sum a g j
-  filled-none l = record { passed = passed-none (omega arith); inside = l; granted-is = refl; limits-is = λ x. refl; places-are = refl }
+  filled-none l = record { passed = passed-none; inside = l; granted-is = refl; limits-is = λ x. refl; places-are = refl }
 
   pub filled-one : (w : ℕ) {sum′ : ℕ} {a′ g′ j′ : List ℕ} → p + 1 < n → w ≡ wordAt s p → Quick h w a j a′ j′ → g′ ≡ granting g (decode w .entry)
       → sum′ ≡ (sum + w) % 2 ^ 32 → Filled s h n 0 p sum a g j (p + 1) sum′ a′ g′ j′

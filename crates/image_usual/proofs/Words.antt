@@ -4,9 +4,9 @@ use mathlib.Core.Path.{_≡_, sym, ap, _∙_}
 use Prim.Native.Nat.{ℕ, _+_, _*_, _/_, _%_, _^_, _<_}
 use native.Mathlib.Nat.{div-div-eq-div-mul}
 use native.Mathlib.Omega.{arith}
-use Rattle.model.specs.declared.Entry.the-variants.{Assignment, Grant, Senior, Member}
+use Rattle.model.specs.declared.Entry.the-variants.{Assignment, Grant, Senior, Exclude, Member}
 use Rattle.model.specs.Tests.{pick}
-use Rattle.model.specs.Image.{decode, says, user, role, permission}
+use Rattle.model.specs.Image.{field, decode, says, user, role, permission, kindOf}
 
 third : (r : ℕ) → r < 64 → (r + 192) / 2 ^ 6 ≡ 3
 third r m = omega arith
@@ -101,3 +101,18 @@ module _ (w r : ℕ) (l : w < 2 ^ 32) (m : r < 64) (e : (r + 384) % 2 ^ 32 ≡ w
   pub member-said : decode w ≡ says (Member (role (w / 2 ^ 22 % 2 ^ 6))) 0
   unfolding decode pick
   member-said = rw (member-kind, member-spare)
+
+-- turned by 12 bits: an exclusion
+module _ (w : ℕ) (l : w < 2 ^ 32) (e : (w / 2 ^ 12 + w % 2 ^ 12 * 2 ^ 20) / 2 ^ 16 ≡ 5) where
+  exclusion-spare : w % 2 ^ 12 ≡ 0
+  exclusion-spare = omega arith
+
+  exclusion-top : w / 2 ^ 12 / 2 ^ 16 ≡ 5
+  exclusion-top = let z = exclusion-spare in omega arith
+
+  exclusion-kind : w / 2 ^ 28 % 2 ^ 4 ≡ 5
+  exclusion-kind = ap (λ (x : ℕ). x % 2 ^ 4) (sym (div-div-eq-div-mul w (2 ^ 12) (2 ^ 16)) ∙ exclusion-top)
+
+  pub exclusion-said : decode w ≡ says (Exclude (record { kind = kindOf (field w 26 2); n = field w 19 7; members = 0 }) (field w 12 7)) 0
+  unfolding decode pick
+  exclusion-said = rw (exclusion-kind, exclusion-spare)

@@ -12,7 +12,7 @@ use Rattle.model.specs.declared.Entry.{Entry}
 use Rattle.model.specs.declared.Entry.the-variants.{Assignment, Grant, Senior, Exclude, Member, Limit, End, Unknown}
 use Rattle.image_usual.specs.declared.usual.Granting.{Granting}
 use Rattle.image_usual.specs.declared.usual.Granting.the-variants.{To, Nobody}
-use Rattle.model.specs.Image.{role, permission, says, inRange, decode, fault, assigning, next, scan}
+use Rattle.model.specs.Image.{field, role, permission, kindOf, says, inRange, decode, fault, assigning, next, scan}
 use Rattle.model.specs.Sets.{count}
 use Rattle.model.specs.Policy.{entryAt, entriesFrom, fold, granting, ordering, limiting}
 
@@ -63,7 +63,7 @@ placesFrom s (suc n) p = placed (entryAt s p) p (placesFrom s n (p + 1))
 pub record Passed
     (s : List ℕ) (h : Head) (words due from sum₀ : ℕ) (assigned₀ juniors₀ : List ℕ) (place sum : ℕ) (assigned juniors : List ℕ) : Type 0 where
   pub onward : from ≤ place
-  pub inside : place ≤ words
+  pub inside : (n : ℕ) → words - 1 ≤ n → from ≤ n → place ≤ n
   pub scanned : (t : Scan) → t .due ≡ due → scan s h (words - place) place assigned t sum ≡ scan s h (words - from) from assigned₀ t sum₀
   pub assigned-is : fold assigning assigned (entriesFrom s (words - place) place) ≡ fold assigning assigned₀ (entriesFrom s (words - from) from)
   pub juniors-is : fold ordering juniors (entriesFrom s (words - place) place) ≡ fold ordering juniors₀ (entriesFrom s (words - from) from)
@@ -91,7 +91,14 @@ Gathers s words from roles u sum₀ own place sum row =
     (h : Head) (assigned juniors : List ℕ) → h .roles ≡ roles → u < h .users → length assigned ≡ 64 → getD assigned u 0 ≡ own → count 64 row ≤ 16
     → Led s h words from sum₀ assigned juniors place sum (set assigned u row) juniors
 
--- ---- members
+-- ---- exclusions and their members
+
+-- an exclusion word, before the last and where no member is due, without fault: what it leaves to judge the next word
+-- by
+pub record Opens (roles : ℕ) (t : Scan) (w : ℕ) (t′ : Scan) : Type 0 where
+  pub said : decode w ≡ says (Exclude (record { kind = kindOf (field w 26 2); n = field w 19 7; members = 0 }) (field w 12 7)) 0
+  pub faultless : (h : Head) (rows : List ℕ) → h .roles ≡ roles → 0 ≡ fault h rows t false (decode w)
+  pub scan-is : t′ ≡ next t (decode w .entry)
 
 -- a member that is due, before the last word, without fault: what it leaves to judge the next word by
 pub record Joins (roles : ℕ) (t : Scan) (w : ℕ) (t′ : Scan) : Type 0 where

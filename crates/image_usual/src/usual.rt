@@ -7,7 +7,7 @@ ghost use Prim.Native.Nat.{ℕ, _+_, _-_, _*_, _≤_, _<_};
 ghost use lib.ListN.{length};
 ghost use Rattle.model.specs.Image.{wordAt, decode as decodeOf};
 ghost use Rattle.model.specs.Policy.{granting};
-ghost use Rattle.image_usual.specs.Usual.{Grants, Quick, Passed, Led, Gathers, Joins, Joined};
+ghost use Rattle.image_usual.specs.Usual.{Grants, Quick, Passed, Led, Gathers, Opens, Joins, Joined};
 use image_faults::fault::senior_fault;
 use model::Head;
 use model::Role;
@@ -256,6 +256,40 @@ pub fn pass(
         total = run.sum;
     }
     Run { place, sum: total }
+}
+
+// What an exclusion word in range and with no spare bit, where no member is due, leaves to judge the next word by; any
+// other word leaves as many due. Turned by 12 bits, a word has its spare bits above its kind, so that one comparison
+// says that it is an exclusion word and has no spare bit.
+pub fn opens(roles: u8, t: Scan, w: u32) -> Scan
+    ensures { λ r. ⌜ ((r .due ≡ t .due → ⊥) → Opens roles t w r) ⌝ }
+{
+    if t.due != 0 {
+        return t;
+    }
+    let x = w / layout::M_UNIT + w % layout::M_UNIT * 1048576;
+    if x / 65536 != layout::EXCLUSION {
+        return t;
+    }
+    let m = w / layout::M_UNIT % 128;
+    let n = w / layout::N_UNIT % 128;
+    if (roles as u32) < m {
+        return t;
+    }
+    if m < n {
+        return t;
+    }
+    if n < 2 {
+        return t;
+    }
+    if 32 <= t.exclusions {
+        return t;
+    }
+    Scan {
+        exclusions: t.exclusions + 1,
+        due: m,
+        members: 0,
+    }
 }
 
 // What a member that is due, in range, with no spare bit and not named before leaves to judge the next word by; any

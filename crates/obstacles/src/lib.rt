@@ -15,7 +15,7 @@ use model::Line;
 use obstacles_blocks::blocked;
 use obstacles_lacks::found::Found;
 use obstacles_lacks::roles::lacked_by_any;
-use tables_rows::carried::carried;
+use tables_rows::carried::fill_carried;
 
 // The roles that the user may activate, and those of them that no limit bars.
 pub struct Roles {
@@ -43,7 +43,8 @@ pub fn obstacle(
 {
     let own = roles.own;
     let free = roles.free;
-    let rows = carried(granted, below, own);
+    let mut rows = [[0u64; 4]; 64];
+    fill_carried(granted, below, own, &mut rows);
     let lower = wanted.lower;
     let upper = wanted.upper;
     let found = lacked_by_any(&rows, own, free, lower, upper, granted, below);

@@ -2,22 +2,11 @@
 -- Assumes nothing.
 use mathlib.Core.Path.{_≡_}
 use mathlib.Core.List.{List, map}
-use Prim.Native.Nat.{ℕ, _-_, _≤_, _<_}
+use Prim.Native.Nat.{ℕ, _≤_, _<_}
 use lib.ListN.{length, getD, take}
-use Rattle.model.specs.declared.Head.{Head}
-use Rattle.model.specs.declared.Scan.{Scan}
-use Rattle.model.specs.declared.Entry.the-variants.{End}
-use Rattle.model.specs.declared.Checked.{Checked}
-use Rattle.model.specs.declared.Checked.the-variants.{Accepted}
-use Rattle.model.specs.Image.{assigning, scan, emptyRows}
-use Rattle.model.specs.Policy.{Policy, entryAt, entriesFrom, fold, granting, ordering, limiting, exclusionsOf, belowTable, authorized}
+use Rattle.model.specs.Image.{assigning, emptyRows}
+use Rattle.model.specs.Policy.{Policy, entriesFrom, fold, granting, ordering, limiting, exclusionsOf, belowTable, authorized}
 use Rattle.exclusion_rows.specs.Rows.{exclusionOf}
-
--- the last word judged, where so many members are due, and the sum of all words, `sum` that of the words before: what
--- the scan says of them, and that the word is the end where they are accepted
-pub record Closing (s : List ℕ) (h : Head) (words due sum : ℕ) (r : Checked) : Type 0 where
-  pub scanned : (rows : List ℕ) (t : Scan) → t .due ≡ due → r ≡ scan s h (words - (words - 1)) (words - 1) rows t sum
-  pub ended : (g : Head) → r ≡ Accepted g → entryAt s (words - 1) ≡ End
 
 -- the tables after n words from place 1, which held the first four before, and the exclusions among those words
 pub record Gathered

@@ -2,6 +2,7 @@
 ghost use mathlib.Core.Path.{_≡_};
 ghost use Rattle.model.specs.Judgement.{judge as judgeOf};
 use hierarchy_judged::loops::judged;
+use hierarchy_judged::loops::settled;
 use image::check::check;
 use model::Checked;
 
@@ -12,5 +13,8 @@ pub fn judge(image: &[u8]) -> Checked
     let mut assigned = [0u64; 64];
     let mut juniors = [0u64; 64];
     let c = check(image, &mut assigned, &mut juniors);
+    if settled(c, &juniors) {
+        return c;
+    }
     judged(c, &mut assigned, &mut juniors)
 }

@@ -7,23 +7,22 @@ ghost use Rattle.model.specs.Image.{scan, start, judgeWords};
 ghost use Rattle.model.specs.Judgement.{judge};
 ghost use Rattle.model.specs.Policy.{policyOf};
 ghost use Rattle.sets.specs.Words.{values};
-ghost use Rattle.tables.specs.Tables.{Closing, Fresh, Gathered, Read, Tables};
+ghost use Rattle.tables.specs.Tables.{Fresh, Gathered, Read, Tables};
 use hierarchy_judged::loops::judged;
+use hierarchy_judged::loops::settled;
 use image::check::fresh;
 use image::check::next;
+use image::ending::closing;
+use image::front::front_fault;
 use image_usual::usual::Run;
 use image_usual::usual::members;
 use image_words::word::decode;
 use image_words::word::head_of;
-use image_words::word::head_right;
 use model::Checked;
 use model::Head;
-use model::layout;
-use model::refusals;
 use tables_exclusions::exclusions::exclusions_at;
 use tables_usual::usual::pass;
 use tables_words::take::Placed;
-use tables_words::take::end_fault;
 use tables_words::take::step;
 
 // What a pass over an image answers: the judgement and, of an accepted image, the number of exclusions.
@@ -40,23 +39,6 @@ fn refused(number: u8, place: u16) -> Reading
         checked: Checked::Refused(number, place),
         count: 0,
     }
-}
-
-// The last word, where so many members are due, and the sum of all words; `sum` is that of the words before it.
-fn closing(image: &[u8], words: usize, h: Head, due: u32, sum: u32) -> Checked
-    requires { ⌜ (4 * words ≤ length (now image)) × (1 ≤ words) × (words ≤ 4096) ⌝ }
-    ensures { λ r. ⌜ Closing (now (image .entry)) h words due sum r ⌝ }
-{
-    let end = words - 1;
-    let w = octets::word_at(image, end);
-    let number = end_fault(due, decode(w));
-    if number != 0 {
-        return Checked::Refused(number, end as u16);
-    }
-    if std::num::wrapping_add_u32(sum, w) % layout::KIND_UNIT != 0 {
-        return Checked::Refused(refusals::BALANCE, end as u16);
-    }
-    Checked::Accepted(h)
 }
 
 // Judges the words behind a right head, and fills the tables; `first` is the head's word.
@@ -148,21 +130,12 @@ fn gather(
         → Read (policyOf (now (image .entry))) (now (assigned .exit)) (values (now (granted .exit))) (now (juniors .exit)) (now (limits .exit))
         (now (xs .exit)) (r .count)) ⌝ }
 {
-    let len = image.len();
-    if len % layout::WORD_BYTES != 0 {
-        return refused(refusals::LENGTH, 0);
-    }
-    if len < layout::LEAST_BYTES {
-        return refused(refusals::LENGTH, 0);
-    }
-    if layout::MOST_BYTES < len {
-        return refused(refusals::LENGTH, 0);
+    let number = front_fault(image);
+    if number != 0 {
+        return refused(number, 0);
     }
     let w = octets::word_at(image, 0);
-    if head_right(w) {
-        return read_words(image, head_of(w), w, assigned, granted, juniors, limits, xs);
-    }
-    refused(refusals::HEAD, 0)
+    read_words(image, head_of(w), w, assigned, granted, juniors, limits, xs)
 }
 
 // Judges an image and, where it is accepted, leaves in the tables the roles that each user may activate, the
@@ -183,6 +156,9 @@ pub fn read(
 {
     let all = gather(image, authorized, granted, below, limits, xs);
     let c = all.checked;
+    if settled(c, below) {
+        return all;
+    }
     let checked = judged(c, authorized, below);
     Reading {
         checked,
@@ -208,6 +184,9 @@ pub fn read_direct(
 {
     let all = gather(image, assigned, granted, juniors, limits, xs);
     let c = all.checked;
+    if settled(c, juniors) {
+        return all;
+    }
     let mut own = *assigned;
     let mut below = *juniors;
     let checked = judged(c, &mut own, &mut below);

@@ -3,10 +3,14 @@
 -- Assumes nothing.
 use mathlib.Core.List.{List, map}
 use Prim.Native.Nat.{ℕ}
-use lib.ListN.{getD}
+use lib.ListN.{getD, replicate}
 use Rattle.model.specs.Tests.{pick}
 use Rattle.model.specs.Sets.{has, unionAt}
 use Rattle.model.specs.Policy.{tableOf, withSelves}
+
+-- a table of 64 empty rows of four numbers
+abbrev pub blank : List (List ℕ)
+blank = replicate 64 (replicate 4 0)
 
 -- row r, of a role r of `wanted`: the permissions that role r carries, by the closed table of juniors
 unfoldable pub carriedRows : List ℕ → List ℕ → ℕ → List ℕ

@@ -2,22 +2,36 @@
 ghost use mathlib.Core.Path.{_≡_};
 ghost use Rattle.model.specs.Sets.{unionAt};
 ghost use Rattle.sets.specs.Words.{value, values};
-ghost use Rattle.tables_rows.specs.Carried.{carriedRows, carriedOf};
+ghost use Rattle.tables_rows.specs.Carried.{blank, carriedRows, carriedOf};
 use hierarchy::reach::reach;
 use hierarchy::reach::reached_by;
 
-// What each role of `wanted` carries: the permissions granted to the roles that it reaches by the closed table.
-pub fn carried(granted: &[[u64; 4]; 64], below: &[u64; 64], wanted: u64) -> [[u64; 4]; 64]
-    ensures { λ t. ⌜ values t ≡ carriedRows (values (now (granted .entry))) (now (below .entry)) wanted ⌝ }
+// What each role of `wanted` carries goes into its row of an empty table: the permissions granted to the roles that it
+// reaches by the closed table.
+pub fn fill_carried(
+    granted: &[[u64; 4]; 64],
+    below: &[u64; 64],
+    wanted: u64,
+    out: &mut [[u64; 4]; 64],
+)
+    requires { ⌜ now out ≡ blank ⌝ }
+    ensures { λ _. ⌜ values (now (out .exit)) ≡ carriedRows (values (now (granted .entry))) (now (below .entry)) wanted ⌝ }
 {
     let mut left = wanted;
-    let mut out = [[0u64; 4]; 64];
     while left != 0 {
         let r = sets::lowest(left);
         let row = sets::perm_union_at(granted, reach(below, r));
         out[r.0 as usize] = row;
         left = sets::without(left, r);
     }
+}
+
+// The table of what each role of `wanted` carries.
+pub fn carried(granted: &[[u64; 4]; 64], below: &[u64; 64], wanted: u64) -> [[u64; 4]; 64]
+    ensures { λ t. ⌜ values t ≡ carriedRows (values (now (granted .entry))) (now (below .entry)) wanted ⌝ }
+{
+    let mut out = [[0u64; 4]; 64];
+    fill_carried(granted, below, wanted, &mut out);
     out
 }
 

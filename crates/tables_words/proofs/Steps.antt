@@ -1,7 +1,7 @@
 -- One word judged and taken into the tables.
 -- Assumes nothing.
-use mathlib.Core.Path.{_≡_, refl, sym, ap, _∙_}
-use mathlib.Core.Bool.{Bool, true, false, false≢true}
+use mathlib.Core.Path.{_≡_, sym, ap, _∙_}
+use mathlib.Core.Bool.{Bool, true, false}
 use mathlib.Core.List.{List}
 use Prim.Native.Nat.{ℕ}
 use native.Mathlib.Omega.{arith}
@@ -9,9 +9,7 @@ use Rattle.model.specs.declared.Head.{Head}
 use Rattle.model.specs.declared.Scan.{Scan}
 use Rattle.model.specs.declared.Word.{Word}
 use Rattle.model.specs.declared.Entry.{Entry}
-use Rattle.model.specs.declared.Entry.the-variants.{Assignment, Grant, Senior, Exclude, Member, Limit, End, Unknown}
-use Rattle.model.specs.Tests.{pick}
-use Rattle.model.specs.Image.{wrongKind, inRange, repeats, crowds, entryFault, sparing, fault, assigning}
+use Rattle.model.specs.Image.{wrongKind, entryFault, sparing, assigning}
 use Rattle.model.specs.Policy.{granting, ordering, limiting}
 use Rattle.image.proofs.Turns.{right-kind, wrong-kind}
 use Rattle.tables_words.specs.Step.{noting, Step}
@@ -44,25 +42,3 @@ mistook {h} {t} {final} {place} {w} {a₀} k ek y =
       limits-is = λ z. absurd (omega arith);
       places-is = λ z. absurd (omega arith);
     }
-
--- ---- the last word
-
--- it is the end, where its kind is right
-pub end-of : (due : ℕ) (e : Entry) → wrongKind true due e ≡ false → e ≡ End
-unfolding wrongKind
-end-of due (Assignment u r) k = absurd (false≢true (sym k))
-end-of due (Grant r p) k = absurd (false≢true (sym k))
-end-of due (Senior a b) k = absurd (false≢true (sym k))
-end-of due (Exclude x m) k = absurd (false≢true (sym k))
-end-of due (Member r) k = absurd (false≢true (sym k))
-end-of due (Limit r t) k = absurd (false≢true (sym k))
-end-of due End k = refl
-end-of due Unknown k = absurd (false≢true (sym k))
-
-module _ (h : Head) (rows : List ℕ) (t : Scan) (w : Word) (due : ℕ) (ed : t .due ≡ due) where
-  pub end-wrong : wrongKind true due (w .entry) ≡ true → 3 ≡ fault h rows t true w
-  end-wrong k = wrong-kind h rows t true w (ap (λ (x : ℕ). wrongKind true x (w .entry)) ed ∙ k)
-
-  pub end-right : (n : ℕ) → wrongKind true due (w .entry) ≡ false → n ≡ sparing (w .spare) 0 → n ≡ fault h rows t true w
-  unfolding entryFault inRange repeats crowds pick
-  end-right n k e = right-kind h rows t true w n End (end-of due (w .entry) k) (ap (λ (x : ℕ). wrongKind true x (w .entry)) ed ∙ k) e

@@ -1,10 +1,9 @@
 // A word judged and, where it has no fault, taken into the tables.
 ghost use mathlib.Core.Path.{_≡_};
-ghost use mathlib.Core.Bool.{true, false};
+ghost use mathlib.Core.Bool.{false};
 ghost use mathlib.Core.List.{List};
 ghost use Prim.Native.Nat.{ℕ, _<_};
-ghost use Rattle.model.specs.declared.Head.{Head as HeadOf};
-ghost use Rattle.model.specs.Image.{sparing, entryFault, fault};
+ghost use Rattle.model.specs.Image.{sparing, entryFault};
 ghost use Rattle.model.specs.Policy.{granting, lesser as lesserOf, limiting};
 ghost use Rattle.sets.specs.Words.{values};
 ghost use Rattle.image_words.specs.Bounds.{Small};
@@ -127,15 +126,4 @@ pub fn step(
         Entry::End => spared(spare, 0),
         Entry::Unknown => spared(spare, 0),
     }
-}
-
-// The last word, where so many members are due: it is the end, or is refused.
-pub fn end_fault(due: u32, w: Word) -> u8
-    ensures { λ n. ⌜ ((h : HeadOf) (rows : List ℕ) (t : Scan) → t .due ≡ due → n ≡ fault h rows t true w) × (n ≡ 0 → w .entry ≡ Entry.End) ⌝ }
-{
-    let e = w.entry;
-    if wrong_kind(true, due, e) {
-        return refusals::KIND;
-    }
-    spared(w.spare, 0)
 }

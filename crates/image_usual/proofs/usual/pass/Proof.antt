@@ -16,13 +16,13 @@ abbrev μ-loop : tie.MeasureT-loop
 μ-loop image words h due assigned₀ juniors₀ end place₀ total₀ assigned juniors place total = words - place
 
 returns : tie.Need-returns Inv-loop μ-loop
-returns c = passed-none (c .before .before .pre .3)
+returns c = passed-none
 
 returns-2 : tie.Need-returns-2 Inv-loop μ-loop
-returns-2 c = passed-none (c .before .before .before .before .pre .3)
+returns-2 c = passed-none
 
 loop-holds : tie.Need-loop-holds Inv-loop μ-loop
-loop-holds c = passed-none (c .before .before .before .before .pre .3)
+loop-holds c = passed-none
 
 returns-3 : tie.Need-returns-3 Inv-loop μ-loop
 returns-3 c =
@@ -31,7 +31,7 @@ returns-3 c =
     passed-then (l .loop .inv) (l .before .before .before .if1 .left) (g .ahead .ensures)
 
 loop-less : tie.Need-loop-less Inv-loop μ-loop
-loop-less c = let k = c .before .before .ahead .ensures in omega (arith, k .onward, k .inside, c .if3 .left)
+loop-less c = let k = c .before .before .ahead .ensures in omega (arith, k .onward, c .if3 .left)
 
 loop-again : tie.Need-loop-again Inv-loop μ-loop
 loop-again c =

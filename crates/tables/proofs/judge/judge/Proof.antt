@@ -10,11 +10,20 @@ check-requires : tie.Need-check-requires
 unfolding emptyRows
 check-requires c κs = (refl, refl)
 
-judged-requires : tie.Need-judged-requires
-judged-requires c κs = let k = c .before .before .check .ensures in words-fit _ _ (k .0) _ _ (k .1)
+settled-requires : tie.Need-settled-requires
+settled-requires c κs = let k = c .before .check .ensures in λ h e. words-fit _ _ (k .0) _ _ (k .1) h e .roles
 
 returns : tie.Need-returns
-returns c = let k = c .before .before .before .check .ensures in read-judged _ _ (k .0) _ _ (k .1) _ _ _ (c .judged .ensures)
+returns c =
+    let s = c .before in
+    let k = s .before .before .check .ensures in
+    read-judged _ _ (k .0) _ _ (k .1) _ _ _ (λ p q. s .settled .ensures (c .if1 .taken) p _ (words-fit _ _ (k .0) _ _ (k .1)) q)
+
+judged-requires : tie.Need-judged-requires
+judged-requires c κs = let k = c .before .before .before .before .before .check .ensures in words-fit _ _ (k .0) _ _ (k .1)
+
+returns-2 : tie.Need-returns-2
+returns-2 c = let k = c .before .before .before .before .before .before .check .ensures in read-judged _ _ (k .0) _ _ (k .1) _ _ _ (c .judged .ensures)
 
 pub judge-spec : {M : Type 1} → statement M
-judge-spec = tie.close (tie.spec check-requires judged-requires returns)
+judge-spec = tie.close (tie.spec check-requires settled-requires returns judged-requires returns-2)

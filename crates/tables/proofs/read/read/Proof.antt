@@ -5,18 +5,33 @@ use Rattle.tables.proofs.Fills.{words-fit, read-judged, tables-judged}
 use Rattle.tables.proofs.read.read.Statement.{statement}
 use Rattle.tables.proofs.read.read.Tie as tie
 
-judged-requires : tie.Need-judged-requires
-judged-requires c κs =
-    let g = c .before .before .gather .ensures in
-    words-fit _ _ (g .0) _ _ (λ h e. (g .1 h e .assigned-is, g .1 h e .juniors-is))
+settled-requires : tie.Need-settled-requires
+settled-requires c κs =
+    let g = c .before .gather .ensures in
+    λ h e. words-fit _ _ (g .0) _ _ (λ h e. (g .1 h e .assigned-is, g .1 h e .juniors-is)) h e .roles
 
 returns : tie.Need-returns
 returns c =
-    let g = c .before .before .before .gather .ensures in
+    let s = c .before in
+    let g = s .before .before .gather .ensures in
+    let fit = words-fit _ _ (g .0) _ _ (λ h e. (g .1 h e .assigned-is, g .1 h e .juniors-is)) in
+    let k = s .settled .ensures (c .if1 .taken) in (
+      read-judged _ _ (g .0) _ _ (λ h e. (g .1 h e .assigned-is, g .1 h e .juniors-is)) _ _ _ (λ p q. k p _ fit q),
+      tables-judged _ _ (g .0) _ _ (λ h e. (g .1 h e .assigned-is, g .1 h e .juniors-is)) _ _ _ (λ p q. k p _ fit q) _ _ _ _ (g .1),
+    )
+
+judged-requires : tie.Need-judged-requires
+judged-requires c κs =
+    let g = c .before .before .before .before .before .gather .ensures in
+    words-fit _ _ (g .0) _ _ (λ h e. (g .1 h e .assigned-is, g .1 h e .juniors-is))
+
+returns-2 : tie.Need-returns-2
+returns-2 c =
+    let g = c .before .before .before .before .before .before .gather .ensures in
     let j = c .judged .ensures in (
       read-judged _ _ (g .0) _ _ (λ h e. (g .1 h e .assigned-is, g .1 h e .juniors-is)) _ _ _ j,
       tables-judged _ _ (g .0) _ _ (λ h e. (g .1 h e .assigned-is, g .1 h e .juniors-is)) _ _ _ j _ _ _ _ (g .1),
     )
 
 pub read-spec : {M : Type 1} → statement M
-read-spec = tie.close (tie.spec (λ c κs. search needs) judged-requires returns)
+read-spec = tie.close (tie.spec (λ c κs. search needs) settled-requires returns judged-requires returns-2)

@@ -18,7 +18,8 @@ use Rattle.image_words.proofs.Scans.{before-last, stops, goes}
 use Rattle.image_usual.specs.Usual.{placesFrom}
 use Rattle.image.proofs.Turns.{due-of}
 use Rattle.tables.proofs.Places.{exclusions-placed, places-next, length-noted, noted-below, none-noted, next-few}
-use Rattle.tables.proofs.Last.{last-scan, last-entry, fold-last, places-last}
+use Rattle.image.proofs.Last.{last-scan, last-entry, fold-last}
+use Rattle.tables.proofs.Last.{places-last}
 use Rattle.tables.proofs.read.read_words.Statement.{statement}
 use Rattle.tables.proofs.read.read_words.Tie as tie
 

@@ -32,7 +32,7 @@ returns-3 c =
     filled-then (l .loop .inv) (l .before .before .before .if1 .left) (g .ahead .ensures)
 
 loop-less : tie.Need-loop-less Inv-loop μ-loop
-loop-less c = let k = c .before .before .ahead .ensures in omega (arith, k .passed .onward, k .passed .inside, c .if3 .left)
+loop-less c = let k = c .before .before .ahead .ensures in omega (arith, k .passed .onward, c .if3 .left)
 
 loop-again : tie.Need-loop-again Inv-loop μ-loop
 loop-again c =

@@ -1,5 +1,5 @@
--- `tables_rows::carried::carried` meets its contract. The loop's invariant: the rows of the roles before those to come
--- are made.
+-- `tables_rows::carried::fill_carried` meets its contract. The loop's invariant: the rows of the roles before those to
+-- come are made.
 -- Assumes nothing.
 use mathlib.Core.Path.{ap, _∙_}
 use borrow.Author.Needs.{needs}
@@ -7,17 +7,17 @@ use Rattle.model.specs.Sets.{count, unionAt}
 use Rattle.model.specs.Policy.{withSelves}
 use Rattle.sets.specs.Words.{values}
 use Rattle.tables_rows.proofs.Carrying.{Made, made-start, made-next, made-less, made-all}
-use Rattle.tables_rows.proofs.carried.carried.Statement.{statement}
-use Rattle.tables_rows.proofs.carried.carried.Tie as tie
+use Rattle.tables_rows.proofs.carried.fill_carried.Statement.{statement}
+use Rattle.tables_rows.proofs.carried.fill_carried.Tie as tie
 
 abbrev Inv-loop : tie.InvT-loop
-Inv-loop granted below wanted left₀ out₀ left out = Made (values granted) (withSelves below) wanted left out
+Inv-loop granted below wanted out₀ left₀ out left = Made (values granted) (withSelves below) wanted left out
 
 abbrev μ-loop : tie.MeasureT-loop
-μ-loop granted below wanted left₀ out₀ left out = count 64 left
+μ-loop granted below wanted out₀ left₀ out left = count 64 left
 
 loop-holds : tie.Need-loop-holds Inv-loop μ-loop
-loop-holds c = made-start _ _ _ (c .fits .wanted .fits)
+loop-holds c = rw (c .pre) (made-start _ _ _ (c .fits .wanted .fits))
 
 loop-less : tie.Need-loop-less Inv-loop μ-loop
 loop-less c = search (needs, made-less)
@@ -33,8 +33,8 @@ loop-again c =
 returns : tie.Need-returns Inv-loop μ-loop
 returns c = search (needs, made-all)
 
-pub carried-spec : {M : Type 1} → statement M
-carried-spec =
+pub fill-carried-spec : {M : Type 1} → statement M
+fill-carried-spec =
     tie.close
     (tie.spec Inv-loop μ-loop loop-holds (λ c κs. search needs) (λ c κs. search needs) (λ c κs. search needs) (λ c. search needs) (λ c. search needs)
     (λ c. search needs) (λ c κs. search needs) loop-less loop-again returns)

@@ -1,11 +1,11 @@
--- `tables_words::take::end_fault` meets its contract.
+-- `image::ending::end_fault` meets its contract.
 -- Assumes nothing.
 use mathlib.Core.Path.{sym, _∙_}
 use native.Mathlib.Omega.{arith}
 use borrow.Author.Needs.{needs}
-use Rattle.tables_words.proofs.Steps.{end-of, end-wrong, end-right}
-use Rattle.tables_words.proofs.take.end_fault.Statement.{statement}
-use Rattle.tables_words.proofs.take.end_fault.Tie as tie
+use Rattle.image.proofs.Last.{end-of, end-wrong, end-right}
+use Rattle.image.proofs.ending.end_fault.Statement.{statement}
+use Rattle.image.proofs.ending.end_fault.Tie as tie
 
 returns : tie.Need-returns
 returns c =

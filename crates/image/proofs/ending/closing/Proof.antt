@@ -1,4 +1,4 @@
--- `tables::read::closing` meets its contract.
+-- `image::ending::closing` meets its contract.
 -- Assumes nothing.
 use mathlib.Core.Path.{_≡_, sym, ap, _∙_}
 use Prim.Native.Nat.{ℕ, _+_, _-_, _≤_}
@@ -8,9 +8,9 @@ use Rattle.model.specs.declared.Word.{Word}
 use Rattle.model.specs.Image.{decode}
 use Rattle.model.specs.Policy.{entryAt}
 use Rattle.model_laws.proofs.Accepted.{not-accepted}
-use Rattle.tables.proofs.Last.{last-stops, last-right, last-wrong}
-use Rattle.tables.proofs.read.closing.Statement.{statement}
-use Rattle.tables.proofs.read.closing.Tie as tie
+use Rattle.image.proofs.Last.{last-stops, last-right, last-wrong}
+use Rattle.image.proofs.ending.closing.Statement.{statement}
+use Rattle.image.proofs.ending.closing.Tie as tie
 
 last : (n : ℕ) → 1 ≤ n → n - 1 + 1 ≡ n
 last n l = omega arith
