@@ -2,6 +2,7 @@
 -- Assumes nothing.
 use mathlib.Core.Path.{_≡_, refl, sym, ap, ap₂, subst, _∙_}
 use mathlib.Core.Bool.{Bool, true, false}
+use mathlib.Core.Option.{Option, none as unfound, some}
 use mathlib.Core.List.{List}
 use Prim.Native.Nat.{ℕ, zero, suc, _≤_, _<_}
 use native.Mathlib.Decide.{decLt}
@@ -12,7 +13,7 @@ use borrow.Author.Tests.{lt-ltb, le-ltb}
 use Rattle.model.specs.declared.Head.{Head}
 use Rattle.model.specs.declared.Checked.{Checked}
 use Rattle.model.specs.declared.Checked.the-variants.{Accepted, Refused}
-use Rattle.model.specs.Tests.{lowest}
+use Rattle.model.specs.Tests.{lowest, ifBelow}
 use Rattle.model.specs.Sets.{has}
 use Rattle.model.specs.Policy.{Policy, belowTable, reached, authorized, closureBy}
 use Rattle.model.specs.Judgement.{lowestOnLoop, lowestOverReach, refusing, judgeMeaning}
@@ -31,7 +32,7 @@ onLoop below roles = lowest (λ a. has (getD below a 0) a) 0 roles
 
 -- the order of the tests: a role on a loop, then a user with more than 16 roles
 abbrev verdict : Bool → Bool → ℕ → ℕ → Checked → Checked
-verdict a b r u v = elim a [ true ↦ Refused 22 r | false ↦ elim b [ true ↦ Refused 23 u | false ↦ v ] ]
+verdict a b r u v = refusing 22 (elim a [ true ↦ some r | false ↦ unfound ]) (refusing 23 (elim b [ true ↦ some u | false ↦ unfound ]) v)
 
 -- a table whose first n rows are empty is closed as it is
 flat-closed : (n : ℕ) (rows : List ℕ) → ((r : ℕ) → r < n → getD rows r 0 ≡ 0) → rows ≡ closureBy n rows
@@ -58,15 +59,15 @@ module _ (p : Policy) (h : Head) (juniors below : List ℕ) (eh : p .head ≡ h)
   closed-is = eb ∙ ap₂ (λ (x : Head) (l : List ℕ). closureBy (x .roles) l) (sym eh) ej
 
   -- and so is the lowest role on a loop
-  pub on-loop : onLoop below (h .roles) ≡ lowestOnLoop p
+  pub on-loop : ifBelow (h .roles) (onLoop below (h .roles)) ≡ lowestOnLoop p
   unfolding lowestOnLoop
-  on-loop = ap₂ (λ (l : List ℕ) (x : Head). lowest (λ a. has (getD l a 0) a) 0 (x .roles)) closed-is (sym eh)
+  on-loop = ap₂ (λ (l : List ℕ) (x : Head). ifBelow (x .roles) (lowest (λ a. has (getD l a 0) a) 0 (x .roles))) closed-is (sym eh)
 
 module _ (p : Policy) (h : Head) (assigned juniors below : List ℕ) (g : Gives p h assigned juniors) (eb : below ≡ closureBy (h .roles) juniors) where
   table-is : below ≡ belowTable p
   table-is = closed-is p h juniors below (g .head-is) (g .juniors-is) eb
 
-  loop-is : onLoop below (h .roles) ≡ lowestOnLoop p
+  loop-is : ifBelow (h .roles) (onLoop below (h .roles)) ≡ lowestOnLoop p
   loop-is = on-loop p h juniors below (g .head-is) (g .juniors-is) eb
 
   -- what a user reaches is what the user may activate
@@ -75,39 +76,40 @@ module _ (p : Policy) (h : Head) (assigned juniors below : List ℕ) (g : Gives 
   reach-is u = ap₂ (λ (l a : List ℕ). reachAt l a u) table-is (g .assigned-is)
 
   -- so the lowest user who reaches more than 16 roles is the lowest who may activate so many
-  over-reach : lowest (wideAt below assigned) 0 (h .users) ≡ lowestOverReach p
+  over-reach : ifBelow (h .users) (lowest (wideAt below assigned) 0 (h .users)) ≡ lowestOverReach p
   unfolding lowestOverReach authorized reached
   over-reach =
-      ap₂ (λ (l a : List ℕ). lowest (wideAt l a) 0 (h .users)) table-is (g .assigned-is)
-      ∙ ap (λ (x : Head). lowest (wideAt (belowTable p) (p .assigned)) 0 (x .users)) (sym (g .head-is))
+      ap₂ (λ (l a : List ℕ). ifBelow (h .users) (lowest (wideAt l a) 0 (h .users))) table-is (g .assigned-is)
+      ∙ ap (λ (x : Head). ifBelow (x .users) (lowest (wideAt (belowTable p) (p .assigned)) 0 (x .users))) (sym (g .head-is))
 
   module _ (c : Checked) (ec : c ≡ Accepted h) where
     -- by the two tests
-    judging : (r u : ℕ) (a b : Bool) → r ≡ lowestOnLoop p → u ≡ lowestOverReach p → ltb r (h .roles) ≡ a → ltb u (h .users) ≡ b
-        → verdict a b r u (Accepted h) ≡ judgeMeaning p c
-    unfolding judgeMeaning refusing
+    judging : (r u : ℕ) (a b : Bool) → r ≡ onLoop below (h .roles) → u ≡ lowest (wideAt below assigned) 0 (h .users) → ltb r (h .roles) ≡ a
+        → ltb u (h .users) ≡ b → verdict a b r u (Accepted h) ≡ judgeMeaning p c
+    unfolding judgeMeaning ifBelow
     judging r u a b er eu ea eb =
         ap₂ (λ (x y : Bool). verdict x y r u (Accepted h)) (sym ea) (sym eb)
-        ∙ ap (λ (x : Head). refusing 22 r (x .roles) (refusing 23 u (x .users) (Accepted h))) (sym (g .head-is))
-        ∙ ap₂ (λ (x y : ℕ). refusing 22 x (p .head .roles) (refusing 23 y (p .head .users) (Accepted h))) er eu
+        ∙ ap₂ (λ (x y : Option ℕ). refusing 22 x (refusing 23 y (Accepted h))) (ap (ifBelow (h .roles)) er ∙ loop-is) (ap (ifBelow (h .users)) eu ∙ over-reach)
         ∙ sym (ap (judgeMeaning p) ec)
 
     module _ (r : ℕ) (er : r ≡ onLoop below (h .roles)) where
       -- 22 where some role is on a loop
       pub judged-loop : (own : List ℕ) → r < h .roles → Judged p c (Refused 22 r) own below
+      unfolding refusing
       judged-loop own l =
           record {
-            verdict = judging r (lowestOverReach p) true _ (er ∙ loop-is) refl (lt-ltb r (h .roles) l) refl;
+            verdict = judging r (lowest (wideAt below assigned) 0 (h .users)) true _ er refl (lt-ltb r (h .roles) l) refl;
             below-is = λ k q. not-accepted 22 r k q;
             own-is = λ k q. not-accepted 22 r k q;
           }
 
       module _ (l : h .roles ≤ r) (u : ℕ) (own : List ℕ) (w : Authorizes below (h .users) assigned u own) where
         judged-by : (b : Bool) → ltb u (h .users) ≡ b → verdict false b r u (Accepted h) ≡ judgeMeaning p c
-        judged-by b e = judging r u false b (er ∙ loop-is) (w .lowest-is ∙ over-reach) (le-ltb r (h .roles) l) e
+        judged-by b e = judging r u false b er (w .lowest-is) (le-ltb r (h .roles) l) e
 
         -- 23 where some user may activate more than 16 roles
         pub judged-reach : u < h .users → Judged p c (Refused 23 u) own below
+        unfolding refusing
         judged-reach k =
             record {
               verdict = judged-by true (lt-ltb u (h .users) k);
@@ -117,6 +119,7 @@ module _ (p : Policy) (h : Head) (assigned juniors below : List ℕ) (g : Gives 
 
         -- else the image is accepted
         pub judged-ordered : h .users ≤ u → Judged p c (Accepted h) own below
+        unfolding refusing
         judged-ordered k =
             record {
               verdict = judged-by false (le-ltb u (h .users) k);

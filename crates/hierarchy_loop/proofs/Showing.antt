@@ -2,12 +2,14 @@
 -- Assumes nothing.
 use mathlib.Core.Path.{_≡_, refl, sym, ap, ap₂, subst, _∙_}
 use mathlib.Core.Bool.{Bool, true, false}
+use mathlib.Core.Option.{none, some}
 use mathlib.Core.List.{List, _++_}
 use Prim.Native.Nat.{ℕ, _+_, _-_, _*_, _≤_, _<_}
 use native.Mathlib.Omega.{arith}
 use lib.Dec.{ltb}
 use lib.ListN.{length, getD, replicate, length-append}
 use borrow.Author.Tests.{eq-eqb, ne-eqb, lt-ltb, le-ltb}
+use Rattle.model.specs.Tests.{ifBelow}
 use Rattle.model.specs.Sets.{has}
 use Rattle.model.specs.Policy.{Policy, closureBy}
 use Rattle.model.specs.Session.{Reply, refuse}
@@ -48,21 +50,23 @@ module _ (p : Policy) (room : List ℕ) where
   -- ---- by the lowest role on a loop
   module _ (roles r : ℕ) (juniors below : List ℕ) (size : length room ≡ 64) (ej : juniors ≡ p .juniors) (en : p .head .roles ≡ roles)
       (eb : below ≡ closureBy roles juniors) (er : r ≡ onLoop below roles) where
-    lowest-role : r ≡ lowestOnLoop p
+    lowest-role : ifBelow roles r ≡ lowestOnLoop p
     lowest-role =
         let k = on-loop p (p .head) juniors below refl ej (eb ∙ ap (λ (n : ℕ). closureBy n juniors) (sym en)) in
-        er ∙ ap (onLoop below) (sym en) ∙ k
+        ap₂ ifBelow (sym en) (er ∙ ap (onLoop below) (sym en)) ∙ k
 
     -- the reply, by the test
     abbrev tested : Bool → Reply
     tested b = elim b [ true ↦ shownChain (chainDown juniors r r (loopLength juniors r)) | false ↦ refuse 20 0 ]
 
-    reply : loopOn p (length room) ≡ tested (ltb r roles)
+    by-test : (b : Bool) → loopFrom p (elim b [ true ↦ some r | false ↦ none ]) ≡ tested b
     unfolding loopFrom
-    reply =
-        loop-on size
-        ∙ ap (loopFrom p) (sym lowest-role)
-        ∙ ap₂ (λ (n : ℕ) (l : List ℕ). elim (ltb r n) [ true ↦ shownChain (chainDown l r r (loopLength l r)) | false ↦ refuse 20 0 ]) en (sym ej)
+    by-test true = ap (λ (l : List ℕ). shownChain (chainDown l r r (loopLength l r))) (sym ej)
+    by-test false = refl
+
+    reply : loopOn p (length room) ≡ tested (ltb r roles)
+    unfolding ifBelow
+    reply = loop-on size ∙ ap (loopFrom p) (sym lowest-role) ∙ by-test (ltb r roles)
 
     -- 20
     pub shows-20 : roles ≤ r → Replies (loopOn p (length room)) 20 room room
@@ -73,10 +77,10 @@ module _ (p : Policy) (room : List ℕ) where
 
     -- the chain of a policy in range fits
     pub chain-fits : InRange p → r < roles → (1 ≤ loopLength juniors r) × (loopLength juniors r ≤ 64)
+    unfolding ifBelow
     chain-fits range l =
-        let k = lowest-role in
-        let h = loop-fits p range (lowestOnLoop p) (lowest-loop p range (omega (arith, k, en)) .loop) in
-        subst (λ (n : ℕ). (1 ≤ n) × (n ≤ 64)) (ap₂ loopLength (sym ej) (sym k)) h
+        let k = sym lowest-role ∙ ap (λ (b : Bool). elim b [ true ↦ some r | false ↦ none ]) (lt-ltb r roles l) in
+        subst (λ (n : ℕ). (1 ≤ n) × (n ≤ 64)) (ap (λ (j : List ℕ). loopLength j r) (sym ej)) (loop-fits p range r (lowest-loop p range r k .loop))
 
     -- and is shown
     pub shows-chain : InRange p → (n : ℕ) (bytes : List ℕ) → r < roles → n ≡ loopLength juniors r

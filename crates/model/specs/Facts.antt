@@ -191,12 +191,12 @@ unfolding computing
 kept-once = refl
 
 -- role 0 stands over the loop of the roles 1 and 2
-pub loop-role : lowestOnLoop (policy [] (2 ∷ 4 ∷ 2 ∷ [])) ≡ 1
+pub loop-role : lowestOnLoop (policy [] (2 ∷ 4 ∷ 2 ∷ [])) ≡ some 1
 unfolding computing
 loop-role = refl
 
 -- both users have 17 roles
-pub over-reach : lowestOverReach (policy ((2 ^ 17 - 1) ∷ (2 ^ 17 - 1) ∷ []) []) ≡ 0
+pub over-reach : lowestOverReach (policy ((2 ^ 17 - 1) ∷ (2 ^ 17 - 1) ∷ []) []) ≡ some 0
 unfolding computing
 over-reach = refl
 
@@ -230,7 +230,7 @@ pub lowest-role-on : chainDown (6 ∷ 1 ∷ 1 ∷ []) 0 0 2 ≡ (1 ∷ 0 ∷ [])
 unfolding computing
 lowest-role-on = refl
 
-pub role-last : loopFrom (policy [] (2 ∷ 1 ∷ 0 ∷ [])) 0 ≡ shownChain (1 ∷ 0 ∷ [])
+pub role-last : loopFrom (policy [] (2 ∷ 1 ∷ 0 ∷ [])) (some 0) ≡ shownChain (1 ∷ 0 ∷ [])
 unfolding computing
 role-last = refl
 

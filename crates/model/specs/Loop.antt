@@ -2,9 +2,10 @@
 -- back to it.
 -- Assumes nothing.
 use mathlib.Core.Bool.{true, false}
+use mathlib.Core.Option.{Option, none, some}
 use mathlib.Core.List.{List, [], _∷_, _++_}
 use Prim.Native.Nat.{ℕ, zero, suc, _-_, _^_}
-use lib.Dec.{eqb, ltb}
+use lib.Dec.{eqb}
 use lib.ListN.{getD, length, replicate}
 use Rattle.model.specs.declared.Checked.{Checked}
 use Rattle.model.specs.declared.Checked.the-variants.{Accepted, Refused}
@@ -45,8 +46,9 @@ unfoldable pub shownChain : List ℕ → Reply
 shownChain bs = record { number = 0; extra = length bs; filled = bs ++ replicate (64 - length bs) 0 }
 
 -- 20 where no role stands below itself
-unfoldable pub loopFrom : Policy → ℕ → Reply
-loopFrom p r = elim (ltb r (p .head .roles)) [ true ↦ shownChain (chainDown (p .juniors) r r (loopLength (p .juniors) r)) | false ↦ refuse 20 0 ]
+unfoldable pub loopFrom : Policy → Option ℕ → Reply
+loopFrom p (some r) = shownChain (chainDown (p .juniors) r r (loopLength (p .juniors) r))
+loopFrom p none = refuse 20 0
 
 -- 19 where the answer buffer has not 64 bytes
 unfoldable pub loopOn : Policy → ℕ → Reply

@@ -1,14 +1,16 @@
 -- The judgement of an image taken apart: by its words, then by the lowest role on a loop, then by the lowest user with
 -- too many roles.
 -- Assumes nothing.
-use mathlib.Core.Path.{_≡_, refl, sym, ap, _∙_, subst}
+use mathlib.Core.Path.{_≡_, refl, sym, ap, ap₂, _∙_, subst}
+use mathlib.Core.Logic.{_⊎_, inl, inr}
+use mathlib.Core.Option.{Option, none, some}
 use mathlib.Core.List.{List}
 use Prim.Native.Nat.{ℕ, _<_, zero-le}
 use native.Mathlib.Decide.{decLt}
 use native.Mathlib.Omega.{arith}
 use lib.Dec.{ltb}
 use lib.ListN.{getD}
-use borrow.Author.Tests.{ltb-true, ltb-false, le-ltb, lt-ltb}
+use borrow.Author.Tests.{ltb-true, ltb-false}
 use Rattle.model.specs.declared.Head.{Head}
 use Rattle.model.specs.declared.Checked.{Checked}
 use Rattle.model.specs.declared.Checked.the-variants.{Accepted, Refused}
@@ -25,7 +27,7 @@ use Rattle.model_laws.proofs.ImageNumbers.{Numbered, words-numbered}
 use Rattle.model_laws.proofs.Accepted.{words-head, words-in-range}
 use Rattle.model_laws.proofs.Closure.{below, below-is}
 use Rattle.model_laws.proofs.Reaches.{no-user}
-use Rattle.model_laws.proofs.LowestLaws.{lowest-is, lowest-found}
+use Rattle.model_laws.proofs.LowestLaws.{lowest-is, lowest-found, is-below, is-beyond}
 
 -- there is one lowest
 one-loop : {p : Policy} (a b : ℕ) → LowestOnLoop p a → LowestOnLoop p b → a ≡ b
@@ -42,51 +44,56 @@ one-reach a b v w =
       | no l ↦ elim (decLt b a) [ yes m ↦ absurd (w .wide (v .lowest b m)) | no m ↦ omega arith ]
     ]
 
--- a number that bars
-module _ (n x bound : ℕ) (v : Checked) where
-  refused-in : x < bound → refusing n x bound v ≡ Refused n x
-  unfolding refusing
-  refused-in l = rw (lt-ltb x bound l, refusing)
-
-  refused-out : ¬ (x < bound) → refusing n x bound v ≡ v
-  unfolding refusing
-  refused-out l = rw (le-ltb x bound (omega arith), refusing)
-
 -- ---- a policy in range
 module _ (p : Policy) (range : InRange p) where
   -- a role that is found is the lowest on a loop
-  pub lowest-loop : lowestOnLoop p < p .head .roles → LowestOnLoop p (lowestOnLoop p)
+  pub lowest-loop : (r : ℕ) → lowestOnLoop p ≡ some r → LowestOnLoop p r
   unfolding lowestOnLoop
-  lowest-loop l =
+  lowest-loop r e =
+      let x = lowest (λ a. has (getD (belowTable p) a 0) a) 0 (p .head .roles) in
       let w = lowest-is (λ a. has (getD (belowTable p) a 0) a) 0 (p .head .roles) in
-      record {
-        loop = below-is p range (lowestOnLoop p) (lowestOnLoop p) .0 (w .passes (omega arith));
-        lowest = λ a q b. not-both (has (getD (belowTable p) a 0) a) (below-is p range a a .1 b) (w .before a zero-le q);
-      }
+      let (l, q) = is-below (p .head .roles) x r e in
+      subst (LowestOnLoop p) q (record {
+        loop = below-is p range x x .0 (w .passes (omega arith));
+        lowest = λ a k b. not-both (has (getD (belowTable p) a 0) a) (below-is p range a a .1 b) (w .before a zero-le k);
+      })
 
-  -- where one is on a loop one is found
-  pub some-loop : (a : ℕ) → Below p a a → lowestOnLoop p < p .head .roles
+  -- where none is found none is on a loop
+  no-loop : lowestOnLoop p ≡ none → Loopless p
   unfolding lowestOnLoop
-  some-loop a b =
+  no-loop e a b =
+      let x = lowest (λ i. has (getD (belowTable p) i 0) i) 0 (p .head .roles) in
       let k = below p range a (b .junior) (b .word) .0 in
       let f = lowest-found (λ i. has (getD (belowTable p) i 0) i) 0 (p .head .roles) a zero-le (omega arith) (below-is p range a a .1 b) .1 in
-      omega arith
+      omega (arith, is-beyond (p .head .roles) x e)
+
+  -- so one is found, or none is there
+  pub some-or-none : ((r : ℕ) × (lowestOnLoop p ≡ some r) × LowestOnLoop p r) ⊎ ((lowestOnLoop p ≡ none) × Loopless p)
+  some-or-none = go (lowestOnLoop p) refl
+    where
+      go : (o : Option ℕ) → lowestOnLoop p ≡ o → ((r : ℕ) × (lowestOnLoop p ≡ some r) × LowestOnLoop p r) ⊎ ((lowestOnLoop p ≡ none) × Loopless p)
+      go (some r) e = inl (r, e, lowest-loop r e)
+      go none e = inr (e, no-loop e)
 
   -- a user who is found is the lowest with more than 16 roles
-  lowest-reach : lowestOverReach p < p .head .users → LowestOverReach p (lowestOverReach p)
+  lowest-reach : (u : ℕ) → lowestOverReach p ≡ some u → LowestOverReach p u
   unfolding lowestOverReach
-  lowest-reach l =
-      let w = lowest-is (λ u. ltb 16 (count 64 (authorized p u))) 0 (p .head .users) in
-      record {
-        wide = λ f. let q = ltb-true 16 (count 64 (authorized p (lowestOverReach p))) (w .passes (omega arith)) in omega arith;
-        lowest = λ v q. ltb-false 16 (count 64 (authorized p v)) (w .before v zero-le q);
-      }
+  lowest-reach u e =
+      let x = lowest (λ v. ltb 16 (count 64 (authorized p v))) 0 (p .head .users) in
+      let w = lowest-is (λ v. ltb 16 (count 64 (authorized p v))) 0 (p .head .users) in
+      let (l, q) = is-below (p .head .users) x u e in
+      subst (LowestOverReach p) q (record {
+        wide = λ f. let k = ltb-true 16 (count 64 (authorized p x)) (w .passes (omega arith)) in omega arith;
+        lowest = λ v k. ltb-false 16 (count 64 (authorized p v)) (w .before v zero-le k);
+      })
 
   -- where none is found nobody has
-  no-reach : ¬ (lowestOverReach p < p .head .users) → (u : ℕ) → FewRoles p u
+  no-reach : lowestOverReach p ≡ none → (u : ℕ) → FewRoles p u
   unfolding lowestOverReach
-  no-reach n u =
+  no-reach e u =
+      let x = lowest (λ v. ltb 16 (count 64 (authorized p v))) 0 (p .head .users) in
       let w = lowest-is (λ v. ltb 16 (count 64 (authorized p v))) 0 (p .head .users) in
+      let n = is-beyond (p .head .users) x e in
       elim (decLt u (p .head .users)) [
         | yes l ↦ ltb-false 16 (count 64 (authorized p u)) (w .before u zero-le (omega arith))
         | no l ↦ no-user p range u l
@@ -103,24 +110,24 @@ pub data Verdict (s : List ℕ) : Type 0 where
 module _ (s : List ℕ) where
   -- by its meaning, where its words pass
   by-meaning : (h : Head) → judgeWords s ≡ Accepted h → Verdict s
-  unfolding judge judgeMeaning
-  by-meaning h e =
-      let p = policyOf s in
-      let range = words-in-range s h e in
-      let on = ap (judgeMeaning p) e in
-      let further = refusing 23 (lowestOverReach p) (p .head .users) (Accepted h) in
-      elim (decLt (lowestOnLoop p) (p .head .roles)) [
-        | yes l ↦ loops h (lowestOnLoop p) e (lowest-loop p range l) (on ∙ refused-in 22 (lowestOnLoop p) (p .head .roles) further l)
-        | no l ↦
-            let n : Loopless p = λ a b. l (some-loop p range a b) in
-            let out = on ∙ refused-out 22 (lowestOnLoop p) (p .head .roles) further l in
-            elim (decLt (lowestOverReach p) (p .head .users)) [
-              | yes m ↦
-                  reaches h (lowestOverReach p) e n (lowest-reach p range m)
-                  (out ∙ refused-in 23 (lowestOverReach p) (p .head .users) (Accepted h) m)
-              | no m ↦ passes h e n (no-reach p range m) (out ∙ refused-out 23 (lowestOverReach p) (p .head .users) (Accepted h) m)
-            ]
-      ]
+  unfolding judge judgeMeaning refusing
+  by-meaning h e = go (some-or-none p range) (lowestOverReach p) refl
+    where
+      p : Policy
+      p = policyOf s
+
+      range : InRange p
+      range = words-in-range s h e
+
+      on : judge s ≡ refusing 22 (lowestOnLoop p) (refusing 23 (lowestOverReach p) (Accepted h))
+      on = ap (judgeMeaning p) e
+
+      go : ((r : ℕ) × (lowestOnLoop p ≡ some r) × LowestOnLoop p r) ⊎ ((lowestOnLoop p ≡ none) × Loopless p)
+          → (o : Option ℕ) → lowestOverReach p ≡ o → Verdict s
+      go (inl (r, l, w)) o k = loops h r e w (on ∙ ap (λ (x : Option ℕ). refusing 22 x (refusing 23 (lowestOverReach p) (Accepted h))) l)
+      go (inr (l, n)) (some u) k =
+          reaches h u e n (lowest-reach p range u k) (on ∙ ap₂ (λ (x y : Option ℕ). refusing 22 x (refusing 23 y (Accepted h))) l k)
+      go (inr (l, n)) none k = passes h e n (no-reach p range k) (on ∙ ap₂ (λ (x y : Option ℕ). refusing 22 x (refusing 23 y (Accepted h))) l k)
 
   pub verdict : Verdict s
   unfolding judge judgeMeaning

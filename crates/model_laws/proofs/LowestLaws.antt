@@ -13,7 +13,7 @@ use native.Mathlib.Omega.{arith}
 use lib.Dec.{eqb, ltb}
 use lib.Pow.{pow-pos}
 use lib.ListN.{getD}
-use borrow.Author.Tests.{eqb-true, eq-eqb, eqb-false, ne-eqb, ltb-true, lt-ltb, not-true}
+use borrow.Author.Tests.{eqb-true, eq-eqb, eqb-false, ne-eqb, ltb-true, lt-ltb, not-true, ltb-false}
 use Rattle.model.specs.Tests.{pick, lowest, ifBelow, isSome}
 use Rattle.model.specs.Sets.{has, inter, meets, setOf, unionAt, lowestIn}
 use Rattle.model_laws.proofs.Bools.{and-l, and-r, both, or-l, or-r, or-cases, not-both, bool-ext, elim-case}
@@ -79,6 +79,20 @@ pub unnamed-none : (o : Option ℕ) → ¬ (isSome o ≡ true) → o ≡ none
 unfolding isSome
 unnamed-none none n = refl
 unnamed-none (some k) n = absurd (n refl)
+
+-- ---- a number below a bound
+
+module _ (bound x : ℕ) where
+  pub is-below : (n : ℕ) → ifBelow bound x ≡ some n → (x < bound) × (x ≡ n)
+  unfolding ifBelow
+  is-below n =
+      elim-case (λ o. o ≡ some n → (x < bound) × (x ≡ n)) _ _ _ (λ h e. (ltb-true x bound h, Option·some-injective x n e))
+      (λ h q. absurd (Option·none-ne-some n q))
+
+  pub is-beyond : ifBelow bound x ≡ none → bound ≤ x
+  unfolding ifBelow
+  is-beyond =
+      elim-case (λ o. o ≡ none → bound ≤ x) _ _ _ (λ h q. absurd (Option·none-ne-some x (sym q))) (λ h q. ltb-false x bound h)
 
 -- ---- the lowest member of a set that passes a test
 

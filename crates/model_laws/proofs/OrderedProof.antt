@@ -8,7 +8,7 @@ use Prim.Native.Nat.{ℕ, suc, _-_, _≤_, _<_}
 use native.Mathlib.Decide.{decLt, ℕ-discrete}
 use native.Mathlib.Omega.{arith}
 use lib.ListN.{length, replicate, length-append, length-replicate}
-use borrow.Author.Tests.{ne-eqb, lt-ltb, le-ltb}
+use borrow.Author.Tests.{ne-eqb}
 use Rattle.model.specs.declared.Head.{Head}
 use Rattle.model.specs.declared.Checked.{Checked}
 use Rattle.model.specs.declared.Checked.the-variants.{Accepted, Refused}
@@ -22,14 +22,14 @@ use Rattle.model.specs.Loop.{level, loopLength, chainDown, shownChain, loopFrom
 use Rattle.model.specs.Run.{answered}
 use Rattle.model.specs.Chains.{rolesOf, Below}
 use Rattle.model.specs.Ranges.{InRange}
-use Rattle.model.specs.Ordered.{WordsPass, Antisymmetric, ShortestLoop, Shown, LoopCallIs}
+use Rattle.model.specs.Ordered.{WordsPass, Loopless, Antisymmetric, ShortestLoop, Shown, LoopCallIs}
 use Rattle.model_laws.proofs.Bools.{not-both}
 use Rattle.model_laws.proofs.AnswerProof.{filled-length}
 use Rattle.model_laws.proofs.Closure.{join, chain-cases}
 use Rattle.model_laws.proofs.LowestLaws.{lowest-is, lowest-found}
 use Rattle.model_laws.proofs.Levels.{chain-level, down-length, down-chain, down-at, down-lowest, level-first, loop-level}
 use Rattle.model_laws.proofs.Accepted.{words-in-range}
-use Rattle.model_laws.proofs.Judgements.{lowest-loop, some-loop}
+use Rattle.model_laws.proofs.Judgements.{some-or-none}
 
 -- ---- two roles reached from each other are the same, where no role is below itself
 pub antisymmetric : (p : Policy) → ((r : ℕ) → ¬ Below p r r) → Antisymmetric p
@@ -91,24 +91,23 @@ module _ (s : List ℕ) where
   unfolding loopOn
   call-from h e = call-on 64 h e
 
-  shown : WordsPass s → lowestOnLoop (policyOf s) < policyOf s .head .roles → Shown s
+  -- a loop is shown, or there is none
+  pub shown-or-none : (h : Head) → judgeWords s ≡ Accepted h → Shown s ⊎ ((loopCall s 64 ≡ refuse 20 0) × Loopless (policyOf s))
   unfolding loopFrom shownChain
-  shown (h, e) l =
+  shown-or-none h e =
       let p = policyOf s in
-      let r = lowestOnLoop p in
       let range = words-in-range s h e in
-      let w = lowest-loop p range l in
-      record {
-        role = r;
-        bytes = chainDown (p .juniors) r r (loopLength (p .juniors) r);
-        is-lowest = w;
-        is-shortest = shortest-loop p range r (w .loop);
-        answer = call-from h e ∙ rw (lt-ltb r (p .head .roles) l, loopFrom);
-      }
-
-  pub none-shown : (h : Head) → judgeWords s ≡ Accepted h → ¬ (lowestOnLoop (policyOf s) < policyOf s .head .roles) → loopCall s 64 ≡ refuse 20 0
-  unfolding loopFrom
-  none-shown h e l = call-from h e ∙ rw (le-ltb (lowestOnLoop (policyOf s)) (policyOf s .head .roles) (omega arith), loopFrom)
+      elim (some-or-none p range) [
+        | inl (r, l, w) ↦
+            inl (record {
+              role = r;
+              bytes = chainDown (p .juniors) r r (loopLength (p .juniors) r);
+              is-lowest = w;
+              is-shortest = shortest-loop p range r (w .loop);
+              answer = call-from h e ∙ ap (loopFrom p) l;
+            })
+        | inr (l, n) ↦ inr (call-from h e ∙ ap (loopFrom p) l, n)
+      ]
 
   -- in another
   wrong-room : WordsPass s → (room : ℕ) → ¬ (room ≡ 64) → loopCall s room ≡ refuse 19 0
@@ -122,13 +121,12 @@ module _ (s : List ℕ) where
     where
       full : (h : Head) → judgeWords s ≡ Accepted h → (loopCall s 64 .filled ≡ []) ⊎ (length (loopCall s 64 .filled) ≡ 64)
       full h e =
-          elim (decLt (lowestOnLoop (policyOf s)) (policyOf s .head .roles)) [
-            | yes l ↦
-                let w = shown (h, e) l in
+          elim (shown-or-none h e) [
+            | inl w ↦
                 inr
                 (ap (λ (x : Reply). length (x .filled)) (w .answer) ∙ length-append (w .bytes) (replicate (64 - length (w .bytes)) 0)
                 ∙ omega (arith, length-replicate {A = ℕ} (64 - length (w .bytes)) 0, w .is-shortest .size .1))
-            | no l ↦ inl (ap (λ (x : Reply). x .filled) (none-shown h e l))
+            | inr n ↦ inl (ap (λ (x : Reply). x .filled) (n .0))
           ]
 
       go : (v : Checked) → judgeWords s ≡ v → (loopCall s room .filled ≡ []) ⊎ (length (loopCall s room .filled) ≡ room)
@@ -143,14 +141,16 @@ module _ (s : List ℕ) where
       record {
         by-words = λ n place room e. ap (λ (v : Checked). loopBy v p room) e;
         by-room = wrong-room;
-        by-none = λ (h, e).
-            let range = words-in-range s h e in (
-              λ q. elim (decLt (lowestOnLoop p) (p .head .roles)) [
-                | yes l ↦ let z = sym q ∙ ap (λ (x : Reply). x .number) (shown (h, e) l .answer) in absurd (omega (arith, z))
-                | no l ↦ λ r b. l (some-loop p range r b)
-              ],
-              λ n. ap (λ (x : Reply). x .number) (none-shown h e (λ l. n (lowestOnLoop p) (lowest-loop p range l .loop))),
-            );
+        by-none = λ (h, e). (
+          λ q. elim (shown-or-none h e) [
+            | inl w ↦ let z = sym q ∙ ap (λ (x : Reply). x .number) (w .answer) in absurd (omega (arith, z))
+            | inr n ↦ n .1
+          ],
+          λ n. elim (shown-or-none h e) [
+            | inl w ↦ absurd (n (w .role) (w .is-lowest .loop))
+            | inr m ↦ ap (λ (x : Reply). x .number) (m .0)
+          ],
+        );
         keeps-length = λ buffer. filled-length buffer (loopCall s (length buffer) .filled) (call-filled (length buffer));
-        shows = λ (h, e) r b. shown (h, e) (some-loop p (words-in-range s h e) r b);
+        shows = λ (h, e) r b. elim (shown-or-none h e) [ inl w ↦ w | inr n ↦ absurd (n .1 r b) ];
       }

@@ -12,7 +12,6 @@ use Rattle.model.specs.declared.Head.{Head}
 use Rattle.model.specs.declared.Checked.{Checked}
 use Rattle.model.specs.declared.Checked.the-variants.{Accepted, Refused}
 use Rattle.model.specs.Image.{judgeWords}
-use Rattle.model.specs.Judgement.{lowestOnLoop}
 use Rattle.model.specs.Policy.{Policy, policyOf}
 use Rattle.model.specs.Session.{Reply, refuse}
 use Rattle.model.specs.Loop.{loopCall}
@@ -20,9 +19,7 @@ use Rattle.model.specs.Run.{filledWith, answered}
 use Rattle.model.specs.Chains.{rolesOf, LowestOnLoop}
 use Rattle.model.specs.Ordered.{Loopless, NotAbove, ShortestLoop}
 use Rattle.model_laws.proofs.UnionLaws.{below-or-last}
-use Rattle.model_laws.proofs.Accepted.{words-in-range}
-use Rattle.model_laws.proofs.Judgements.{lowest-loop, some-loop}
-use Rattle.model_laws.proofs.OrderedProof.{loop-call, none-shown}
+use Rattle.model_laws.proofs.OrderedProof.{loop-call, shown-or-none}
 use Rattle.model_register.specs.AsCheck.{WordsRight}
 use Rattle.model_register.specs.Loops.{without, LoopAnswers, by-words, by-room, by-none, shows, LoopIs}
 use Rattle.model_register.proofs.FaultsProof.{register-is}
@@ -67,14 +64,10 @@ module _ (s : List ℕ) where
     where
       full : (h : Head) → judgeWords s ≡ Accepted h → room ≡ 64 → LoopAnswers s room (loopCall s room)
       full h e q =
-          let p = policyOf s in
-          let range = words-in-range s h e in
           let a = words-right s .0 (h, e) in
-          elim (decLt (lowestOnLoop p) (p .head .roles)) [
-            | yes l ↦
-                let w = loop-call s .shows (h, e) (lowestOnLoop p) (lowest-loop p range l .loop) in
-                shows a q (w .role) (w .is-lowest) (w .bytes) (w .is-shortest) (ap (loopCall s) q ∙ w .answer)
-            | no l ↦ by-none a q (λ r b. l (some-loop p range r b)) (ap (loopCall s) q ∙ none-shown s h e l)
+          elim (shown-or-none s h e) [
+            | inl w ↦ shows a q (w .role) (w .is-lowest) (w .bytes) (w .is-shortest) (ap (loopCall s) q ∙ w .answer)
+            | inr n ↦ by-none a q (n .1) (ap (loopCall s) q ∙ n .0)
           ]
 
       go : (v : Checked) → judgeWords s ≡ v → LoopAnswers s room (loopCall s room)
@@ -88,7 +81,7 @@ module _ (s : List ℕ) where
   back room r (by-room a n q) = loop-call s .by-room (words-right s .1 a) room n ∙ sym q
   back room r (by-none a e n q) =
       let (h, w) = words-right s .1 a in
-      ap (loopCall s) e ∙ none-shown s h w (λ l. n (lowestOnLoop (policyOf s)) (lowest-loop (policyOf s) (words-in-range s h w) l .loop)) ∙ sym q
+      elim (shown-or-none s h w) [ inl v ↦ absurd (n (v .role) (v .is-lowest .loop)) | inr m ↦ ap (loopCall s) e ∙ m .0 ∙ sym q ]
   back room r (shows a e i low bs short q) =
       let w = loop-call s .shows (words-right s .1 a) i (low .loop) in
       let same : w .bytes ≡ bs =
