@@ -1,3 +1,4 @@
--- The laws of texts in a buffer and of decimals.
+-- The laws of texts in a buffer, of decimals and of packed texts.
 pub mod WritingLaws
 pub mod RoomLaws
+pub mod PackedLaws

@@ -37,6 +37,12 @@ three-set l at a b c h f =
     let e : at + 2 + 1 ≡ at + 3 = omega arith in
     rw (sym e) (one-more c (two-set l at a b (omega arith) f) (omega arith) f)
 
+pub four-set : (l : List ℕ) (at a b c d : ℕ) → at + 4 ≤ length l → length l < 2 ^ 64
+    → Sets l at 4 (a ∷ b ∷ c ∷ d ∷ []) (set (set (set (set l at a) (at + 1) b) (at + 2) c) (at + 3) d) (at + 4)
+four-set l at a b c d h f =
+    let e : at + 3 + 1 ≡ at + 4 = omega arith in
+    rw (sym e) (one-more d (three-set l at a b c (omega arith) f) (omega arith) f)
+
 -- ---- digits
 
 pub hundreds-figure : (n : ℕ) → figure (n % 1000 / 100) ≡ figure (n / 10 / 10)
@@ -70,8 +76,9 @@ set-hundreds s g h = record { puts = put-hundred (s .puts) refl refl refl g h; r
 
 -- a number from 1,000 on by the digits before the last three, and those
 pub set-thousands : {l m a : List ℕ} {at next r n : ℕ} → Sets m next 3 (figure (n / 10 / 10) ∷ figure (n / 10) ∷ figure n ∷ []) a r
-    → Sets l at 3 (decimal (n / 10 / 10 / 10)) m next → 1000 ≤ n → Puts l at (decimal n) a r
-set-thousands s p h = put-thousand (s .puts) (p .puts) refl refl refl h
+    → Sets l at 3 (decimal (n / 10 / 10 / 10)) m next → 1000 ≤ n → Sets l at 6 (decimal n) a r
+set-thousands s p h =
+    record { puts = put-thousand (s .puts) (p .puts) refl refl refl h; reached = omega (arith, s .reached, p .reached); size = s .size ∙ p .size }
 
 -- ---- how many digits there are
 
@@ -110,7 +117,3 @@ stored-far l at (b ∷ bs) g h =
 
 pub put-far : (l : List ℕ) (at : ℕ) (t : List ℕ) (r : ℕ) → length l ≤ at → at + length t < 2 ^ 64 → r ≡ at + length t → Puts l at t l r
 put-far l at t r g h e = record { next-is = e ∙ behind-far at t h; after-is = sym (stored-far l at t g h) }
-
--- a number there, by its width
-pub put-width : (l : List ℕ) (at n w : ℕ) → length l ≤ at → at < 2 ^ 63 → w ≡ length (decimal n) → w ≤ 6 → Puts l at (decimal n) l (at + w)
-put-width l at n w g h e f = put-far l at (decimal n) (at + w) g (omega arith) (omega arith)

@@ -3,8 +3,10 @@
 -- clause text are, nothing wraps.
 -- Assumes nothing.
 use mathlib.Core.Path.{_≡_}
+use mathlib.Core.Bool.{true, false}
 use mathlib.Core.List.{List, [], _∷_}
-use Prim.Native.Nat.{ℕ, _+_, _%_, _^_, _≤_}
+use Prim.Native.Nat.{ℕ, zero, suc, _+_, _/_, _%_, _^_, _≤_}
+use lib.Dec.{ltb}
 use lib.ListN.{length, set}
 
 -- the place behind a text that starts at a place
@@ -27,3 +29,12 @@ pub record Sets (before : List ℕ) (at k : ℕ) (text after : List ℕ) (next :
   pub puts : Puts before at text after next
   pub reached : next ≤ at + k
   pub size : length after ≡ length before
+
+-- the bytes of a number, at most k and one more, the lowest first, up to the last that is not 0
+unfoldable pub packedTo : ℕ → ℕ → List ℕ
+packedTo zero p = p % 256 ∷ []
+packedTo (suc k) p = elim (ltb p 256) [ true ↦ p % 256 ∷ [] | false ↦ p % 256 ∷ packedTo k (p / 256) ]
+
+-- a text of at most five bytes, packed into a number
+abbrev pub packedText : ℕ → List ℕ
+packedText p = packedTo 4 p

@@ -15,7 +15,6 @@ use borrow.Table.Steps.{cases}
 use borrow.Author.Tests.{eqb-true, eqb-false}
 use Rattle.model.specs.Sets.{has, one, countTo, count}
 use Rattle.model.specs.Clauses.{Clause, listTo, when, mustNot, gives, roleVariable, row, rows, counter, keeping, adding, variablesIn}
-use Rattle.model.specs.Dimacs.{clausesText, weighing}
 use Rattle.model_laws.proofs.Ranks.{count-most}
 use Rattle.model_laws.proofs.SetLaws.{has-beyond}
 use Rattle.sets.specs.Members.{without, Lowest}
@@ -89,7 +88,7 @@ count-le s = count-most (has s) 64
 -- ---- rows of helpers
 
 lines-cons : (w : ℕ) (c : Clause) (cs : List Clause) → linesOf w (c ∷ cs) ≡ lineOf w c ++ linesOf w cs
-unfolding linesOf weighing clausesText lineOf
+unfolding linesOf
 lines-cons w c cs = refl
 
 row-text :
@@ -125,7 +124,7 @@ unfolding rows
 rows-none w n a s e = rw (variables-none s e, rows) (lines-one w (mustNot (a + n)))
 
 pub counter-none : (l : List ℕ) (at w n a s : ℕ) → s ≡ 0 → Puts l at (linesOf w (counter n a (variablesIn s))) l at
-unfolding counter linesOf weighing clausesText
+unfolding counter linesOf
 counter-none l at w n a s e = rw (variables-none s e, counter) (put-nothing l at)
 
 -- what is left to number falls with each member: at most so many helpers for each
@@ -177,5 +176,5 @@ pub counters-start : (l : List ℕ) (at w : ℕ) (masks rooms : List ℕ) (count
 counters-start l at w masks rooms count a = rw sub-zero (along-starts _ _ _)
 
 pub counters-none : (w : ℕ) (masks rooms : List ℕ) (count i a : ℕ) → count ≤ i → [] ≡ linesOf w (counters masks rooms (count - i) i a)
-unfolding counters linesOf weighing clausesText
+unfolding counters linesOf
 counters-none w masks rooms count i a h = let s : count - i ≡ 0 = omega arith in rw (s, counters)

@@ -9,7 +9,7 @@ ghost use Rattle.clauses_lines.specs.Lines.{lineOf, linesOf};
 ghost use Rattle.clauses_hard.specs.Parts.{rowsOf, barred, barringTo, carryingRow, carryingTo, rolesIn, Columns, carriedTo, lowerBoundTo, upper as upperOf, upperBoundTo};
 use crate::members::low_members;
 use crate::members::next_member;
-use clauses_bytes::bytes::put_decimal;
+use clauses_bytes::bytes::put_packed;
 use clauses_lines::lines::put_end;
 use clauses_lines::lines::put_fails;
 use clauses_lines::lines::put_holds;
@@ -120,7 +120,7 @@ fn put_carried_one(
     requires { ⌜ roles ≤ 64 ⌝ }
     ensures { λ n. ⌜ Puts (now (out .entry)) at (lineOf w (fails (roles + q .0 + 1) ∷ rolesIn roles set)) (now (out .exit)) n ⌝ }
 {
-    let a = put_decimal(out, at, w);
+    let a = put_packed(out, at, w);
     let b = put_fails(out, a, roles + q.0 as usize + 1);
     let c = put_roles(out, b, set, roles);
     put_end(out, c)

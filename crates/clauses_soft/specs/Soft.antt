@@ -1,8 +1,14 @@
 -- The soft clauses of the objectives: R roles, P permissions.
 -- Assumes nothing.
-use mathlib.Core.List.{List, _++_}
+use mathlib.Core.List.{List, [], _∷_, _++_}
 use Prim.Native.Nat.{ℕ, zero, suc, _+_}
-use Rattle.model.specs.Clauses.{Weighted, listTo, roleVariable, wanting}
+use Rattle.model.specs.Clauses.{Clause, Weighted, listTo, must, mustNot, roleVariable, wanting}
+
+-- the clauses that an objective wants of a variable, without their weight
+unfoldable pub wanted : ℕ → ℕ → List Clause
+wanted zero x = []
+wanted (suc zero) x = mustNot x ∷ []
+wanted (suc (suc a)) x = must x ∷ []
 
 -- what the first objective wants of the permissions, and the second of the roles
 unfoldable pub wantingPermissions : ℕ → ℕ → ℕ → List Weighted

@@ -26,7 +26,7 @@ pub fn soft_size(first: u8, second: u8, roles: usize, permissions: usize) -> usi
 // The weight of a hard clause: the top of the head line, above all soft ones together.
 pub fn top_weight(first: u8, second: u8, roles: usize, permissions: usize) -> usize
     requires { ⌜ (roles ≤ 64) × (permissions ≤ 256) ⌝ }
-    ensures { λ n. ⌜ n ≡ top (softBy roles permissions first second) ⌝ }
+    ensures { λ n. ⌜ (n ≡ top (softBy roles permissions first second)) × (n ≤ 16705) ⌝ }
 {
     where_aimed(first, permissions * (roles + 1)) + where_aimed(second, roles) + 1
 }

@@ -1,15 +1,17 @@
 // The soft clauses of the objectives.
 ghost use Prim.Native.Nat.{_+_, _≤_, _<_};
-ghost use Rattle.model.specs.Clauses.{wanting};
 ghost use Rattle.model.specs.Dimacs.{clausesText};
 ghost use Rattle.clauses_bytes.specs.Putting.{Puts};
-ghost use Rattle.clauses_soft.specs.Soft.{wantingPermissions, wantingRoles};
+ghost use Rattle.clauses_lines.specs.Lines.{linesOf};
+ghost use Rattle.clauses_soft.specs.Soft.{wanted, wantingPermissions, wantingRoles};
+use clauses_bytes::bytes::packed;
 use clauses_lines::lines::put_must;
 use clauses_lines::lines::put_must_not;
 
-// Puts what an objective wants of a variable: 0 nothing, 1 (fewest) that it is false, 2 (most) that it is true.
+// Puts what an objective wants of a variable: 0 nothing, 1 (fewest) that it is false, 2 (most) that it is true. The
+// weight w is a packed text.
 fn put_wanting(out: &mut [u8], at: usize, aim: u8, w: usize, x: usize) -> usize
-    ensures { λ r. ⌜ Puts (now (out .entry)) at (clausesText (wanting aim w x)) (now (out .exit)) r ⌝ }
+    ensures { λ r. ⌜ Puts (now (out .entry)) at (linesOf w (wanted aim x)) (now (out .exit)) r ⌝ }
 {
     if aim < 1 {
         return at;
@@ -31,10 +33,11 @@ pub fn put_wanting_permissions(
     requires { ⌜ (roles ≤ 64) × (permissions ≤ 256) ⌝ }
     ensures { λ r. ⌜ Puts (now (out .entry)) at (clausesText (wantingPermissions roles permissions aim)) (now (out .exit)) r ⌝ }
 {
+    let w = packed(roles + 1);
     let mut next = at;
     let mut q: usize = 0;
     while q < permissions {
-        next = put_wanting(out, next, aim, roles + 1, roles + q + 1);
+        next = put_wanting(out, next, aim, w, roles + q + 1);
         q += 1;
     }
     next
@@ -45,10 +48,11 @@ pub fn put_wanting_roles(out: &mut [u8], at: usize, aim: u8, roles: usize) -> us
     requires { ⌜ roles ≤ 64 ⌝ }
     ensures { λ n. ⌜ Puts (now (out .entry)) at (clausesText (wantingRoles roles aim)) (now (out .exit)) n ⌝ }
 {
+    let w = packed(1);
     let mut next = at;
     let mut r: usize = 0;
     while r < roles {
-        next = put_wanting(out, next, aim, 1, r + 1);
+        next = put_wanting(out, next, aim, w, r + 1);
         r += 1;
     }
     next

@@ -5,8 +5,8 @@ use mathlib.Core.List.{List, _++_, append-assoc}
 use Prim.Native.Nat.{ℕ, _+_}
 use lib.ListN.{length, length-append}
 use Rattle.model.specs.Clauses.{top, row}
-use Rattle.model.specs.Dimacs.{clausesText, headText, weighing}
-use Rattle.clauses_bytes.specs.Putting.{Puts}
+use Rattle.model.specs.Dimacs.{decimal, clausesText, headText, weighing}
+use Rattle.clauses_bytes.specs.Putting.{Puts, packedText}
 use Rattle.clauses_bytes.proofs.WritingLaws.{put2}
 use Rattle.clauses_lines.specs.Lines.{linesOf}
 use Rattle.clauses_hard.specs.Parts.{barringTo, carryingTo, carriedTo, lowerBoundTo, upperBoundTo, hardBy}
@@ -14,7 +14,7 @@ use Rattle.clauses_counter.specs.Counters.{counters}
 use Rattle.clauses_soft.specs.Soft.{wantingPermissions, wantingRoles, softBy}
 use Rattle.clauses_hard.specs.Sizes.{helpersTo, hardSize}
 use Rattle.clauses_text.specs.Whole.{clausesBy, textBy}
-use Rattle.clauses_lines.proofs.LineLaws.{lines-joined, softs-joined}
+use Rattle.clauses_lines.proofs.LineLaws.{lines-joined, lines-weighing, softs-joined}
 use Rattle.model_clauses.proofs.DimacsProof.{length-weighing}
 use Rattle.clauses_hard.proofs.SizeLaws.{hard-length}
 
@@ -42,13 +42,15 @@ unfolding softBy
 soft-put R P a b q p = put2 q p (sym (softs-joined (wantingPermissions R P a) (wantingRoles R b)))
 
 pub whole-text :
-    (R P s : ℕ) (row : ℕ → ℕ) (lower upper : ℕ) (masks rooms : List ℕ) (k a b : ℕ) (w h m n : ℕ)
-    → w ≡ top (softBy R P a b) → h ≡ helpersTo masks rooms k → m ≡ hardSize R P s row lower upper masks rooms k → n ≡ length (softBy R P a b)
-    → headText (R + P + h) (m + n) w ++ (linesOf w (hardBy R P s row lower upper masks rooms k) ++ clausesText (softBy R P a b))
+    (R P s : ℕ) (row : ℕ → ℕ) (lower upper : ℕ) (masks rooms : List ℕ) (k a b : ℕ) (p w h m n : ℕ)
+    → packedText p ≡ decimal w → w ≡ top (softBy R P a b)
+    → h ≡ helpersTo masks rooms k → m ≡ hardSize R P s row lower upper masks rooms k → n ≡ length (softBy R P a b)
+    → headText (R + P + h) (m + n) w ++ (linesOf p (hardBy R P s row lower upper masks rooms k) ++ clausesText (softBy R P a b))
     ≡ textBy R P s row lower upper masks rooms k a b
-unfolding textBy clausesBy linesOf
-whole-text R P s row lower upper masks rooms k a b w h m n ew eh em en =
+unfolding textBy clausesBy
+whole-text R P s row lower upper masks rooms k a b p w h m n ep ew eh em en =
     rw (
+      lines-weighing p w (hardBy R P s row lower upper masks rooms k) ep,
       ew,
       eh,
       em,

@@ -6,8 +6,9 @@ ghost use Rattle.clauses_bytes.specs.Putting.{Puts};
 ghost use Rattle.clauses_lines.specs.Lines.{linesOf};
 ghost use Rattle.clauses_soft.specs.Soft.{softBy};
 ghost use Rattle.clauses_text.specs.Whole.{hardFor, textFor};
+use clauses_bytes::bytes::packed;
 use clauses_bytes::bytes::put;
-use clauses_bytes::bytes::put_decimal;
+use clauses_bytes::bytes::put_long;
 use clauses_counter::counter::put_counters;
 use clauses_hard::carries::put_barring;
 use clauses_hard::carries::put_carried;
@@ -54,7 +55,7 @@ fn put_number(out: &mut [u8], at: usize, n: usize) -> usize
     ensures { λ r. ⌜ Puts (now (out .entry)) at (32 ∷ decimal n) (now (out .exit)) r ⌝ }
 {
     let a = put(out, at, 32);
-    put_decimal(out, a, n)
+    put_long(out, a, n)
 }
 
 // Puts the head line.
@@ -62,7 +63,7 @@ fn put_head(out: &mut [u8], at: usize, variables: usize, clauses: usize, top: us
     ensures { λ r. ⌜ Puts (now (out .entry)) at (headText variables clauses top) (now (out .exit)) r ⌝ }
 {
     let a = put_mark(out, at);
-    let b = put_decimal(out, a, variables);
+    let b = put_long(out, a, variables);
     let c = put_number(out, b, clauses);
     let d = put_number(out, c, top);
     put(out, d, 10)
@@ -70,7 +71,7 @@ fn put_head(out: &mut [u8], at: usize, variables: usize, clauses: usize, top: us
 
 // ---- the clauses
 
-// Puts the hard clauses, each of weight w.
+// Puts the hard clauses, each behind the weight w, a packed text.
 fn put_hard(
     out: &mut [u8],
     at: usize,
@@ -126,6 +127,6 @@ pub fn put_text(out: &mut [u8], at: usize, rows: &[[u64; 4]; 64], q: Question, x
     let hard = hard_size(rows, q, x);
     let clauses = hard + soft_size(first, second, roles, permissions);
     let a = put_head(out, at, variables, clauses, w);
-    let b = put_hard(out, a, w, rows, q, x);
+    let b = put_hard(out, a, packed(w), rows, q, x);
     put_soft(out, b, first, second, roles, permissions)
 }

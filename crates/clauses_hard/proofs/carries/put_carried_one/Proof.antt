@@ -11,7 +11,7 @@ returns c =
     let q = p .before .before .before .before in
     let s = q .before .before .before .before in
     let t = s .before .before .before .before .before in
-    line-more _ _ _ (p .put-end .ensures) (q .put-roles .ensures) (s .put-fails .ensures) (t .put-decimal .ensures)
+    line-more _ _ _ (p .put-end .ensures) (q .put-roles .ensures) (s .put-fails .ensures) (t .put-packed .ensures)
 
 pub put-carried-one-spec : {M : Type 1} → statement M
 put-carried-one-spec =

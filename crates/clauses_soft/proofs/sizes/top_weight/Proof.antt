@@ -20,7 +20,11 @@ add-result-2 c =
     record { fits = omega (arith, weights-small (a .roles) (a .permissions) (search needs) (search needs)) }
 
 returns : tie.Need-returns
-returns c = soft-top _ _ _ _ _ _ (c .before .where-aimed .ensures .0) (c .where-aimed2 .ensures .0)
+returns c =
+    let a = c .before .before .args in (
+      soft-top _ _ _ _ _ _ (c .before .where-aimed .ensures .0) (c .where-aimed2 .ensures .0),
+      omega (arith, weights-small (a .roles) (a .permissions) (search needs) (search needs)),
+    )
 
 pub top-weight-spec : {M : Type 1} → statement M
 top-weight-spec =

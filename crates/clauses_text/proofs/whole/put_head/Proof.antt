@@ -15,7 +15,7 @@ returns c =
     let s = q .before .before .before .before in
     let t = s .before .before .before .before in
     let u = t .before .before .before .before in
-    put5 (p .put .ensures) (q .put-number2 .ensures) (s .put-number .ensures) (t .put-decimal .ensures) (u .put-mark .ensures) refl
+    put5 (p .put .ensures) (q .put-number2 .ensures) (s .put-number .ensures) (t .put-long .ensures) (u .put-mark .ensures) refl
 
 pub put-head-spec : {M : Type 1} → statement M
 put-head-spec =

@@ -10,17 +10,18 @@ returns : tie.Need-returns
 returns c =
     let p = c .before .before in
     let q = p .before .before .before .before in
-    let s = q .before .before .before .before in
+    let w = q .before in
+    let s = w .before .before .before .before in
     let n = s .before .before in
     let m = n .before in
     let h = m .before in
     put3 (p .put-soft .ensures) (q .put-hard .ensures) (s .put-head .ensures)
-    (whole-text _ _ _ _ _ _ _ _ _ _ _ _ _ _ _ (h .before .top-weight .ensures) (h .helpers-of .ensures .0) (m .hard-size .ensures .0)
-    (n .soft-size .ensures .0))
+    (whole-text _ _ _ _ _ _ _ _ _ _ _ _ _ _ _ _ (w .packed .ensures) (h .before .top-weight .ensures .0) (h .helpers-of .ensures .0)
+    (m .hard-size .ensures .0) (n .soft-size .ensures .0))
 
 pub put-text-spec : {M : Type 1} → statement M
 put-text-spec =
     tie.close
     (tie.spec (λ c κs. search needs) (λ c. search needs) (λ c κs. search needs) (λ c. search needs) (λ c κs. search needs)
     (λ c κs. search needs) (λ c. search needs) (λ c κs. search needs) (λ c κs. search needs) (λ c κs. search needs)
-    (λ c. search needs) returns)
+    (λ c κs. search needs) (λ c. search needs) returns)
