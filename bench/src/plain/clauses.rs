@@ -1,7 +1,7 @@
 //! The clause text of an ask: written at once where there is room for any text, else measured by one walk and written
 //! by a second.
 
-use super::{asked, enter_asking, limit, size, Entered, Permissions, Tables, Wish, TABLES};
+use super::{asked, enter_asking, reduced, size, Entered, Permissions, Tables, Wish, TABLES};
 
 /// Where a text goes: into a buffer, or nowhere, to be measured.
 trait Sink {
@@ -58,8 +58,8 @@ struct Clauses {
     rows: [Permissions; 64],
     lower: Permissions,
     upper: Permissions,
-    /// The members left of each exclusion, and the room for them.
-    limits: [(u64, u32); 32],
+    /// The members left of each exclusion, and what is left of its n.
+    reduced: [(u64, u32); 32],
     count: usize,
     objectives: (u64, u64),
 }
@@ -111,14 +111,14 @@ impl Clauses {
         objectives: (u64, u64),
     ) -> Clauses {
         let (roles, permissions, count) = (entered.roles, entered.permissions as u32, entered.exclusions);
-        let (mut rows, mut limits) = ([[0; 4]; 64], [(0, 0); 32]);
+        let (mut rows, mut reduced_all) = ([[0; 4]; 64], [(0, 0); 32]);
         for (role, row) in rows[..roles as usize].iter_mut().enumerate() {
             *row = tables.row(role);
         }
-        for (left, exclusion) in limits.iter_mut().zip(&tables.exclusions[..count]) {
-            *left = limit(exclusion, &entered.line, session);
+        for (left, exclusion) in reduced_all.iter_mut().zip(&tables.exclusions[..count]) {
+            *left = reduced(exclusion, &entered.line, session);
         }
-        Clauses { roles, permissions, own: entered.own, rows, lower, upper, limits, count, objectives }
+        Clauses { roles, permissions, own: entered.own, rows, lower, upper, reduced: reduced_all, count, objectives }
     }
 
     /// The numbers of the head line: variables, clauses, the top weight.
@@ -127,9 +127,9 @@ impl Clauses {
         let carried: u32 = self.rows.iter().map(|row| size(*row)).sum();
         let bounded = size(self.lower) + permissions - size(self.upper);
         let (mut helpers, mut counted) = (0, 0);
-        for (left, room) in &self.limits[..self.count] {
-            helpers += left.count_ones() * room;
-            counted += 2 + 2 * (left.count_ones() - 1) * room;
+        for (left, n) in &self.reduced[..self.count] {
+            helpers += left.count_ones() * n;
+            counted += 2 + 2 * (left.count_ones() - 1) * n;
         }
         let (mut soft, mut top) = (0, 1);
         for (aim, many, weight) in [(self.objectives.0, permissions, roles + 1), (self.objectives.1, roles, 1)] {
@@ -210,23 +210,23 @@ impl Clauses {
     #[inline(always)]
     fn exclude(&self, sink: &mut impl Sink, weight: &Weight) {
         let mut before = self.roles + self.permissions;
-        for (members, room) in &self.limits[..self.count] {
-            let (mut left, room) = (*members, *room);
+        for (members, n) in &self.reduced[..self.count] {
+            let (mut left, n) = (*members, *n);
             weight.line(sink, [(NOT, left.trailing_zeros() + 1), (IS, before + 1)]);
             left &= left - 1;
             while left != 0 {
                 let variable = left.trailing_zeros() + 1;
                 left &= left - 1;
-                weight.line(sink, [(NOT, variable), (IS, before + room + 1)]);
-                for count in 1..=room {
-                    weight.line(sink, [(NOT, before + count), (IS, before + room + count)]);
+                weight.line(sink, [(NOT, variable), (IS, before + n + 1)]);
+                for count in 1..=n {
+                    weight.line(sink, [(NOT, before + count), (IS, before + n + count)]);
                 }
-                for count in 1..room {
-                    weight.line(sink, [(NOT, variable), (NOT, before + count), (IS, before + room + count + 1)]);
+                for count in 1..n {
+                    weight.line(sink, [(NOT, variable), (NOT, before + count), (IS, before + n + count + 1)]);
                 }
-                before += room;
+                before += n;
             }
-            before += room;
+            before += n;
             weight.line(sink, [(NOT, before)]);
         }
     }

@@ -1,7 +1,7 @@
 //! What stands in the way of an ask: three tests of masks, then the exclusions in the order of the tidy image by
 //! halving, each step a search that ends with the first set.
 
-use super::{asked, barred, entered, limit, named, union, within, Entered, Judge, Permissions, Search, Tables, Wish, TABLES};
+use super::{asked, barred, entered, named, reduced, union, within, Entered, Judge, Permissions, Search, Tables, Wish, TABLES};
 
 /// The roles of a set that carry a permission.
 fn carriers(rows: &[Permissions; 64], mut set: u64, permission: usize) -> u64 {
@@ -73,7 +73,7 @@ fn told(
 ) -> Option<Told> {
     let [lower, upper] = bounds;
     let mut search =
-        Search { rows: [[0; 4]; 64], lower, limits: [(0, 0); 32], count: entered.exclusions, objectives: (0, 0), best: None };
+        Search { rows: [[0; 4]; 64], lower, reduced: [(0, 0); 32], count: entered.exclusions, objectives: (0, 0), best: None };
     let (mut left, mut usable) = (entered.own, 0);
     while left != 0 {
         let role = left.trailing_zeros() as usize;
@@ -88,7 +88,7 @@ fn told(
     let session = wish.session as usize;
     let turned = search.turned(free);
     for place in 0..search.count {
-        search.limits[place] = limit(&tables.exclusions[place], &entered.line, session);
+        search.reduced[place] = reduced(&tables.exclusions[place], &entered.line, session);
     }
     if search.some_set(&turned, free, 0, [0; 4]) {
         return None;
@@ -97,7 +97,7 @@ fn told(
     if count > 1 {
         count = tables.sort_exclusions(count);
         for place in 0..count {
-            search.limits[place] = limit(&tables.exclusions[place], &entered.line, session);
+            search.reduced[place] = reduced(&tables.exclusions[place], &entered.line, session);
         }
     }
     let (mut left, mut none) = (0, count);
@@ -107,7 +107,7 @@ fn told(
         (left, none) = if some { (search.count, none) } else { (left, search.count) };
     }
     let exclusion = tables.exclusions[none - 1];
-    let counted = exclusion.members & !search.limits[none - 1].0;
+    let counted = exclusion.members & !search.reduced[none - 1].0;
     Some((4, u64::from(exclusion.kind + 4 * exclusion.n), counted, exclusion.members))
 }
 

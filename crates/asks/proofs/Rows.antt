@@ -31,8 +31,8 @@ use Rattle.tables_rows.specs.Carried.{carriedRows}
 use Rattle.sets.proofs.Unions.{values-at}
 use Rattle.tables_rows.proofs.Carrying.{length-selves, wantedRow}
 use Rattle.query.specs.Carry.{rowsOf, Carry}
-use Rattle.query_rooms.specs.Rooms.{roomy}
-use Rattle.query_rooms.specs.Reduction.{Reduces}
+use Rattle.query_reduced.specs.Met.{reducedMet}
+use Rattle.query_reduced.specs.Reduction.{Reduces}
 use Rattle.search.specs.Answer.{answered, Given}
 use Rattle.search.specs.declared.Choice.{Choice}
 use Rattle.search.specs.declared.Choice.the-variants.{Nothing, Roles}
@@ -84,16 +84,16 @@ left-within p u x l k s w =
     within-iff s (authorized p u) .1 (λ r h. left-own (meaning p u) x l k r (within-iff s (leftTo p u x l k .authorized) .0 w r h))
 
 -- what the choice is given is the policy's, the line's and the session's
-pub given-of : (p : Policy) (u : ℕ) (x : Others) (own : ℕ) (xs : Exclusions) (l : Line) (k n : ℕ) (masks rooms : List ℕ) (row : ℕ → ℕ) → n ≡ xs .count
-    → Reduces xs l k masks rooms → Asked p u x l k own xs row → Given (leftTo p u x l k) l k own row (roomy masks rooms n)
+pub given-of : (p : Policy) (u : ℕ) (x : Others) (own : ℕ) (xs : Exclusions) (l : Line) (k n : ℕ) (masks ns : List ℕ) (row : ℕ → ℕ) → n ≡ xs .count
+    → Reduces xs l k masks ns → Asked p u x l k own xs row → Given (leftTo p u x l k) l k own row (reducedMet masks ns n)
 unfolding meaning unbarred exclusionsMet
-given-of p u x own xs l k n masks rooms row e d g =
+given-of p u x own xs l k n masks ns row e d g =
     record {
       own = g .own-is;
       carry = g .carry;
-      rooms = λ s w.
+      exclusions = λ s w.
           d .same p u (g .exclusions-are) (g .met) s (left-within p u x l k s (ap (within s) (g .own-is) ∙ w))
-          ∙ ap (λ (i : ℕ). roomy masks rooms i s) (sym e);
+          ∙ ap (λ (i : ℕ). reducedMet masks ns i s) (sym e);
     }
 
 -- what the search is given, with the rows

@@ -50,9 +50,9 @@ pub fn best(
     ensures { λ r. ⌜ ((p : Policy) (u : ℕ) (x : Others) → Asked p u x l k authorized (exclusionsIn (now (xs .entry)) count) (rowsOf (now (rows .entry)))
         → answered r ≡ choose (leftTo p u x l k) l k (value (wanted .lower)) (value (wanted .upper)) (wanted .first) (wanted .second)) ⌝ }
 {
-    let reduced = query_rooms::exclusions::reduce(xs, count, l, k);
+    let reduced = query_reduced::exclusions::reduce(xs, count, l, k);
     let masks = reduced.masks;
-    let rooms = reduced.rooms;
+    let ns = reduced.ns;
     let lower = wanted.lower;
     let upper = wanted.upper;
     let job = Job {
@@ -61,7 +61,7 @@ pub fn best(
         first: wanted.first,
         second: wanted.second,
     };
-    search::solve(rows, upper, authorized, &masks, &rooms, job)
+    search::solve(rows, upper, authorized, &masks, &ns, job)
 }
 
 // The best admissible role set takes the place of the active roles of the session, on a line that meets every

@@ -21,8 +21,8 @@ use Rattle.model_laws.proofs.LineLaws.{length-readSessions}
 use Rattle.sets.specs.Words.{values}
 use Rattle.tables_rows.specs.Carried.{carriedRows}
 use Rattle.query.specs.Carry.{rowsOf}
-use Rattle.query_rooms.specs.Reduction.{Reduces}
-use Rattle.query_rooms.proofs.RoomLaws.{every-has, every}
+use Rattle.query_reduced.specs.Reduction.{Reduces}
+use Rattle.query_reduced.proofs.MetLaws.{every-has, every}
 use Rattle.asks.specs.Asks.{leftTo, Searched}
 use Rattle.asks.proofs.Rows.{carry-rows}
 use Rattle.model_clauses.specs.Texts.{TEXT_ROOM}
@@ -38,11 +38,11 @@ pub line-sessions : (W : ℕ) (ledger : List ℕ) (u : ℕ) → length (lineOf W
 unfolding lineOf readLine
 line-sessions W ledger u = length-readSessions W _
 
-module _ (p : Policy) (u : ℕ) (x : Others) (l : Line) (k : ℕ) (xs : Exclusions) (rows : List (List ℕ)) (masks rooms : List ℕ) where
+module _ (p : Policy) (u : ℕ) (x : Others) (l : Line) (k : ℕ) (xs : Exclusions) (rows : List (List ℕ)) (masks ns : List ℕ) where
   -- each role's row is what it carries, and each exclusion is reduced
   stands : p .head .roles ≤ 64 → xs .count ≤ length (xs .list) → p .exclusions ≡ take (xs .count) (xs .list)
-      → values rows ≡ carriedRows (p .granted) (belowTable p) every → Reduces xs l k masks rooms
-      → Stands (leftTo p u x l k) l k (rowsOf rows) masks rooms (xs .count)
+      → values rows ≡ carriedRows (p .granted) (belowTable p) every → Reduces xs l k masks ns
+      → Stands (leftTo p u x l k) l k (rowsOf rows) masks ns (xs .count)
   unfolding meaning unbarred
   stands small inside e er d =
       record {
@@ -51,7 +51,7 @@ module _ (p : Policy) (u : ℕ) (x : Others) (l : Line) (k : ℕ) (xs : Exclusio
         reduced = λ o i h.
             let q : i < xs .count = omega (arith, ap length e, long, h) in
             let f : getD (xs .list) i o ≡ getD (p .exclusions) i o = sym (ap (λ (y : List Exclusion). getD y i o) e ∙ getD-take (xs .count) (xs .list) i o q) in
-            subst (λ (y : Exclusion). Reduced l k y (getD masks i 0) (getD rooms i 0)) f (record { members = d .members o i q; space = d .space o i q });
+            subst (λ (y : Exclusion). Reduced l k y (getD masks i 0) (getD ns i 0)) f (record { members = d .members o i q; reduced = d .reduced o i q });
       }
     where
       long : length (take (xs .count) (xs .list)) ≡ xs .count
@@ -59,23 +59,23 @@ module _ (p : Policy) (u : ℕ) (x : Others) (l : Line) (k : ℕ) (xs : Exclusio
 
 -- what is written by these words is the text of the ask
 pub wrote-text : (p : Policy) (u : ℕ) (x : Others) (k : ℕ) (ledger granted below : List ℕ) (own : ℕ) (xs : Exclusions) (h : Head) (l : Line)
-    (rows : List (List ℕ)) (masks rooms : List ℕ) (low high a b : ℕ) {before after : List ℕ} {n : ℕ}
+    (rows : List (List ℕ)) (masks ns : List ℕ) (low high a b : ℕ) {before after : List ℕ} {n : ℕ}
     → InRange p → p .head ≡ h → Searched p u x ledger k granted below own xs
     → l ≡ lineOf SESSIONS ledger u → k < SESSIONS → xs .count ≤ length (xs .list) → values rows ≡ carriedRows granted below every
-    → Reduces xs l k masks rooms
-    → (length (textBy (h .roles) (h .permissions) own (rowsOf rows) low high masks rooms (xs .count) a b) ≤ TEXT_ROOM
-    → Written before (textBy (h .roles) (h .permissions) own (rowsOf rows) low high masks rooms (xs .count) a b) after n)
+    → Reduces xs l k masks ns
+    → (length (textBy (h .roles) (h .permissions) own (rowsOf rows) low high masks ns (xs .count) a b) ≤ TEXT_ROOM
+    → Written before (textBy (h .roles) (h .permissions) own (rowsOf rows) low high masks ns (xs .count) a b) after n)
     → Written before (textOf (leftTo p u x (lineOf SESSIONS ledger u) k) (lineOf SESSIONS ledger u) k low high a b) after n
 unfolding meaning unbarred exclusionsMet
-wrote-text p u x k ledger granted below own xs h l rows masks rooms low high a b {before} {after} {n} range eh s el below-k few er d w =
+wrote-text p u x k ledger granted below own xs h l rows masks ns low high a b {before} {after} {n} range eh s el below-k few er d w =
     let m = leftTo p u x l k in
     let inside : k < length (l .sessions) = rw (el, line-sessions SESSIONS ledger u) below-k in
-    let t = stands p u x l k xs rows masks rooms (range .roles .1) few (s .exclusions-are)
+    let t = stands p u x l k xs rows masks ns (range .roles .1) few (s .exclusions-are)
     (er ∙ ap₂ (λ (y z : List ℕ). carriedRows y z every) (s .granted-is) (s .below-is)) d in
-    let e : textBy (h .roles) (h .permissions) own (rowsOf rows) low high masks rooms (xs .count) a b ≡ textOf m l k low high a b =
-    ap₂ (λ (y : Head) (z : ℕ). textBy (y .roles) (y .permissions) z (rowsOf rows) low high masks rooms (xs .count) a b) (sym eh)
+    let e : textBy (h .roles) (h .permissions) own (rowsOf rows) low high masks ns (xs .count) a b ≡ textOf m l k low high a b =
+    ap₂ (λ (y : Head) (z : ℕ). textBy (y .roles) (y .permissions) z (rowsOf rows) low high masks ns (xs .count) a b) (sym eh)
     (sym (ap (λ (y : Line). leftTo p u x y k .authorized) el ∙ s .own-is))
-    ∙ text-is m l k (rowsOf rows) masks rooms (xs .count) t low high a b in
+    ∙ text-is m l k (rowsOf rows) masks ns (xs .count) t low high a b in
     let q = text-small m (left-meant (meaning p u) (meant p range u) x l k) l k low high inside (rw el (s .met)) a b .bytes in
     let z : Written before (textOf m l k low high a b) after n = subst (λ (y : List ℕ). Written before y after n) e (w (rw e q)) in
     subst (λ (y : Line). Written before (textOf (leftTo p u x y k) y k low high a b) after n) el z

@@ -57,7 +57,7 @@ fn write_clauses(
     let k = who.session as usize;
     let l = line_of(ledger, who.user as usize);
     let count = sizes.count;
-    let reduced = query_rooms::exclusions::reduce(xs, count, l, k);
+    let reduced = query_reduced::exclusions::reduce(xs, count, l, k);
     let head = sizes.head;
     let bounds = request.bounds;
     let lower = bounds.lower;

@@ -11,7 +11,7 @@ use Rattle.model.specs.declared.Kind.the-variants.{SsDmer}
 use Rattle.model.specs.Sets.{has}
 use Rattle.model.specs.Policy.{Meaning}
 use Rattle.model.specs.Reduced.{stays}
-use Rattle.model.specs.Clauses.{Literal, listTo, when, gives, holds, fails, barring, carries, carrying, carriers, carried, bounding, uncounted, room as roomIn, counter, excluding, helpers, excludingAll, hard, soft, variablesIn}
+use Rattle.model.specs.Clauses.{Literal, listTo, when, gives, holds, fails, barring, carries, carrying, carriers, carried, bounding, uncounted, nLeft, counter, excluding, helpers, excludingAll, hard, soft, variablesIn}
 use Rattle.model.specs.Dimacs.{helpersOf, variablesOf, clausesOf, textOf}
 use Rattle.model_clauses.proofs.ClauseLaws.{listTo-same}
 use Rattle.clauses_hard.specs.Parts.{barred, barringTo, carriedAs, carryingRow, carryingTo, carrier, carriersTo, carriedOne, carriedTo, lower as lowerOf, lowerBoundTo, upper as upperOf, upperBoundTo, hardBy}
@@ -24,40 +24,40 @@ use Rattle.clauses.specs.Stands.{Reduced, Stands}
 -- ---- exclusions
 
 module _ (l : Line) (k : ℕ) where
-  module _ (x : Exclusion) (mask room : ℕ) (r : Reduced l k x mask room) where
+  module _ (x : Exclusion) (mask n : ℕ) (r : Reduced l k x mask n) where
     variables-are : variablesIn mask ≡ uncounted x (stays l k (x .kind))
     unfolding uncounted
     variables-are = ap variablesIn (r .members)
 
-    counter-is : (a : ℕ) → counter room a (variablesIn mask) ≡ excluding l k a x
-    unfolding excluding roomIn
-    counter-is a = rw (variables-are, r .space)
+    counter-is : (a : ℕ) → counter n a (variablesIn mask) ≡ excluding l k a x
+    unfolding excluding nLeft
+    counter-is a = rw (variables-are, r .reduced)
 
-    helpers-are : length (variablesIn mask) * room ≡ helpers l k x
-    unfolding helpers roomIn
-    helpers-are = rw (variables-are, r .space)
+    helpers-are : length (variablesIn mask) * n ≡ helpers l k x
+    unfolding helpers nLeft
+    helpers-are = rw (variables-are, r .reduced)
 
-  module _ (masks rooms : List ℕ) (d : Exclusion) where
+  module _ (masks ns : List ℕ) (d : Exclusion) where
     abbrev From : List Exclusion → ℕ → Type 0
-    From xs i = (j : ℕ) → j < length xs → Reduced l k (getD xs j d) (getD masks (i + j) 0) (getD rooms (i + j) 0)
+    From xs i = (j : ℕ) → j < length xs → Reduced l k (getD xs j d) (getD masks (i + j) 0) (getD ns (i + j) 0)
 
-    first : (x : Exclusion) (xs : List Exclusion) (i : ℕ) → From (x ∷ xs) i → Reduced l k x (getD masks i 0) (getD rooms i 0)
+    first : (x : Exclusion) (xs : List Exclusion) (i : ℕ) → From (x ∷ xs) i → Reduced l k x (getD masks i 0) (getD ns i 0)
     first x xs i h = let e : i + 0 ≡ i = omega arith in rw e at (h 0 (omega arith))
 
     others : (x : Exclusion) (xs : List Exclusion) (i : ℕ) → From (x ∷ xs) i → From xs (suc i)
     others x xs i h j q = let e : i + suc j ≡ suc i + j = omega arith in rw e at (h (suc j) (omega arith))
 
-    counters-are : (xs : List Exclusion) (i a : ℕ) → From xs i → counters masks rooms (length xs) i a ≡ excludingAll l k a xs
+    counters-are : (xs : List Exclusion) (i a : ℕ) → From xs i → counters masks ns (length xs) i a ≡ excludingAll l k a xs
     unfolding counters excludingAll
     counters-are [] i a h = refl
     counters-are (x ∷ xs) i a h =
         let r = first x xs i h in
-        ap₂ (λ c m. c ++ counters masks rooms (length xs) (suc i) (a + m)) (counter-is x (getD masks i 0) (getD rooms i 0) r a)
-        (helpers-are x (getD masks i 0) (getD rooms i 0) r)
+        ap₂ (λ c m. c ++ counters masks ns (length xs) (suc i) (a + m)) (counter-is x (getD masks i 0) (getD ns i 0) r a)
+        (helpers-are x (getD masks i 0) (getD ns i 0) r)
         ∙ ap (λ cs. excluding l k a x ++ cs) (counters-are xs (suc i) (a + helpers l k x) (others x xs i h))
 
     abbrev at : ℕ → ℕ
-    at i = length (variablesIn (getD masks i 0)) * getD rooms i 0
+    at i = length (variablesIn (getD masks i 0)) * getD ns i 0
 
     sum-suc : (f : ℕ → ℕ) (n : ℕ) → sumTo f (suc n) ≡ sumTo f n + f n
     unfolding sumTo
@@ -68,11 +68,11 @@ module _ (l : Line) (k : ℕ) where
     helpers-from [] i h = let e : i + 0 ≡ i = omega arith in rw e (omega arith)
     helpers-from (x ∷ xs) i h =
         let e : i + suc (length xs) ≡ suc i + length xs = omega arith in
-        rw e (omega (arith, helpers-from xs (suc i) (others x xs i h), sum-suc at i, helpers-are x (getD masks i 0) (getD rooms i 0) (first x xs i h)))
+        rw e (omega (arith, helpers-from xs (suc i) (others x xs i h), sum-suc at i, helpers-are x (getD masks i 0) (getD ns i 0) (first x xs i h)))
 
 -- ---- all hard clauses
 
-module _ (p : Meaning) (l : Line) (k : ℕ) (row : ℕ → ℕ) (masks rooms : List ℕ) (count : ℕ) (s : Stands p l k row masks rooms count) where
+module _ (p : Meaning) (l : Line) (k : ℕ) (row : ℕ → ℕ) (masks ns : List ℕ) (count : ℕ) (s : Stands p l k row masks ns count) where
   abbrev R : ℕ
   R = p .roles
 
@@ -101,22 +101,22 @@ module _ (p : Meaning) (l : Line) (k : ℕ) (row : ℕ → ℕ) (masks rooms : L
   abbrev other : Exclusion
   other = record { kind = SsDmer; n = 0; members = 0 }
 
-  from : From l k masks rooms other (p .exclusions) 0
+  from : From l k masks ns other (p .exclusions) 0
   from j q = let e : 0 + j ≡ j = omega arith in rw e (s .reduced other j q)
 
-  exclusions-are : (a : ℕ) → counters masks rooms count 0 a ≡ excludingAll l k a (p .exclusions)
-  exclusions-are a = rw (s .all) (counters-are l k masks rooms other (p .exclusions) 0 a from)
+  exclusions-are : (a : ℕ) → counters masks ns count 0 a ≡ excludingAll l k a (p .exclusions)
+  exclusions-are a = rw (s .all) (counters-are l k masks ns other (p .exclusions) 0 a from)
 
-  variables-told : R + P + helpersTo masks rooms count ≡ variablesOf p l k
+  variables-told : R + P + helpersTo masks ns count ≡ variablesOf p l k
   unfolding helpersTo variablesOf sumTo
   variables-told =
       let e : 0 + length (p .exclusions) ≡ count = omega (arith, s .all) in
-      let f : sumTo (at l k masks rooms other) (0 + length (p .exclusions)) ≡ 0 + helpersOf l k (p .exclusions) =
-      helpers-from l k masks rooms other (p .exclusions) 0 from in
-      omega (arith, f, ap (sumTo (at l k masks rooms other)) e)
+      let f : sumTo (at l k masks ns other) (0 + length (p .exclusions)) ≡ 0 + helpersOf l k (p .exclusions) =
+      helpers-from l k masks ns other (p .exclusions) 0 from in
+      omega (arith, f, ap (sumTo (at l k masks ns other)) e)
 
   module _ (low high : ℕ) where
-    hard-is : hardBy R P (p .authorized) row low high masks rooms count ≡ hard p l k low high
+    hard-is : hardBy R P (p .authorized) row low high masks ns count ≡ hard p l k low high
     unfolding hardBy hard barringTo barred barring lowerBoundTo lowerOf upperBoundTo upperOf bounding
     hard-is = rw (carrying-is, carried-is, exclusions-are (R + P))
 
@@ -125,11 +125,11 @@ module _ (p : Meaning) (l : Line) (k : ℕ) (row : ℕ → ℕ) (masks rooms : L
       unfolding softBy wantingPermissions wantingRoles soft
       soft-is = refl
 
-      clauses-are : clausesBy R P (p .authorized) row low high masks rooms count a b ≡ clausesOf p l k low high a b
+      clauses-are : clausesBy R P (p .authorized) row low high masks ns count a b ≡ clausesOf p l k low high a b
       unfolding clausesBy clausesOf
       clauses-are = rw (soft-is, hard-is)
 
       -- the text is that of the model
-      pub text-is : textBy R P (p .authorized) row low high masks rooms count a b ≡ textOf p l k low high a b
+      pub text-is : textBy R P (p .authorized) row low high masks ns count a b ≡ textOf p l k low high a b
       unfolding textBy textOf
       text-is = rw (variables-told, soft-is, clauses-are)

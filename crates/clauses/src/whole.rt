@@ -6,7 +6,7 @@ ghost use Rattle.clauses.specs.Writing.{Needs, Written};
 ghost use Rattle.clauses_text.specs.Whole.{textFor};
 use clauses_hard::question::Question;
 use clauses_text::whole::put_text;
-use query_rooms::exclusions::Reduced;
+use query_reduced::exclusions::Reduced;
 
 // What the text needs of a buffer of this length: nothing where every text fits, else its length, by a walk that writes
 // nothing.

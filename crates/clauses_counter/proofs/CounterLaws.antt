@@ -136,8 +136,8 @@ pub one-fewer : (s k less : ℕ) → s < 2 ^ 64 → Lowest s k → less ≡ with
 one-fewer s k less f low e = omega (arith, ap (count 64) e, count-without 64 s k f (low .small) (low .member))
 
 -- there is a number for each helper of the members
-pub rows-room : (a s : ℕ) → a + 4294967295 * count 64 s ≤ a + 274877906880
-rows-room a s = omega (arith, count-le s)
+pub rows-fit : (a s : ℕ) → a + 4294967295 * count 64 s ≤ a + 274877906880
+rows-fit a s = omega (arith, count-le s)
 
 module _ (s m n : ℕ) (e : m ≡ count 64 s) where
   pub helpers-are : m * n ≡ length (variablesIn s) * n
@@ -152,29 +152,29 @@ module _ (s m n : ℕ) (e : m ≡ count 64 s) where
 -- ---- the exclusions from one on
 
 counters-next :
-    (w : ℕ) (masks rooms : List ℕ) (count i a n more : ℕ) → i < count → n ≡ getD rooms i 0 → more ≡ length (variablesIn (getD masks i 0)) * n
-    → linesOf w (counters masks rooms (count - i) i a)
-    ≡ linesOf w (counter n a (variablesIn (getD masks i 0))) ++ linesOf w (counters masks rooms (count - (i + 1)) (i + 1) (a + more))
+    (w : ℕ) (masks ns : List ℕ) (count i a n more : ℕ) → i < count → n ≡ getD ns i 0 → more ≡ length (variablesIn (getD masks i 0)) * n
+    → linesOf w (counters masks ns (count - i) i a)
+    ≡ linesOf w (counter n a (variablesIn (getD masks i 0))) ++ linesOf w (counters masks ns (count - (i + 1)) (i + 1) (a + more))
 unfolding counters
-counters-next w masks rooms count i a n more h en e =
+counters-next w masks ns count i a n more h en e =
     let s : count - i ≡ suc (count - (i + 1)) = omega arith in
     let t : i + 1 ≡ suc i = add-one i in
     rw (s, t, e, en, counters)
-    (lines-joined w (counter (getD rooms i 0) a (variablesIn (getD masks i 0)))
-    (counters masks rooms (count - suc i) (suc i) (a + length (variablesIn (getD masks i 0)) * getD rooms i 0)))
+    (lines-joined w (counter (getD ns i 0) a (variablesIn (getD masks i 0)))
+    (counters masks ns (count - suc i) (suc i) (a + length (variablesIn (getD masks i 0)) * getD ns i 0)))
 
 -- the counter of exclusion i is put, and those behind it are left
 pub counters-goes :
-    {l m b whole : List ℕ} {at next r : ℕ} (w : ℕ) (masks rooms : List ℕ) (count i a n more : ℕ)
-    → Puts m next (linesOf w (counter n a (variablesIn (getD masks i 0)))) b r → Along l at whole (linesOf w (counters masks rooms (count - i) i a)) m next
-    → i < count → n ≡ getD rooms i 0 → more ≡ length (variablesIn (getD masks i 0)) * n
-    → Along l at whole (linesOf w (counters masks rooms (count - (i + 1)) (i + 1) (a + more))) b r
-counters-goes w masks rooms count i a n more p s h en e = along-goes (counters-next w masks rooms count i a n more h en e) s p
+    {l m b whole : List ℕ} {at next r : ℕ} (w : ℕ) (masks ns : List ℕ) (count i a n more : ℕ)
+    → Puts m next (linesOf w (counter n a (variablesIn (getD masks i 0)))) b r → Along l at whole (linesOf w (counters masks ns (count - i) i a)) m next
+    → i < count → n ≡ getD ns i 0 → more ≡ length (variablesIn (getD masks i 0)) * n
+    → Along l at whole (linesOf w (counters masks ns (count - (i + 1)) (i + 1) (a + more))) b r
+counters-goes w masks ns count i a n more p s h en e = along-goes (counters-next w masks ns count i a n more h en e) s p
 
-pub counters-start : (l : List ℕ) (at w : ℕ) (masks rooms : List ℕ) (count a : ℕ)
-    → Along l at (linesOf w (counters masks rooms count 0 a)) (linesOf w (counters masks rooms (count - 0) 0 a)) l at
-counters-start l at w masks rooms count a = rw sub-zero (along-starts _ _ _)
+pub counters-start : (l : List ℕ) (at w : ℕ) (masks ns : List ℕ) (count a : ℕ)
+    → Along l at (linesOf w (counters masks ns count 0 a)) (linesOf w (counters masks ns (count - 0) 0 a)) l at
+counters-start l at w masks ns count a = rw sub-zero (along-starts _ _ _)
 
-pub counters-none : (w : ℕ) (masks rooms : List ℕ) (count i a : ℕ) → count ≤ i → [] ≡ linesOf w (counters masks rooms (count - i) i a)
+pub counters-none : (w : ℕ) (masks ns : List ℕ) (count i a : ℕ) → count ≤ i → [] ≡ linesOf w (counters masks ns (count - i) i a)
 unfolding counters linesOf
-counters-none w masks rooms count i a h = let s : count - i ≡ 0 = omega arith in rw (s, counters)
+counters-none w masks ns count i a h = let s : count - i ≡ 0 = omega arith in rw (s, counters)

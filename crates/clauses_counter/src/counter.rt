@@ -10,7 +10,7 @@ ghost use Rattle.clauses_counter.specs.Counters.{counters};
 use clauses_lines::lines::put_both_imply;
 use clauses_lines::lines::put_implies;
 use clauses_lines::lines::put_must_not;
-use query_rooms::exclusions::Reduced;
+use query_reduced::exclusions::Reduced;
 
 // Puts that what the row behind a counts, the next row counts too.
 fn put_keeping(out: &mut [u8], at: usize, w: usize, n: usize, a: usize) -> usize
@@ -80,7 +80,7 @@ fn put_counter(out: &mut [u8], at: usize, w: usize, n: usize, a: usize, members:
     put_rows(out, next, w, n, a, sets::without(members, r))
 }
 
-// A room as a number.
+// What is left of n, as a size.
 pub fn wide(n: u32) -> usize
     ensures { λ r. ⌜ (r ≡ n) × (r ≤ 4294967295) ⌝ }
 {
@@ -98,16 +98,16 @@ pub fn helpers(n: usize, members: u64) -> usize
 // Puts the counters of the reduced exclusions, their helpers behind a.
 pub fn put_counters(out: &mut [u8], at: usize, w: usize, a: usize, x: Reduced) -> usize
     requires { ⌜ (x .count ≤ 32) × (a ≤ 1125899906842624) ⌝ }
-    ensures { λ r. ⌜ Puts (now (out .entry)) at (linesOf w (counters (x .masks) (x .rooms) (x .count) 0 a)) (now (out .exit)) r ⌝ }
+    ensures { λ r. ⌜ Puts (now (out .entry)) at (linesOf w (counters (x .masks) (x .ns) (x .count) 0 a)) (now (out .exit)) r ⌝ }
 {
     let masks = x.masks;
-    let rooms = x.rooms;
+    let ns = x.ns;
     let count = x.count;
     let mut next = at;
     let mut behind = a;
     let mut i: usize = 0;
     while i < count {
-        let n = wide(rooms[i]);
+        let n = wide(ns[i]);
         let members = masks[i];
         next = put_counter(out, next, w, n, behind, members);
         behind += helpers(n, members);

@@ -17,8 +17,8 @@ use Rattle.sets.specs.Members.{without, Lowest}
 use Rattle.sets.specs.Words.{value, joined}
 use Rattle.sets.proofs.Taken.{without-lt, without-gone, without-other, count-without}
 use Rattle.query.specs.Carry.{Turned}
-use Rattle.query_rooms.specs.Rooms.{allBelow}
-use Rattle.query_rooms.proofs.RoomLaws.{below-at, every}
+use Rattle.query_reduced.specs.Met.{allBelow}
+use Rattle.query_reduced.proofs.MetLaws.{below-at, every}
 use Rattle.clauses_bytes.specs.Putting.{Puts}
 use Rattle.clauses_lines.specs.Lines.{lineOf, linesOf}
 use Rattle.clauses_hard.specs.Parts.{rolesIn, Columns, carrier, carriersTo, carriedOne}

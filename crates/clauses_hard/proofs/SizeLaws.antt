@@ -78,37 +78,37 @@ counter-is : (n a s : ℕ) → length (counter n a (variablesIn s)) ≡ counterS
 unfolding counterSize
 counter-is n a s = tallied-is n a (variablesIn s) ∙ rw (variables-length s)
 
-module _ (masks rooms : List ℕ) where
+module _ (masks ns : List ℕ) where
   abbrev size-at : ℕ → ℕ
-  size-at i = counterSize (getD rooms i 0) (getD masks i 0)
+  size-at i = counterSize (getD ns i 0) (getD masks i 0)
 
   counters-first :
-      (k i a : ℕ) → length (counters masks rooms (suc k) i a)
-      ≡ size-at i + length (counters masks rooms k (suc i) (a + length (variablesIn (getD masks i 0)) * getD rooms i 0))
+      (k i a : ℕ) → length (counters masks ns (suc k) i a)
+      ≡ size-at i + length (counters masks ns k (suc i) (a + length (variablesIn (getD masks i 0)) * getD ns i 0))
   unfolding counters
   counters-first k i a =
-      length-append (counter (getD rooms i 0) a (variablesIn (getD masks i 0)))
-      (counters masks rooms k (suc i) (a + length (variablesIn (getD masks i 0)) * getD rooms i 0))
-      ∙ rw (counter-is (getD rooms i 0) a (getD masks i 0))
+      length-append (counter (getD ns i 0) a (variablesIn (getD masks i 0)))
+      (counters masks ns k (suc i) (a + length (variablesIn (getD masks i 0)) * getD ns i 0))
+      ∙ rw (counter-is (getD ns i 0) a (getD masks i 0))
 
   sum-suc : (f : ℕ → ℕ) (n : ℕ) → sumTo f (suc n) ≡ sumTo f n + f n
   unfolding sumTo
   sum-suc f n = refl
 
-  counters-from : (k i a : ℕ) → sumTo size-at i + length (counters masks rooms k i a) ≡ sumTo size-at (i + k)
+  counters-from : (k i a : ℕ) → sumTo size-at i + length (counters masks ns k i a) ≡ sumTo size-at (i + k)
   unfolding counters
   counters-from zero i a = let e : i + 0 ≡ i = omega arith in rw e (omega arith)
   counters-from (suc k) i a =
       let e : i + suc k ≡ suc i + k = omega arith in
-      let f = counters-from k (suc i) (a + length (variablesIn (getD masks i 0)) * getD rooms i 0) in
+      let f = counters-from k (suc i) (a + length (variablesIn (getD masks i 0)) * getD ns i 0) in
       rw e (omega (arith, f, counters-first k i a, sum-suc size-at i))
 
-pub counters-length : (masks rooms : List ℕ) (k a : ℕ) → length (counters masks rooms k 0 a) ≡ countersSize masks rooms k
+pub counters-length : (masks ns : List ℕ) (k a : ℕ) → length (counters masks ns k 0 a) ≡ countersSize masks ns k
 unfolding countersSize sumTo
-counters-length masks rooms k a =
+counters-length masks ns k a =
     let e : 0 + k ≡ k = omega arith in
-    let f : 0 + length (counters masks rooms k 0 a) ≡ sumTo (size-at masks rooms) (0 + k) = counters-from masks rooms k 0 a in
-    omega (arith, f, ap (sumTo (size-at masks rooms)) e)
+    let f : 0 + length (counters masks ns k 0 a) ≡ sumTo (size-at masks ns) (0 + k) = counters-from masks ns k 0 a in
+    omega (arith, f, ap (sumTo (size-at masks ns)) e)
 
 -- ---- the other hard clauses
 
@@ -144,16 +144,16 @@ uppering-length R P s =
     listed-length (λ q. mustNot (R + q + 1)) P (λ q. not (has s q)) ∙ omega (arith, counted-not (has s) P)
 
 pub hard-length :
-    (R P s : ℕ) (row : ℕ → ℕ) (lower upper : ℕ) (masks rooms : List ℕ) (k : ℕ)
-    → length (hardBy R P s row lower upper masks rooms k) ≡ hardSize R P s row lower upper masks rooms k
+    (R P s : ℕ) (row : ℕ → ℕ) (lower upper : ℕ) (masks ns : List ℕ) (k : ℕ)
+    → length (hardBy R P s row lower upper masks ns k) ≡ hardSize R P s row lower upper masks ns k
 unfolding hardBy hardSize carryingTo carryingSize carriedTo
-hard-length R P s row lower upper masks rooms k =
+hard-length R P s row lower upper masks ns k =
     let a = barringTo R s in
     let b = listTo R (λ r. carryingRow R P (row r) (r + 1)) in
     let c = listTo P (λ q. carriedOne R row q ∷ []) in
     let d = lowerBoundTo R P lower in
     let e = upperBoundTo R P upper in
-    let f = counters masks rooms k 0 (R + P) in
+    let f = counters masks ns k 0 (R + P) in
     length-append a (b ++ (c ++ ((d ++ e) ++ f)))
     ∙ omega (
       arith,
@@ -166,5 +166,5 @@ hard-length R P s row lower upper masks rooms k =
       length-singles P (carriedOne R row),
       lowering-length R P lower,
       uppering-length R P upper,
-      counters-length masks rooms k (R + P),
+      counters-length masks ns k (R + P),
     )

@@ -69,6 +69,6 @@ upperBoundTo R P set = listTo P (λ q. upper R set q)
 -- ---- all hard clauses
 
 unfoldable pub hardBy : ℕ → ℕ → ℕ → (ℕ → ℕ) → ℕ → ℕ → List ℕ → List ℕ → ℕ → List Clause
-hardBy R P s row lower upper masks rooms k =
+hardBy R P s row lower upper masks ns k =
     barringTo R s
-    ++ (carryingTo R P row ++ (carriedTo R P row ++ ((lowerBoundTo R P lower ++ upperBoundTo R P upper) ++ counters masks rooms k 0 (R + P))))
+    ++ (carryingTo R P row ++ (carriedTo R P row ++ ((lowerBoundTo R P lower ++ upperBoundTo R P upper) ++ counters masks ns k 0 (R + P))))

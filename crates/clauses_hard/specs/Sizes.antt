@@ -24,10 +24,10 @@ counterSize n s = tallied (count 64 s) n
 
 -- how many helpers and clauses the exclusions have
 unfoldable pub helpersTo : List ℕ → List ℕ → ℕ → ℕ
-helpersTo masks rooms k = sumTo (λ i. length (variablesIn (getD masks i 0)) * getD rooms i 0) k
+helpersTo masks ns k = sumTo (λ i. length (variablesIn (getD masks i 0)) * getD ns i 0) k
 
 unfoldable pub countersSize : List ℕ → List ℕ → ℕ → ℕ
-countersSize masks rooms k = sumTo (λ i. counterSize (getD rooms i 0) (getD masks i 0)) k
+countersSize masks ns k = sumTo (λ i. counterSize (getD ns i 0) (getD masks i 0)) k
 
 -- how many clauses say what roles carry
 unfoldable pub carryingSize : ℕ → ℕ → (ℕ → ℕ) → ℕ
@@ -35,5 +35,5 @@ carryingSize R P row = sumTo (λ r. count P (row r)) R
 
 -- how many hard clauses there are
 unfoldable pub hardSize : ℕ → ℕ → ℕ → (ℕ → ℕ) → ℕ → ℕ → List ℕ → List ℕ → ℕ → ℕ
-hardSize R P s row lower upper masks rooms k =
-    (R - count R s) + carryingSize R P row + P + count P lower + (P - count P upper) + countersSize masks rooms k
+hardSize R P s row lower upper masks ns k =
+    (R - count R s) + carryingSize R P row + P + count P lower + (P - count P upper) + countersSize masks ns k

@@ -9,7 +9,7 @@ use crate::members::permissions_below;
 use crate::question::Question;
 use clauses_counter::counter::helpers;
 use clauses_counter::counter::wide;
-use query_rooms::exclusions::Reduced;
+use query_reduced::exclusions::Reduced;
 
 // How many clauses say what roles carry.
 fn carrying_size(rows: &[[u64; 4]; 64], roles: usize, permissions: usize) -> usize
@@ -28,15 +28,15 @@ fn carrying_size(rows: &[[u64; 4]; 64], roles: usize, permissions: usize) -> usi
 // How many helpers the exclusions have.
 pub fn helpers_of(x: Reduced) -> usize
     requires { ⌜ x .count ≤ 32 ⌝ }
-    ensures { λ r. ⌜ (r ≡ helpersTo (x .masks) (x .rooms) (x .count)) × (r ≤ 8796093020160) ⌝ }
+    ensures { λ r. ⌜ (r ≡ helpersTo (x .masks) (x .ns) (x .count)) × (r ≤ 8796093020160) ⌝ }
 {
     let masks = x.masks;
-    let rooms = x.rooms;
+    let ns = x.ns;
     let count = x.count;
     let mut total: usize = 0;
     let mut i: usize = 0;
     while i < count {
-        total += helpers(wide(rooms[i]), masks[i]);
+        total += helpers(wide(ns[i]), masks[i]);
         i += 1;
     }
     total
@@ -75,15 +75,15 @@ fn counter_size(n: usize, members: u64) -> usize
 // How many clauses the exclusions have.
 fn counters_size(x: Reduced) -> usize
     requires { ⌜ x .count ≤ 32 ⌝ }
-    ensures { λ r. ⌜ (r ≡ countersSize (x .masks) (x .rooms) (x .count)) × (r ≤ 17592186040384) ⌝ }
+    ensures { λ r. ⌜ (r ≡ countersSize (x .masks) (x .ns) (x .count)) × (r ≤ 17592186040384) ⌝ }
 {
     let masks = x.masks;
-    let rooms = x.rooms;
+    let ns = x.ns;
     let count = x.count;
     let mut total: usize = 0;
     let mut i: usize = 0;
     while i < count {
-        total += counter_size(wide(rooms[i]), masks[i]);
+        total += counter_size(wide(ns[i]), masks[i]);
         i += 1;
     }
     total
@@ -93,7 +93,7 @@ fn counters_size(x: Reduced) -> usize
 pub fn hard_size(rows: &[[u64; 4]; 64], q: Question, x: Reduced) -> usize
     requires { ⌜ (q .roles ≤ 64) × (q .permissions ≤ 256) × (x .count ≤ 32) ⌝ }
     ensures { λ n. ⌜ (n ≡ hardSize (q .roles) (q .permissions) (q .authorized) (rowsOf (now (rows .entry))) (value (q .lower)) (value (q .upper))
-        (x .masks) (x .rooms) (x .count)) × (n ≤ 35184372088832) ⌝ }
+        (x .masks) (x .ns) (x .count)) × (n ≤ 35184372088832) ⌝ }
 {
     let roles = q.roles;
     let permissions = q.permissions;

@@ -22,7 +22,7 @@ use clauses_soft::sizes::soft_size;
 use clauses_soft::sizes::top_weight;
 use clauses_soft::soft::put_wanting_permissions;
 use clauses_soft::soft::put_wanting_roles;
-use query_rooms::exclusions::Reduced;
+use query_reduced::exclusions::Reduced;
 
 // ---- the head
 

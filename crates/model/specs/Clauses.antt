@@ -10,7 +10,7 @@ use Rattle.model.specs.declared.Exclusion.{Exclusion}
 use Rattle.model.specs.declared.Line.{Line}
 use Rattle.model.specs.Sets.{has}
 use Rattle.model.specs.Policy.{Meaning}
-use Rattle.model.specs.Reduced.{stays, maskOf, roomOf}
+use Rattle.model.specs.Reduced.{stays, maskOf, reducedN}
 
 -- ---- clauses
 
@@ -100,8 +100,8 @@ unfoldable pub uncounted : Exclusion → ℕ → List ℕ
 uncounted x base = variablesIn (maskOf (x .members) base)
 
 -- fewer than this many of them may be chosen
-unfoldable pub room : Exclusion → ℕ → ℕ
-room x base = roomOf (x .members) (x .n) base
+unfoldable pub nLeft : Exclusion → ℕ → ℕ
+nLeft x base = reducedN (x .members) (x .n) base
 
 -- The counter of the variables x(1), .., x(e) up to t, as docs/CLAUSES.md has it: helper (i, j), for j from 1 to t,
 -- says that at least j of x(1), .., x(i) are true. Where row i of helpers stands behind the number a, (i, j) is
@@ -133,13 +133,13 @@ unfoldable pub counter : ℕ → ℕ → List ℕ → List Clause
 counter t a [] = []
 counter t a (x ∷ xs) = gives x (helper a 1) ∷ rows t a xs
 
--- one exclusion, its helpers behind a: t is its room, x(1), .., x(e) are its members that are not counted
+-- one exclusion, its helpers behind a: t is what is left of n, x(1), .., x(e) are its members that are not counted
 unfoldable pub excluding : Line → ℕ → ℕ → Exclusion → List Clause
-excluding l k a x = let base = stays l k (x .kind) in counter (room x base) a (uncounted x base)
+excluding l k a x = let base = stays l k (x .kind) in counter (nLeft x base) a (uncounted x base)
 
 -- how many helpers it has
 unfoldable pub helpers : Line → ℕ → Exclusion → ℕ
-helpers l k x = let base = stays l k (x .kind) in length (uncounted x base) * room x base
+helpers l k x = let base = stays l k (x .kind) in length (uncounted x base) * nLeft x base
 
 -- exclusion by exclusion, the helpers of the next behind those of the one before
 unfoldable pub excludingAll : Line → ℕ → ℕ → List Exclusion → List Clause

@@ -9,9 +9,9 @@ use Rattle.model.specs.Words.{headWord, assignWord, grantWord, seniorWor
 use Rattle.model.specs.Line.{lineSize, readSessions, readLine, writeSessions, writeLine, emptySession, sessionAt, isOpen, activeIn, counted, exclusionsMet, sessionSound, sessionsSound, sound, lowestClosed, opening, closing, putIn, holding, others}
 use Rattle.model.specs.Limits.{nobody, elsewhere, barred, unbarred}
 use Rattle.model.specs.Choice.{carriedBy, admissible, cost, permissionCost, roleCost, better, bestOf, best, choose}
-use Rattle.model.specs.Reduced.{stay, maskOf, roomOf}
+use Rattle.model.specs.Reduced.{stay, maskOf, reducedN}
 use Rattle.model.specs.Obstacle.{lacking, carriersOf, fitting, lacks, excludingOnly, left, blocking, blocks, obstacleOf}
-use Rattle.model.specs.Clauses.{listTo, when, barring, carries, carrying, carriers, carried, bounding, variablesIn, uncounted, room, keeping, adding, row, rows, counter, excluding, helpers, excludingAll, hard, wanting, soft, weightOf, top}
+use Rattle.model.specs.Clauses.{listTo, when, barring, carries, carrying, carriers, carried, bounding, variablesIn, uncounted, nLeft, keeping, adding, row, rows, counter, excluding, helpers, excludingAll, hard, wanting, soft, weightOf, top}
 use Rattle.model.specs.Dimacs.{ascii, figure, digitsTo, decimal, literalText, literalsText, clauseText, clausesText, headText, helpersOf, variablesOf, weighing, clausesOf, textOf}
 use Rattle.model.specs.Session.{shortAim, sessionOf, queryOf, isText, refuse, done, given, tell, wrote, refusalNumber, canGive, chosen, obstacleFor, textFor, isNone, carrier, twoRoles, withGranter, explanation, applies, asked, explained, obstructed, perform, unless, rule, isAsk, numberAfter, otherFirst, refusalExtra}
 use Rattle.model.specs.Judgement.{lowestOnLoop, lowestOverReach, refusing, judgeMeaning, judge}
@@ -31,8 +31,8 @@ unfolding pick any all first lowest ifBelow isSome sameList sameLists has within
     asked explained perform unless rule lowestOnLoop lowestOverReach refusing judgeMeaning judge seniorsOf level loopLength chainDown
     shownChain loopFrom loopOn loopBy loopCall lineAt withLine ruled stepOn stepBy step run openBy closeBy askBy shortAskBy showBy explainBy
     imageBytes sumOf endWord ended seniorWord checkNumber returned filledWith answered headWord assignWord grantWord exclusionWord
-    memberWord limitWord resized lineFault moveAnswer resizedLines writtenIf moveOn moveBy move others stay maskOf roomOf listTo when barring carries
-    carrying carriers carried bounding variablesIn uncounted room keeping adding row rows counter excluding helpers excludingAll hard
+    memberWord limitWord resized lineFault moveAnswer resizedLines writtenIf moveOn moveBy move others stay maskOf reducedN listTo when barring carries
+    carrying carriers carried bounding variablesIn uncounted nLeft keeping adding row rows counter excluding helpers excludingAll hard
     wanting soft weightOf top ascii figure digitsTo decimal literalText literalsText clauseText clausesText headText helpersOf variablesOf
     weighing clausesOf textOf isText wrote textFor clausesBy written sumTo lesser limiting limited hasLimits holding isAsk numberAfter
     otherFirst refusalExtra lineOf holdingOf heldByOthers unsoundOther othersOf told nobody elsewhere barred unbarred isOwn kindNumber before

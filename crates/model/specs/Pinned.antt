@@ -23,7 +23,7 @@ use Rattle.model.specs.Image.{user}
 use Rattle.model.specs.Policy.{Policy, Meaning, Agree, policyOf, tableOf, kindNumber, sorted, belowTable, reached, carriedTable, granter, authorized, meaning, met, limited, hasLimits, onlyFor, sameExclusion, excludes}
 use Rattle.model.specs.Line.{writeLine}
 use Rattle.model.specs.Limits.{Others, nobody}
-use Rattle.model.specs.Reduced.{stay, stays, maskOf, roomOf}
+use Rattle.model.specs.Reduced.{stay, stays, maskOf, reducedN}
 use Rattle.model.specs.Clauses.{variablesIn, holds, fails, must, mustNot, gives, give, hard}
 use Rattle.model.specs.Dimacs.{ascii, decimal, textOf}
 use Rattle.model.specs.Session.{Operation, Result, open-session, close-session, ask, short-ask, show, explain, obstacle, clauses, isAsk, isText, putsIn, sessionOf, refuse, done, given, wrote, textFor}
@@ -236,7 +236,7 @@ pub stays-at-a-session : map (stays both-open 0) kinds ≡ (0 ∷ 4 ∷ 3 ∷ 15
 unfolding computing
 stays-at-a-session = refl
 
-pub reduced : maskOf 7 9 ∷ roomOf 7 3 9 ∷ roomOf (2 ^ 64 + 2 ^ 63) 3 (2 ^ 64 + 2 ^ 63) ∷ [] ≡ (6 ∷ 2 ∷ 2 ∷ [])
+pub reduced : maskOf 7 9 ∷ reducedN 7 3 9 ∷ reducedN (2 ^ 64 + 2 ^ 63) 3 (2 ^ 64 + 2 ^ 63) ∷ [] ≡ (6 ∷ 2 ∷ 2 ∷ [])
 unfolding computing
 reduced = refl
 

@@ -26,5 +26,5 @@ unfoldable pub maskOf : ℕ → ℕ → ℕ
 maskOf members base = bitXor members (bitAnd members base)
 
 -- one more than the number of them that may still join, 0 where n is reached
-unfoldable pub roomOf : ℕ → ℕ → ℕ → ℕ
-roomOf members n base = n - count 64 (inter members base)
+unfoldable pub reducedN : ℕ → ℕ → ℕ → ℕ
+reducedN members n base = n - count 64 (inter members base)

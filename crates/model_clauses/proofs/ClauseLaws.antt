@@ -194,7 +194,7 @@ length-singles zero f = refl
 length-singles (suc n) f = length-append (listTo n (λ j. f j ∷ [])) (f n ∷ []) ∙ omega (arith, length-singles n f)
 
 module _ (n N : ℕ) (small : n ≤ N) (positive : 1 ≤ N) where
-  -- a row has at most 2n clauses, where there is room at all
+  -- a row has at most 2n clauses, where n is at least 1
   row-length : (a x : ℕ) → length (row n a x) ≤ 2 * N
   unfolding row keeping adding
   row-length a x =

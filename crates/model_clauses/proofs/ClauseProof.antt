@@ -22,8 +22,8 @@ use Rattle.model.specs.Line.{sessionAt, activeIn, others, counted, exclusionsMe
 use Rattle.model.specs.Conditions.{countedAfter, MetAfter}
 use Rattle.model.specs.Choice.{carriedBy, admissible}
 use Rattle.model.specs.Ranges.{Each, ExclusionInRange}
-use Rattle.model.specs.Reduced.{stay, stays, maskOf, roomOf}
-use Rattle.model.specs.Clauses.{Clause, holds, fails, must, mustNot, listTo, when, roleVariable, permissionVariable, lastPlain, barring, carries, carrying, carriers, carried, bounding, variablesIn, uncounted, room, counter, excluding, helpers, excludingAll, hard}
+use Rattle.model.specs.Reduced.{stay, stays, maskOf, reducedN}
+use Rattle.model.specs.Clauses.{Clause, holds, fails, must, mustNot, listTo, when, roleVariable, permissionVariable, lastPlain, barring, carries, carrying, carriers, carried, bounding, variablesIn, uncounted, nLeft, counter, excluding, helpers, excludingAll, hard}
 use Rattle.model_clauses.specs.Satisfied.{Valuation, makes, satisfies, satisfiesAll, named, Says, HardIs, FewClauses}
 use borrow.Table.Steps.{cases}
 use Rattle.model_laws.proofs.Eachs.{each-append, each-mem, mem-each}
@@ -125,10 +125,10 @@ module _ (x : Exclusion) (base roles a : ℕ) (narrow : x .members < 2 ^ roles) 
 
 -- ---- few clauses
 pub few-clauses : (l : Line) (k a roles : ℕ) (x : Exclusion) → ExclusionInRange roles x → FewClauses l k a x
-unfolding excluding room roomOf
+unfolding excluding nLeft reducedN
 few-clauses l k a roles x h =
     let base = stays l k (x .kind) in
-    let c = counter-length (room x base) (x .n) (omega arith) (let q = h .n .0 in omega arith) a (uncounted x base) in
+    let c = counter-length (nLeft x base) (x .n) (omega arith) (let q = h .n .0 in omega arith) a (uncounted x base) in
     let m = mul-le-mul-right (x .n) (uncounted-length x base) in
     omega arith
 
@@ -149,17 +149,17 @@ stays-counted l k SsHmer = within-refl (sessionAt l k .history)
 stays-counted l k MsHmer = within-refl (l .history)
 
 module _ (l : Line) (k : ℕ) (x : Exclusion) where
-  -- an exclusion that is met at session k leaves room
-  pub some-room : Met (counted l (sessionAt l k)) x → 1 ≤ room x (stays l k (x .kind))
-  unfolding room roomOf
-  some-room h =
+  -- of an exclusion that is met at session k at least 1 is left of n
+  pub some-left : Met (counted l (sessionAt l k)) x → 1 ≤ nLeft x (stays l k (x .kind))
+  unfolding nLeft reducedN
+  some-left h =
       omega (
         arith,
         count-within 64 (inter (x .members) (stays l k (x .kind))) (inter (x .members) (counted l (sessionAt l k) (x .kind)))
             (inter-within (x .members) (stays l k (x .kind)) (counted l (sessionAt l k) (x .kind)) (stays-counted l k (x .kind))),
       )
 
-  -- once s is put in it is met exactly if fewer of the uncounted members than the room are in s
+  -- once s is put in it is met exactly if fewer of the uncounted members than are left of n are in s
   module _ (v : Valuation) (roles s : ℕ) (narrow : x .members < 2 ^ roles) (say : (r : ℕ) → r < roles → v (roleVariable r) ≡ has s r) where
     counted-apart : count 64 (inter (x .members) (countedAfter l k s k (x .kind)))
         ≡ count 64 (inter (x .members) (stays l k (x .kind))) + chosen v (uncounted x (stays l k (x .kind)))
@@ -168,9 +168,9 @@ module _ (l : Line) (k : ℕ) (x : Exclusion) where
         ∙ apart (x .members) (stays l k (x .kind)) s v 64 (λ r q e. say r (has-below roles (x .members) r narrow e))
         ∙ ap (λ (ys : List ℕ). count 64 (inter (x .members) (stays l k (x .kind))) + chosen v ys) (sym (uncounted-is x (stays l k (x .kind))))
 
-    met-room : MetAfter l k s k x ↔ (chosen v (uncounted x (stays l k (x .kind))) < room x (stays l k (x .kind)))
-    unfolding room roomOf
-    met-room = (λ h. omega (arith, counted-apart), λ h. omega (arith, counted-apart))
+    met-left : MetAfter l k s k x ↔ (chosen v (uncounted x (stays l k (x .kind))) < nLeft x (stays l k (x .kind)))
+    unfolding nLeft reducedN
+    met-left = (λ h. omega (arith, counted-apart), λ h. omega (arith, counted-apart))
 
 -- ---- all exclusions
 
@@ -178,39 +178,39 @@ module _ (l : Line) (k : ℕ) (x : Exclusion) where
 filledAll : Valuation → Line → ℕ → ℕ → List Exclusion → Valuation
 filledAll v l k a [] = v
 filledAll v l k a (x ∷ xs) =
-    filledAll (filled v (room x (stays l k (x .kind))) a (uncounted x (stays l k (x .kind)))) l k (a + helpers l k x) xs
+    filledAll (filled v (nLeft x (stays l k (x .kind))) a (uncounted x (stays l k (x .kind)))) l k (a + helpers l k x) xs
 
 filledAll-same : (v : Valuation) (l : Line) (k a : ℕ) (xs : List Exclusion) → SameTo a v (filledAll v l k a xs)
 unfolding filledAll
 filledAll-same v l k a [] y q = refl
 filledAll-same v l k a (x ∷ xs) y q =
-    filledAll-same (filled v (room x (stays l k (x .kind))) a (uncounted x (stays l k (x .kind)))) l k (a + helpers l k x) xs y (omega arith)
-    ∙ filled-same v (room x (stays l k (x .kind))) a (uncounted x (stays l k (x .kind))) y q
+    filledAll-same (filled v (nLeft x (stays l k (x .kind))) a (uncounted x (stays l k (x .kind)))) l k (a + helpers l k x) xs y (omega arith)
+    ∙ filled-same v (nLeft x (stays l k (x .kind))) a (uncounted x (stays l k (x .kind))) y q
 
--- the exclusion's uncounted members are variables up to a, and fewer than its room, which is some, are true
-pub record Roomy (v : Valuation) (l : Line) (k a : ℕ) (x : Exclusion) : Type 0 where
+-- the exclusion's uncounted members are variables up to a, and fewer than are left of n, at least 1, are true
+pub record Leaves (v : Valuation) (l : Line) (k a : ℕ) (x : Exclusion) : Type 0 where
   pub up : UpTo a (uncounted x (stays l k (x .kind)))
-  pub some : 1 ≤ room x (stays l k (x .kind))
-  pub fewer : chosen v (uncounted x (stays l k (x .kind))) < room x (stays l k (x .kind))
+  pub some : 1 ≤ nLeft x (stays l k (x .kind))
+  pub fewer : chosen v (uncounted x (stays l k (x .kind))) < nLeft x (stays l k (x .kind))
 
-roomy-same : (v w : Valuation) (l : Line) (k a b : ℕ) → SameTo a v w → a ≤ b → (xs : List Exclusion) → Each (Roomy v l k a) xs → Each (Roomy w l k b) xs
-roomy-same v w l k a b s q [] h = tt
-roomy-same v w l k a b s q (x ∷ xs) h = (
+leaves-same : (v w : Valuation) (l : Line) (k a b : ℕ) → SameTo a v w → a ≤ b → (xs : List Exclusion) → Each (Leaves v l k a) xs → Each (Leaves w l k b) xs
+leaves-same v w l k a b s q [] h = tt
+leaves-same v w l k a b s q (x ∷ xs) h = (
   record {
     up = up-more a b q (uncounted x (stays l k (x .kind))) (h .0 .up);
     some = h .0 .some;
-    fewer = subst (λ (n : ℕ). n < room x (stays l k (x .kind))) (sym (chosen-same a v w s (uncounted x (stays l k (x .kind))) (h .0 .up))) (h .0 .fewer);
+    fewer = subst (λ (n : ℕ). n < nLeft x (stays l k (x .kind))) (sym (chosen-same a v w s (uncounted x (stays l k (x .kind))) (h .0 .up))) (h .0 .fewer);
   },
-  roomy-same v w l k a b s q xs (h .1),
+  leaves-same v w l k a b s q xs (h .1),
 )
 
-filledAll-satisfies : (v : Valuation) (l : Line) (k a : ℕ) (xs : List Exclusion) → Each (Roomy v l k a) xs
+filledAll-satisfies : (v : Valuation) (l : Line) (k a : ℕ) (xs : List Exclusion) → Each (Leaves v l k a) xs
     → satisfiesAll (filledAll v l k a xs) (excludingAll l k a xs) ≡ true
 unfolding satisfiesAll filledAll excludingAll excluding helpers all
 filledAll-satisfies v l k a [] h = refl
 filledAll-satisfies v l k a (x ∷ xs) h =
     let base = stays l k (x .kind) in
-    let n = room x base in
+    let n = nLeft x base in
     let ms = uncounted x base in
     let w = filled v n a ms in
     let z = filledAll w l k (a + length ms * n) xs in
@@ -218,20 +218,20 @@ filledAll-satisfies v l k a (x ∷ xs) h =
     all-join (satisfies z) (counter n a ms) (excludingAll l k (a + length ms * n) xs)
     (counted-counter z n (h .0 .some) a ms (counted-same w z n a ms (h .0 .up) same (filled-counted v n a ms (h .0 .up)))
     (subst (λ (c : ℕ). c < n) (sym (chosen-same a v z (λ y q. same y (omega arith) ∙ filled-same v n a ms y q) ms (h .0 .up))) (h .0 .fewer)))
-    (filledAll-satisfies w l k (a + length ms * n) xs (roomy-same v w l k a (a + length ms * n) (filled-same v n a ms) (omega arith) xs (h .1)))
+    (filledAll-satisfies w l k (a + length ms * n) xs (leaves-same v w l k a (a + length ms * n) (filled-same v n a ms) (omega arith) xs (h .1)))
 
--- whoever satisfies the clauses of all exclusions has fewer than its room of the uncounted members of each true
+-- whoever satisfies the clauses of all exclusions has fewer of the uncounted members of each true than are left of n
 all-fewer : (v : Valuation) (l : Line) (k a : ℕ) (xs : List Exclusion) → satisfiesAll v (excludingAll l k a xs) ≡ true
-    → Each (λ (x : Exclusion). 1 ≤ room x (stays l k (x .kind))) xs
-    → Each (λ (x : Exclusion). chosen v (uncounted x (stays l k (x .kind))) < room x (stays l k (x .kind))) xs
+    → Each (λ (x : Exclusion). 1 ≤ nLeft x (stays l k (x .kind))) xs
+    → Each (λ (x : Exclusion). chosen v (uncounted x (stays l k (x .kind))) < nLeft x (stays l k (x .kind))) xs
 unfolding satisfiesAll excludingAll excluding
 all-fewer v l k a [] e h = tt
 all-fewer v l k a (x ∷ xs) e h =
     let base = stays l k (x .kind) in (
-      counter-counts v (room x base) (h .0) a (uncounted x base)
-          (all-front (satisfies v) (counter (room x base) a (uncounted x base)) (excludingAll l k (a + helpers l k x) xs) e),
+      counter-counts v (nLeft x base) (h .0) a (uncounted x base)
+          (all-front (satisfies v) (counter (nLeft x base) a (uncounted x base)) (excludingAll l k (a + helpers l k x) xs) e),
       all-fewer v l k (a + helpers l k x) xs
-          (all-back (satisfies v) (counter (room x base) a (uncounted x base)) (excludingAll l k (a + helpers l k x) xs) e) (h .1),
+          (all-back (satisfies v) (counter (nLeft x base) a (uncounted x base)) (excludingAll l k (a + helpers l k x) xs) e) (h .1),
     )
 
 -- ---- sets by a test
@@ -346,10 +346,10 @@ module _ (p : Meaning) (l : Line) (k lower upper : ℕ) (v : Valuation) (e : sat
         }
 
     module _ (inside : k < length (l .sessions)) (met : exclusionsMet p l ≡ true) (low : lower < 2 ^ p .permissions) where
-      all-room : Each (λ (x : Exclusion). 1 ≤ room x (stays l k (x .kind))) (p .exclusions)
-      all-room =
-          mem-each (λ (x : Exclusion). 1 ≤ room x (stays l k (x .kind))) (p .exclusions) (λ x m.
-          some-room l k x (range .met-now l met x m k inside))
+      all-left : Each (λ (x : Exclusion). 1 ≤ nLeft x (stays l k (x .kind))) (p .exclusions)
+      all-left =
+          mem-each (λ (x : Exclusion). 1 ≤ nLeft x (stays l k (x .kind))) (p .exclusions) (λ x m.
+          some-left l k x (range .met-now l met x m k inside))
 
       is-solution : Solved p l k lower upper (named p v)
       is-solution =
@@ -363,10 +363,10 @@ module _ (p : Meaning) (l : Line) (k lower upper : ℕ) (v : Valuation) (e : sat
                 let i = carries-below p range (w .0) q (w .2) in
                 upper-only q i (says-named .permissions q i ∙ h);
             exclusions = λ x m.
-                met-room l k x v (p .roles) (named p v) (each-mem (ExclusionInRange (p .roles)) (p .exclusions) (range .exclusions) x m .members)
+                met-left l k x v (p .roles) (named p v) (each-mem (ExclusionInRange (p .roles)) (p .exclusions) (range .exclusions) x m .members)
                 (says-named .roles) .1
-                (each-mem (λ (x : Exclusion). chosen v (uncounted x (stays l k (x .kind))) < room x (stays l k (x .kind))) (p .exclusions)
-                (all-fewer v l k (lastPlain p) (p .exclusions) (unfold satisfiesAll in (parts .4)) all-room) x m);
+                (each-mem (λ (x : Exclusion). chosen v (uncounted x (stays l k (x .kind))) < nLeft x (stays l k (x .kind))) (p .exclusions)
+                (all-fewer v l k (lastPlain p) (p .exclusions) (unfold satisfiesAll in (parts .4)) all-left) x m);
           }
 
       -- and the set is admissible
@@ -448,14 +448,14 @@ module _ (p : Meaning) (range : Meant p) (l : Line) (k lower upper : ℕ) (insid
     full-says =
         says-same p s (plain p s) full (filledAll-same (plain p s) l k (lastPlain p) (p .exclusions)) (plain-says p s)
 
-    roomy : Each (Roomy (plain p s) l k (lastPlain p)) (p .exclusions)
-    roomy =
-        mem-each (Roomy (plain p s) l k (lastPlain p)) (p .exclusions) (λ x m.
+    leaves : Each (Leaves (plain p s) l k (lastPlain p)) (p .exclusions)
+    leaves =
+        mem-each (Leaves (plain p s) l k (lastPlain p)) (p .exclusions) (λ x m.
         let narrow = each-mem (ExclusionInRange (p .roles)) (p .exclusions) (range .exclusions) x m .members in
         record {
           up = uncounted-up x (stays l k (x .kind)) (p .roles) (lastPlain p) narrow (omega arith);
-          some = some-room l k x (range .met-now l met x m k inside);
-          fewer = met-room l k x (plain p s) (p .roles) s narrow (plain-says p s .roles) .0 (c .exclusions x m);
+          some = some-left l k x (range .met-now l met x m k inside);
+          fewer = met-left l k x (plain p s) (p .roles) s narrow (plain-says p s .roles) .0 (c .exclusions x m);
         })
 
     full-satisfies : satisfiesAll full (hard p l k lower upper) ≡ true
@@ -467,7 +467,7 @@ module _ (p : Meaning) (range : Meant p) (l : Line) (k lower upper : ℕ) (insid
         (all-join f (carrying p) (carried p ++ (bounding p lower upper ++ x)) (says-carrying p range l k lower upper s c full full-says)
         (all-join f (carried p) (bounding p lower upper ++ x) (says-carried p range l k lower upper s c full full-says)
         (all-join f (bounding p lower upper) x (says-bounding p range l k lower upper s c full full-says)
-        (filledAll-satisfies (plain p s) l k (lastPlain p) (p .exclusions) roomy))))
+        (filledAll-satisfies (plain p s) l k (lastPlain p) (p .exclusions) leaves))))
 
     -- the set that it names is s: a member is a role of the user, and so below R
     full-named : named p full ≡ s

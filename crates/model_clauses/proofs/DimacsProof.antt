@@ -17,7 +17,7 @@ use Rattle.model.specs.Policy.{Meaning}
 use Rattle.model.specs.Line.{exclusionsMet}
 use Rattle.model.specs.Ranges.{Each, OneTo, ExclusionInRange}
 use Rattle.model.specs.Reduced.{stays}
-use Rattle.model.specs.Clauses.{Literal, holds, fails, Clause, must, mustNot, gives, give, when, roleVariable, permissionVariable, lastPlain, barring, carrying, carriers, carried, bounding, uncounted, room, keeping, adding, row, rows, counter, excluding, helpers, excludingAll, hard, Weighted, wanting, soft, top}
+use Rattle.model.specs.Clauses.{Literal, holds, fails, Clause, must, mustNot, gives, give, when, roleVariable, permissionVariable, lastPlain, barring, carrying, carriers, carried, bounding, uncounted, nLeft, keeping, adding, row, rows, counter, excluding, helpers, excludingAll, hard, Weighted, wanting, soft, top}
 use Rattle.model.specs.Dimacs.{ascii, figure, digitsTo, decimal, literalText, literalsText, clauseText, clausesText, headText, helpersOf, variablesOf, weighing, clausesOf, textOf}
 use Rattle.model_clauses.specs.Texts.{variableOf, numbered, lineCount, TextIs}
 use borrow.Table.Steps.{cases}
@@ -26,7 +26,7 @@ use Rattle.model_laws.proofs.UnionLaws.{has-below}
 use Rattle.model_clauses.proofs.ClauseLaws.{all-join, all-one, all-when, all-listTo}
 use Rattle.model_clauses.proofs.Meant.{Meant}
 use Rattle.model_laws.proofs.Eachs.{mem-each, each-mem}
-use Rattle.model_clauses.proofs.ClauseProof.{uncounted-is, some-room, each-when, each-listTo}
+use Rattle.model_clauses.proofs.ClauseProof.{uncounted-is, some-left, each-when, each-listTo}
 
 -- ---- variables
 module _ (N : ℕ) where
@@ -81,14 +81,14 @@ module _ (N : ℕ) (f : Clause → Bool) (f-must : (x : ℕ) → OneTo N x → f
         both (f (gives x (a + 1))) (all f (rows n a xs)) (f-gives x (a + 1) (h .0) (omega arith)) (of-rows a xs (h .1) (omega arith))
 
   of-excluding : (l : Line) (k a : ℕ) (xs : List Exclusion)
-      → Each (λ (x : Exclusion). (1 ≤ room x (stays l k (x .kind))) × Each (OneTo N) (uncounted x (stays l k (x .kind)))) xs
+      → Each (λ (x : Exclusion). (1 ≤ nLeft x (stays l k (x .kind))) × Each (OneTo N) (uncounted x (stays l k (x .kind)))) xs
       → a + helpersOf l k xs ≤ N → all f (excludingAll l k a xs) ≡ true
   unfolding excludingAll excluding helpersOf helpers all
   of-excluding l k a [] h q = refl
   of-excluding l k a (x ∷ xs) h q =
       let base = stays l k (x .kind) in
-      all-join f (counter (room x base) a (uncounted x base)) (excludingAll l k (a + helpers l k x) xs)
-      (of-counter (room x base) (h .0 .0) a (uncounted x base) (h .0 .1) (omega arith))
+      all-join f (counter (nLeft x base) a (uncounted x base)) (excludingAll l k (a + helpers l k x) xs)
+      (of-counter (nLeft x base) (h .0 .0) a (uncounted x base) (h .0 .1) (omega arith))
       (of-excluding l k (a + helpers l k x) xs (h .1) (omega arith))
 
   -- the clauses of the plain variables
@@ -232,10 +232,10 @@ module _ (p : Meaning) (range : Meant p) (l : Line) (k lower upper : ℕ) (insid
       let w = wide in
       omega arith)))
 
-  exclusions-in : Each (λ (x : Exclusion). (1 ≤ room x (stays l k (x .kind))) × Each (OneTo N) (uncounted x (stays l k (x .kind)))) (p .exclusions)
+  exclusions-in : Each (λ (x : Exclusion). (1 ≤ nLeft x (stays l k (x .kind))) × Each (OneTo N) (uncounted x (stays l k (x .kind)))) (p .exclusions)
   exclusions-in =
-      mem-each (λ (x : Exclusion). (1 ≤ room x (stays l k (x .kind))) × Each (OneTo N) (uncounted x (stays l k (x .kind)))) (p .exclusions) (λ x m. (
-        some-room l k x (range .met-now l met x m k inside),
+      mem-each (λ (x : Exclusion). (1 ≤ nLeft x (stays l k (x .kind))) × Each (OneTo N) (uncounted x (stays l k (x .kind)))) (p .exclusions) (λ x m. (
+        some-left l k x (range .met-now l met x m k inside),
         member-in x (each-mem (ExclusionInRange (p .roles)) (p .exclusions) (range .exclusions) x m) (stays l k (x .kind)),
       ))
 

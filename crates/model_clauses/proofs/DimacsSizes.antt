@@ -16,8 +16,8 @@ use Rattle.model.specs.Sets.{has}
 use Rattle.model.specs.Policy.{Meaning}
 use Rattle.model.specs.Line.{exclusionsMet}
 use Rattle.model.specs.Ranges.{Each, ExclusionInRange}
-use Rattle.model.specs.Reduced.{stays, roomOf}
-use Rattle.model.specs.Clauses.{Literal, holds, fails, Clause, must, mustNot, gives, give, listTo, when, roleVariable, permissionVariable, lastPlain, barring, carries, carrying, carriers, carried, bounding, keeping, adding, row, rows, counter, uncounted, room, excluding, helpers, excludingAll, hard, Weighted, wanting, soft, weightOf, top}
+use Rattle.model.specs.Reduced.{stays, reducedN}
+use Rattle.model.specs.Clauses.{Literal, holds, fails, Clause, must, mustNot, gives, give, listTo, when, roleVariable, permissionVariable, lastPlain, barring, carries, carrying, carriers, carried, bounding, keeping, adding, row, rows, counter, uncounted, nLeft, excluding, helpers, excludingAll, hard, Weighted, wanting, soft, weightOf, top}
 use Rattle.model.specs.Dimacs.{ascii, figure, digitsTo, decimal, literalText, literalsText, clauseText, clausesText, headText, helpersOf, variablesOf, weighing, clausesOf, textOf}
 use Rattle.model_clauses.specs.Texts.{variableOf, numbered, TextSmall}
 use borrow.Table.Steps.{cases}
@@ -94,20 +94,20 @@ module _ (n N : ℕ) (small : n ≤ N) (positive : 1 ≤ N) where
 -- ---- helpers, and the clauses of exclusions
 module _ (l : Line) (k : ℕ) where
   helpers-few : (roles : ℕ) (x : Exclusion) → roles ≤ 64 → ExclusionInRange roles x → helpers l k x ≤ 4096
-  unfolding helpers room roomOf
+  unfolding helpers nLeft reducedN
   helpers-few roles x q h =
       let base = stays l k (x .kind) in
       let m = uncounted-length x base in
       let i : length (uncounted x base) ≤ 64 = omega arith in
-      let j : room x base ≤ 64 = omega arith in
+      let j : nLeft x base ≤ 64 = omega arith in
       mul-le-mul i j
 
   excluding-few : (roles a : ℕ) (x : Exclusion) → roles ≤ 64 → ExclusionInRange roles x → length (excluding l k a x) ≤ 8192
-  unfolding excluding room roomOf
+  unfolding excluding nLeft reducedN
   excluding-few roles a x q h =
       let base = stays l k (x .kind) in
       let m = uncounted-length x base in
-      let c = counter-length (room x base) 64 (omega arith) (omega arith) a (uncounted x base) in
+      let c = counter-length (nLeft x base) 64 (omega arith) (omega arith) a (uncounted x base) in
       omega arith
 
   all-helpers : (roles : ℕ) → roles ≤ 64 → (xs : List Exclusion) → Each (ExclusionInRange roles) xs → helpersOf l k xs ≤ length xs * 4096
@@ -116,11 +116,11 @@ module _ (l : Line) (k : ℕ) where
   all-helpers roles q (x ∷ xs) h = omega (arith, helpers-few roles x q (h .0), all-helpers roles q xs (h .1))
 
   excluding-literals : (roles a : ℕ) (x : Exclusion) → roles ≤ 64 → ExclusionInRange roles x → literals (excluding l k a x) ≤ 20480
-  unfolding excluding room roomOf
+  unfolding excluding nLeft reducedN
   excluding-literals roles a x q h =
       let base = stays l k (x .kind) in
       let m = uncounted-length x base in
-      let c = counter-literals (room x base) 64 (omega arith) (omega arith) a (uncounted x base) in
+      let c = counter-literals (nLeft x base) 64 (omega arith) (omega arith) a (uncounted x base) in
       omega arith
 
   -- of all exclusions, where there is a bound for each

@@ -51,7 +51,7 @@ module _ (t : Task) (n chosen carried : ℕ) (ready : Ready t n chosen carried) 
   unfolding serves
   found-chosen free e =
       found-one t chosen free chosen (between-chosen chosen free)
-      (both (within (t .lower) (carries t chosen)) (t .room chosen) (ap (within (t .lower)) (sym (ready .carry)) ∙ sym judged ∙ e) (ready .room))
+      (both (within (t .lower) (carries t chosen)) (t .met chosen) (ap (within (t .lower)) (sym (ready .carry)) ∙ sym judged ∙ e) (ready .met))
 
   -- they lack a permission, and a set that serves has a free role that carries it
   module _ (table : List ℕ) (free p tries : ℕ) (e : w ≡ false) (miss : within (t .lower) carried ≡ false → Missing (t .lower) carried p)
@@ -68,7 +68,7 @@ module _ (t : Task) (n chosen carried : ℕ) (ready : Ready t n chosen carried) 
     one : (s : ℕ) → Between chosen free s → serves t s ≡ true → (i : ℕ) × (has tries i ≡ true) × (has s i ≡ true)
     unfolding serves carries
     one s b v =
-        go (carried-by (t .row) s p 64 (within-sub (t .lower) (carries t s) (and-l (within (t .lower) (carries t s)) (t .room s) v) p (lacks .wanted)))
+        go (carried-by (t .row) s p 64 (within-sub (t .lower) (carries t s) (and-l (within (t .lower) (carries t s)) (t .met s) v) p (lacks .wanted)))
       where
         go : (i : ℕ) × (i < 64) × (has s i ≡ true) × (has (t .row i) p ≡ true) → (i : ℕ) × (has tries i ≡ true) × (has s i ≡ true)
         go x = (x .0, at (b .most (x .0) (x .2)), x .2)
@@ -118,21 +118,21 @@ module _ (t : Task) (chosen free left still : ℕ) (w : Passing t chosen free le
           other (inl e) = not-both (has s role) (ap (has s) (sym e) ∙ x .1 .2) off
           other (inr k) = ap (λ (y : ℕ). has y (x .1 .0)) er ∙ k
 
-  -- the exclusions have no room for it
-  pub passing-off : Falls t → (b : Bool) → b ≡ t .room more → b ≡ false → Passing t chosen free rest less
+  -- it does not meet the exclusions
+  pub passing-off : Falls t → (b : Bool) → b ≡ t .met more → b ≡ false → Passing t chosen free rest less
   unfolding serves
   passing-off falls b eb e =
-      passing-none (λ s g v. not-both (t .room more) (falls more s (g .least) (and-r (within (t .lower) (carries t s)) (t .room s) v)) (sym eb ∙ e))
+      passing-none (λ s g v. not-both (t .met more) (falls more s (g .least) (and-r (within (t .lower) (carries t s)) (t .met s) v)) (sym eb ∙ e))
 
   -- it was tried
   pub passing-on : (b : Bool) → Finds t more less b → b ≡ false → Passing t chosen free rest less
   passing-on b f e = passing-none (f .none e)
 
 -- ---- from the empty set
-pub no-room : (t : Task) (free : ℕ) → Falls t → (b : Bool) → b ≡ t .room 0 → b ≡ false → Finds t 0 free false
+pub not-met : (t : Task) (free : ℕ) → Falls t → (b : Bool) → b ≡ t .met 0 → b ≡ false → Finds t 0 free false
 unfolding serves
-no-room t free falls b eb e =
-    found-none t 0 free (λ s _ v. not-both (t .room 0) (falls 0 s (none-sub s) (and-r (within (t .lower) (carries t s)) (t .room s) v)) (sym eb ∙ e))
+not-met t free falls b eb e =
+    found-none t 0 free (λ s _ v. not-both (t .met 0) (falls 0 s (none-sub s) (and-r (within (t .lower) (carries t s)) (t .met s) v)) (sym eb ∙ e))
 
 pub found-so : (t : Task) (free : ℕ) (b v : Bool) → Finds t 0 free b → b ≡ v → Finds t 0 free v
 found-so t free b v f e = subst (Finds t 0 free) e f

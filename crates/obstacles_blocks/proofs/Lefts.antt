@@ -27,9 +27,9 @@ use Rattle.model_laws.proofs.SortedLaws.{sorted-mem}
 use Rattle.exclusion_rows.specs.Rows.{exclusionOf, exclusionsIn}
 use Rattle.exclusion_rows.proofs.Packing.{row-at}
 use Rattle.query.specs.Carry.{Keeps}
-use Rattle.query_rooms.specs.Rooms.{roomy}
-use Rattle.query_rooms.specs.Reduction.{Reduces}
-use Rattle.query_rooms.proofs.Reductions.{reduced-same}
+use Rattle.query_reduced.specs.Met.{reducedMet}
+use Rattle.query_reduced.specs.Reduction.{Reduces}
+use Rattle.query_reduced.proofs.Reductions.{reduced-same}
 use Rattle.search_steps.specs.Search.{Task}
 use Rattle.search.specs.Answer.{Given}
 use Rattle.search.proofs.Solved.{fits-of, admits}
@@ -137,11 +137,11 @@ module _ (p : Policy) (u : ℕ) (x : Others) (l : Line) (k lower upper : ℕ) wh
       (ap (λ (i : ℕ). leaves (take i E)) (sym (add-one j)) ∙ b .stops))
 
 -- ---- what a search finds: what is searched under the first j exclusions, by all of them reduced
-module _ (p : Policy) (u : ℕ) (x : Others) (l : Line) (k lower upper own : ℕ) (xs : List (List ℕ)) (row : ℕ → ℕ) (masks rooms : List ℕ) (n free : ℕ)
-    (g : Asked p u x l k own (exclusionsIn xs n) row) (d : Reduces (exclusionsIn xs n) l k masks rooms) (inside : k < length (l .sessions))
+module _ (p : Policy) (u : ℕ) (x : Others) (l : Line) (k lower upper own : ℕ) (xs : List (List ℕ)) (row : ℕ → ℕ) (masks ns : List ℕ) (n free : ℕ)
+    (g : Asked p u x l k own (exclusionsIn xs n) row) (d : Reduces (exclusionsIn xs n) l k masks ns) (inside : k < length (l .sessions))
     (few : n ≤ length xs) (fits : own < 2 ^ 64) (keeps : Keeps (λ i. within (row i) upper) own free) where
   abbrev task : ℕ → Task
-  task j = record { row = row; lower = lower; room = roomy masks rooms j; first = 0; second = 0 }
+  task j = record { row = row; lower = lower; met = reducedMet masks ns j; first = 0; second = 0 }
 
   abbrev first : ℕ → Policy
   first j = cut p u x l k lower upper j
@@ -149,20 +149,20 @@ module _ (p : Policy) (u : ℕ) (x : Others) (l : Line) (k lower upper own : ℕ
   abbrev meant : ℕ → Meaning
   meant j = leftTo (first j) u x l k
 
-  reduces-cut : (j : ℕ) → j ≤ n → Reduces (exclusionsIn xs j) l k masks rooms
+  reduces-cut : (j : ℕ) → j ≤ n → Reduces (exclusionsIn xs j) l k masks ns
   unfolding exclusionsIn
   reduces-cut j h =
       record {
-        same = λ q w e m s o. reduced-same q w l k inside m s o (map exclusionOf xs) (exclusionOf []) j masks rooms
+        same = λ q w e m s o. reduced-same q w l k inside m s o (map exclusionOf xs) (exclusionOf []) j masks ns
             (omega (arith, length-map xs exclusionOf)) e (λ i a. d .members (exclusionOf []) i (omega arith))
-            (λ i a. d .space (exclusionOf []) i (omega arith));
+            (λ i a. d .reduced (exclusionOf []) i (omega arith));
         members = λ y i a. d .members y i (omega arith);
-        space = λ y i a. d .space y i (omega arith);
+        reduced = λ y i a. d .reduced y i (omega arith);
       }
 
-  given : (j : ℕ) → j ≤ n → Given (meant j) l k own row (roomy masks rooms j)
+  given : (j : ℕ) → j ≤ n → Given (meant j) l k own row (reducedMet masks ns j)
   unfolding exclusionsIn
-  given j h = given-of (first j) u x own (exclusionsIn xs j) l k j masks rooms row refl (reduces-cut j h) (asked-cut p u x l k lower upper own xs row j n h g)
+  given j h = given-of (first j) u x own (exclusionsIn xs j) l k j masks ns row refl (reduces-cut j h) (asked-cut p u x l k lower upper own xs row j n h g)
 
   -- sets that are left under the first j
   lefts : (j : ℕ) → (leaves p u x l k lower upper (take j (p .exclusions)) ≡ true) ↔ ((s : ℕ) × (admissible (meant j) l k lower upper s ≡ true))

@@ -7,7 +7,7 @@ use Prim.Native.Nat.{ℕ, _+_, _<_}
 use Rattle.sets.specs.Words.{value}
 use Rattle.query.specs.Carry.{rowsOf}
 use Rattle.query_rank.specs.Ranks.{Between}
-use Rattle.query_rooms.specs.Rooms.{roomy}
+use Rattle.query_reduced.specs.Met.{reducedMet}
 use Rattle.search_steps.specs.Search.{Task, serves}
 
 -- b says whether some set between serves
@@ -17,8 +17,8 @@ pub record Finds (t : Task) (chosen free : ℕ) (b : Bool) : Type 0 where
 
 -- what is searched under the first n exclusions
 abbrev pub under : List (List ℕ) → List ℕ → List ℕ → List ℕ → ℕ → Task
-under rows masks rooms lower n =
-    record { row = rowsOf rows; lower = value lower; room = roomy masks rooms n; first = 0; second = 0 }
+under rows masks ns lower n =
+    record { row = rowsOf rows; lower = value lower; met = reducedMet masks ns n; first = 0; second = 0 }
 
 -- of n exclusions the first j leave a set, and the first j + 1 leave none
 pub record Ends (found : ℕ → Bool → Type 0) (n j : ℕ) : Type 0 where

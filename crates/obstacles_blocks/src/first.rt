@@ -8,24 +8,24 @@ ghost use Rattle.search_steps.specs.Search.{taskOf, Ready};
 ghost use Rattle.obstacles_blocks.specs.Firsts.{Finds};
 use query::carry::missing;
 use query_rank::Job;
-use query_rooms::rooms::room_for;
+use query_reduced::met::reduced_met;
 
-// Some set of the chosen roles and some of the free ones carries the lower bound, and the exclusions have room for it.
+// Some set of the chosen roles and some of the free ones carries the lower bound and meets the exclusions.
 // A permission that is asked for and not carried is taken up, and the roles that carry it are tried; one that was tried
 // is barred from what is tried after it.
 pub fn some_step(
     rows: &[[u64; 4]; 64],
     masks: &[u64; 32],
-    rooms: &[u32; 32],
+    ns: &[u32; 32],
     job: Job,
     free: u64,
     chosen: u64,
     carried: [u64; 4],
     turned: &[u64; 256],
 ) -> bool
-    requires { ⌜ (Ready (taskOf (now rows) (now masks) (now rooms) job) (job .count) chosen (value carried))
+    requires { ⌜ (Ready (taskOf (now rows) (now masks) (now ns) job) (job .count) chosen (value carried))
         × (Turned (rowsOf (now rows)) (now turned) (value (job .lower)) free) ⌝ }
-    ensures { λ b. ⌜ Finds (taskOf (now (rows .entry)) (now (masks .entry)) (now (rooms .entry)) job) chosen free b ⌝ }
+    ensures { λ b. ⌜ Finds (taskOf (now (rows .entry)) (now (masks .entry)) (now (ns .entry)) job) chosen free b ⌝ }
 {
     let lower = job.lower;
     if sets::perm_within(lower, carried) {
@@ -42,12 +42,12 @@ pub fn some_step(
         let more = sets::with(chosen, role);
         left = rest;
         still = less;
-        if !room_for(masks, rooms, count, more) {
+        if !reduced_met(masks, ns, count, more) {
             continue;
         }
         let i = role.0 as usize;
         let sum = sets::perm_union(carried, rows[i]);
-        if some_step(rows, masks, rooms, job, less, more, sum, turned) {
+        if some_step(rows, masks, ns, job, less, more, sum, turned) {
             return true;
         }
     }

@@ -32,24 +32,24 @@ use obstacles_lacks::found::Told;
 use query::carriers::join_carriers;
 use query::carry::usable;
 use query_rank::Job;
-use query_rooms::exclusions::reduce;
-use query_rooms::rooms::room_for;
+use query_reduced::exclusions::reduce;
+use query_reduced::met::reduced_met;
 use tidy_order::sort::sort;
 
 // With the first `count` exclusions some set of the free roles, which fit the upper bound, carries the lower bound.
 fn left_with(
     rows: &[[u64; 4]; 64],
     masks: &[u64; 32],
-    rooms: &[u32; 32],
+    ns: &[u32; 32],
     lower: [u64; 4],
     count: usize,
     free: u64,
     turned: &[u64; 256],
 ) -> bool
     requires { ⌜ (count ≤ 32) × (Turned (rowsOf (now rows)) (now turned) (value lower) free) ⌝ }
-    ensures { λ b. ⌜ Finds (under (now (rows .entry)) (now (masks .entry)) (now (rooms .entry)) lower count) 0 free b ⌝ }
+    ensures { λ b. ⌜ Finds (under (now (rows .entry)) (now (masks .entry)) (now (ns .entry)) lower count) 0 free b ⌝ }
 {
-    if !room_for(masks, rooms, count, 0) {
+    if !reduced_met(masks, ns, count, 0) {
         return false;
     }
     let job = Job {
@@ -58,7 +58,7 @@ fn left_with(
         first: 0,
         second: 0,
     };
-    some_step(rows, masks, rooms, job, free, 0, [0u64; 4], turned)
+    some_step(rows, masks, ns, job, free, 0, [0u64; 4], turned)
 }
 
 // How many exclusions come before the first with which no set is left, where the first `low` leave one and the first
@@ -66,7 +66,7 @@ fn left_with(
 fn before_blocking(
     rows: &[[u64; 4]; 64],
     masks: &[u64; 32],
-    rooms: &[u32; 32],
+    ns: &[u32; 32],
     lower: [u64; 4],
     free: u64,
     turned: &[u64; 256],
@@ -74,18 +74,18 @@ fn before_blocking(
     high: usize,
 ) -> usize
     requires { ⌜ (low ≤ high) × (low < 32) × (high ≤ 32) × (Turned (rowsOf (now rows)) (now turned) (value lower) free) ⌝ }
-    ensures { λ j. ⌜ (j < 32) × (Finds (under (now (rows .entry)) (now (masks .entry)) (now (rooms .entry)) lower low) 0 free true
-        → Finds (under (now (rows .entry)) (now (masks .entry)) (now (rooms .entry)) lower high) 0 free false
-        → Ends (λ n. Finds (under (now (rows .entry)) (now (masks .entry)) (now (rooms .entry)) lower n) 0 free) high j) ⌝ }
+    ensures { λ j. ⌜ (j < 32) × (Finds (under (now (rows .entry)) (now (masks .entry)) (now (ns .entry)) lower low) 0 free true
+        → Finds (under (now (rows .entry)) (now (masks .entry)) (now (ns .entry)) lower high) 0 free false
+        → Ends (λ n. Finds (under (now (rows .entry)) (now (masks .entry)) (now (ns .entry)) lower n) 0 free) high j) ⌝ }
 {
     if high <= low + 1 {
         return low;
     }
     let middle = low + (high - low) / 2;
-    if left_with(rows, masks, rooms, lower, middle, free, turned) {
-        return before_blocking(rows, masks, rooms, lower, free, turned, middle, high);
+    if left_with(rows, masks, ns, lower, middle, free, turned) {
+        return before_blocking(rows, masks, ns, lower, free, turned, middle, high);
     }
-    before_blocking(rows, masks, rooms, lower, free, turned, low, middle)
+    before_blocking(rows, masks, ns, lower, free, turned, low, middle)
 }
 
 // What is told of the exclusion of row j: its kind and n, the members that stay counted whatever is put in for session
@@ -128,8 +128,8 @@ fn first_blocking(
 {
     let reduced = reduce(xs, count, l, k);
     let masks = reduced.masks;
-    let rooms = reduced.rooms;
-    let j = before_blocking(rows, &masks, &rooms, lower, free, turned, 0, count);
+    let ns = reduced.ns;
+    let j = before_blocking(rows, &masks, &ns, lower, free, turned, 0, count);
     told_at(xs, &masks, j)
 }
 
@@ -156,11 +156,11 @@ pub fn blocked(
     let upper = wanted.upper;
     let reduced = reduce(xs, count, l, k);
     let masks = reduced.masks;
-    let rooms = reduced.rooms;
+    let ns = reduced.ns;
     let free = usable(rows, upper, authorized);
     let mut turned = [0u64; 256];
     join_carriers(&mut turned, rows, free, lower);
-    if left_with(rows, &masks, &rooms, lower, count, free, &turned) {
+    if left_with(rows, &masks, &ns, lower, count, free, &turned) {
         return Found::Nothing;
     }
     if count == 1 {

@@ -22,7 +22,7 @@ use Rattle.sets.proofs.Unions.{values-at}
 use Rattle.tables_rows.specs.Carried.{carriedRows}
 use Rattle.tables_rows.specs.Holding.{holdersOf}
 use Rattle.query.specs.Carry.{rowsOf, Carry, Keeps}
-use Rattle.query_rooms.proofs.RoomLaws.{every-has, every}
+use Rattle.query_reduced.proofs.MetLaws.{every-has, every}
 use Rattle.asks.proofs.Rows.{carry-rows}
 use Rattle.obstacles_lacks.specs.declared.found.Found.the-variants.{Nothing, One}
 use Rattle.obstacles_lacks.specs.Founds.{foundOf}

@@ -48,7 +48,7 @@ ranks p q x y s t hx hy hs ht (inr (e, inl h)) = omega arith
 ranks p q x y s t hx hy hs ht (inr (e, inr (f, h))) = omega arith
 
 module _ (t : Task) (upper authorized : ℕ) (small : authorized < 2 ^ 64) (m : Meaning) (l : Line) (k : ℕ)
-    (given : Given m l k authorized (t .row) (t .room)) where
+    (given : Given m l k authorized (t .row) (t .met)) where
   below : (s : ℕ) → Sub s authorized → s < 2 ^ 64
   below s h = lt-of-le-of-lt (sub-le s authorized h) small
 
@@ -82,17 +82,17 @@ module _ (t : Task) (upper authorized : ℕ) (small : authorized < 2 ^ 64) (m : 
 
   -- the four parts of the test
   is-in : (s : ℕ) → admissible m l k (t .lower) upper s ≡ true
-      → (within s authorized ≡ true) × (within (t .lower) (carriedBy m s) ≡ true) × (within (carriedBy m s) upper ≡ true) × (t .room s ≡ true)
+      → (within s authorized ≡ true) × (within (t .lower) (carriedBy m s) ≡ true) × (within (carriedBy m s) upper ≡ true) × (t .met s ≡ true)
   unfolding admissible
   is-in s adm =
       let f = parts (within s (m .authorized)) (within (t .lower) (carriedBy m s)) (within (carriedBy m s) upper) (exclusionsMet m (putIn k s l)) adm in
       let w : within s authorized ≡ true = ap (within s) (sym (given .own)) ∙ f .0 in
-      (w, f .1, f .2, sym (given .rooms s w) ∙ f .3)
+      (w, f .1, f .2, sym (given .exclusions s w) ∙ f .3)
 
-  -- the exclusions have no room even for the empty set
-  pub none-chosen : Falls t → (b : Bool) → b ≡ t .room 0 → b ≡ false → answered Nothing ≡ choose m l k (t .lower) upper (t .first) (t .second)
+  -- not even the empty set meets the exclusions
+  pub none-chosen : Falls t → (b : Bool) → b ≡ t .met 0 → b ≡ false → answered Nothing ≡ choose m l k (t .lower) upper (t .first) (t .second)
   unfolding answered
-  none-chosen falls b e h = chosen-none (λ s adm. not-both (t .room 0) (falls 0 s (none-sub s) (is-in s adm .3)) (sym e ∙ h))
+  none-chosen falls b e h = chosen-none (λ s adm. not-both (t .met 0) (falls 0 s (none-sub s) (is-in s adm .3)) (sym e ∙ h))
 
   -- ---- a better set has the lower rank
   rank-of : (s : ℕ) → Sub s authorized → rankOf t s ≡ rank (permissionCost m (t .first) s * 512 + roleCost (t .second) s) s
@@ -133,7 +133,7 @@ module _ (t : Task) (upper authorized : ℕ) (small : authorized < 2 ^ 64) (m : 
         record {
           own = h;
           between = record { least = none-sub s; most = λ i n. inr (usable s h (within-sub (carriedBy m s) upper (f .2)) i n) };
-          serving = both (within (t .lower) (carries t s)) (t .room s) (ap (within (t .lower)) e ∙ f .1) (f .3);
+          serving = both (within (t .lower) (carries t s)) (t .met s) (ap (within (t .lower)) e ∙ f .1) (f .3);
         }
       where
         usable : (s : ℕ) → Sub s authorized → Sub (carriedBy m s) upper → (i : ℕ) → has s i ≡ true → has free i ≡ true
@@ -170,9 +170,9 @@ module _ (t : Task) (upper authorized : ℕ) (small : authorized < 2 ^ 64) (m : 
           both _ (exclusionsMet m (putIn k s l))
           (both _ (within (carriedBy m s) upper)
           (both (within s (m .authorized)) (within (t .lower) (carriedBy m s)) (ap (within s) (given .own) ∙ w)
-          (ap (within (t .lower)) (sym e) ∙ and-l (within (t .lower) (carries t s)) (t .room s) v))
+          (ap (within (t .lower)) (sym e) ∙ and-l (within (t .lower) (carries t s)) (t .met s) v))
           (ap (λ (x : ℕ). within x upper) (sym e) ∙ sub-within (carries t s) upper inside))
-          (given .rooms s w ∙ and-r (within (t .lower) (carries t s)) (t .room s) v)
+          (given .exclusions s w ∙ and-r (within (t .lower) (carries t s)) (t .met s) v)
 
     chosen-some : (r : Best) → Served t 0 free r → ((s : ℕ) → Between 0 free s → serves t s ≡ true → rankAt r ≤ rankOf t s)
         → some (r .roles) ≡ choose m l k (t .lower) upper (t .first) (t .second)

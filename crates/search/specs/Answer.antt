@@ -33,7 +33,7 @@ answerOf a = pick (eqb (a .key) noKey) Nothing (Roles (a .roles))
 
 -- the roles that the user may activate, what each of them carries, and the sets of them that leave every exclusion met
 -- once put in for session k
-pub record Given (m : Meaning) (l : Line) (k authorized : ℕ) (row : ℕ → ℕ) (room : ℕ → Bool) : Type 0 where
+pub record Given (m : Meaning) (l : Line) (k authorized : ℕ) (row : ℕ → ℕ) (met : ℕ → Bool) : Type 0 where
   pub own : m .authorized ≡ authorized
   pub carry : Carry m authorized row
-  pub rooms : (s : ℕ) → within s authorized ≡ true → exclusionsMet m (putIn k s l) ≡ room s
+  pub exclusions : (s : ℕ) → within s authorized ≡ true → exclusionsMet m (putIn k s l) ≡ met s

@@ -57,7 +57,7 @@ trying-less t tries chosen free a left still b w small role rest low e =
 
 module _ (t : Task) (falls : Falls t) (tries chosen free : ℕ) (a : Best) (left still : ℕ) (c : Best) (w : Trying t tries chosen free a left still c)
     (role rest less more : ℕ) (b : Bool) (m : has left role ≡ true) (er : rest ≡ without left role) (el : less ≡ without still role)
-    (em : more ≡ with chosen role) (eb : b ≡ t .room more) where
+    (em : more ≡ with chosen role) (eb : b ≡ t .met more) where
   on : has still role ≡ true
   on = w .inside role m
 
@@ -67,7 +67,7 @@ module _ (t : Task) (falls : Falls t) (tries chosen free : ℕ) (a : Best) (left
   smaller : Sub less free
   smaller = less-free free still role less (w .fewer) on el
 
-  -- the exclusions have no room for the role
+  -- with the role the exclusions are not met
   pub trying-off : b ≡ false → Trying t tries chosen free a rest less c
   trying-off e =
       record {
@@ -94,7 +94,7 @@ pub walking-start : (t : Task) (chosen free : ℕ) (a : Best) → Walking t chos
 walking-start t chosen free a = record { inside = λ i m. m; rest = λ r f. f }
 
 module _ (t : Task) (falls : Falls t) (chosen free : ℕ) (a : Best) (left : ℕ) (c : Best) (w : Walking t chosen free a left c)
-    (role less more : ℕ) (b : Bool) (m : has left role ≡ true) (el : less ≡ without left role) (em : more ≡ with chosen role) (eb : b ≡ t .room more) where
+    (role less more : ℕ) (b : Bool) (m : has left role ≡ true) (el : less ≡ without left role) (em : more ≡ with chosen role) (eb : b ≡ t .met more) where
   lower : Sub less free
   lower = less-free free left role less (w .inside) m el
 

@@ -22,10 +22,10 @@ use Rattle.search_steps.proofs.Costs.{rank-grows}
 abbrev pub bestAt : Task → ℕ → Best
 bestAt t s = record { key = keyOf t s; roles = s }
 
-served : (t : Task) (chosen free : ℕ) → within (t .lower) (carries t chosen) ≡ true → t .room chosen ≡ true → Served t chosen free (bestAt t chosen)
+served : (t : Task) (chosen free : ℕ) → within (t .lower) (carries t chosen) ≡ true → t .met chosen ≡ true → Served t chosen free (bestAt t chosen)
 unfolding serves
 served t chosen free l m =
-    record { between = between-chosen chosen free; serving = both (within (t .lower) (carries t chosen)) (t .room chosen) l m; keyed = refl }
+    record { between = between-chosen chosen free; serving = both (within (t .lower) (carries t chosen)) (t .met chosen) l m; keyed = refl }
 
 -- ---- Procedure 3, where neither objective is the most: a permission is taken up
 module _ (t : Task) (chosen free : ℕ) (a : Best) (one : t .first < 2) (two : t .second < 2) where
@@ -35,7 +35,7 @@ module _ (t : Task) (chosen free : ℕ) (a : Best) (one : t .first < 2) (two : t
       record { old = le-refl (rankAt a); new = inl refl; least = λ s b _. le-trans h (rank-grows t chosen s one two (b .least)) }
 
   -- the chosen roles carry the lower bound
-  pub reached : rankOf t chosen ≤ rankAt a → within (t .lower) (carries t chosen) ≡ true → t .room chosen ≡ true → Found t chosen free a (bestAt t chosen)
+  pub reached : rankOf t chosen ≤ rankAt a → within (t .lower) (carries t chosen) ≡ true → t .met chosen ≡ true → Found t chosen free a (bestAt t chosen)
   reached h l m =
       record { old = h; new = inr (served t chosen free l m); least = λ s b _. rank-grows t chosen s one two (b .least) }
 
@@ -49,7 +49,7 @@ module _ (t : Task) (chosen free p tries : ℕ) (a r : Best) where
         old = f .old;
         new = f .new;
         least = λ s b m. go s b m
-            (carried-by (t .row) s p 64 (within-sub (t .lower) (carries t s) (and-l (within (t .lower) (carries t s)) (t .room s) m) p wanted));
+            (carried-by (t .row) s p 64 (within-sub (t .lower) (carries t s) (and-l (within (t .lower) (carries t s)) (t .met s) m) p wanted));
       }
     where
       go : (s : ℕ) → Between chosen free s → serves t s ≡ true → (i : ℕ) × (i < 64) × (has s i ≡ true) × (has (t .row i) p ≡ true) → rankAt r ≤ rankOf t s
@@ -64,7 +64,7 @@ module _ (t : Task) (chosen free p tries : ℕ) (a r : Best) where
 pub tried-none : (t : Task) (chosen free : ℕ) (a : Best) → Tried t 0 chosen free a a
 tried-none t chosen free a = record { old = le-refl (rankAt a); new = inl refl; least = λ s i _ _ h _. no-member i h }
 
-module _ (t : Task) (less : (x y : ℕ) → Sub x y → t .room y ≡ true → t .room x ≡ true) (chosen free role : ℕ) (a next r : Best)
+module _ (t : Task) (less : (x y : ℕ) → Sub x y → t .met y ≡ true → t .met x ≡ true) (chosen free role : ℕ) (a next r : Best)
     (on : has free role ≡ true) where
   still : (r ≡ next) ⊎ Served t chosen (without free role) r → (next ≡ a) ⊎ Served t chosen free next → (r ≡ a) ⊎ Served t chosen free r
   still (inl e) (inl f) = inl (e ∙ f)
@@ -92,14 +92,14 @@ module _ (t : Task) (less : (x y : ℕ) → Sub x y → t .room y ≡ true → t
       go s i b m h k (inl with-it) = le-trans (g .old) (f .least s (between-with chosen free role s on b with-it) m)
       go s i b m h k (inr off) = rest s i b m k off (fewer-stays tries role here i h)
 
-  no-room : t .room (with chosen role) ≡ false → (s : ℕ) → Between chosen free s → serves t s ≡ true → has s role ≡ true → ⊥
+  not-met : t .met (with chosen role) ≡ false → (s : ℕ) → Between chosen free s → serves t s ≡ true → has s role ≡ true → ⊥
   unfolding serves
-  no-room full s b m h =
-      not-both (t .room (with chosen role))
-      (less (with chosen role) s (with-sub chosen role s (b .least) h) (and-r (within (t .lower) (carries t s)) (t .room s) m)) full
+  not-met full s b m h =
+      not-both (t .met (with chosen role))
+      (less (with chosen role) s (with-sub chosen role s (b .least) h) (and-r (within (t .lower) (carries t s)) (t .met s) m)) full
 
-  -- the exclusions have no room for the role beside what is chosen
-  pub tried-off : (tries : ℕ) → has tries role ≡ true → t .room (with chosen role) ≡ false → Tried t (without tries role) chosen (without free role) a r
+  -- with the role beside what is chosen the exclusions are not met
+  pub tried-off : (tries : ℕ) → has tries role ≡ true → t .met (with chosen role) ≡ false → Tried t (without tries role) chosen (without free role) a r
       → Tried t tries chosen free a r
   tried-off tries here full g =
       record { old = g .old; new = old-new (g .new); least = λ s i b m h k. go s i b m h k (either (has s role)) }
@@ -115,7 +115,7 @@ module _ (t : Task) (less : (x y : ℕ) → Sub x y → t .room y ≡ true → t
 
       go : (s i : ℕ) → Between chosen free s → serves t s ≡ true → has tries i ≡ true → has s i ≡ true → (has s role ≡ true) ⊎ (has s role ≡ false)
           → rankAt r ≤ rankOf t s
-      go s i b m h k (inl with-it) = absurd (no-room full s b m with-it)
+      go s i b m h k (inl with-it) = absurd (not-met full s b m with-it)
       go s i b m h k (inr off) = rest s i b m k off (fewer-stays tries role here i h)
 
   -- ---- all subsets: with the role, and then without it
@@ -127,8 +127,8 @@ module _ (t : Task) (less : (x y : ℕ) → Sub x y → t .room y ≡ true → t
       go s b m (inl h) = le-trans (g .old) (f .least s (between-with chosen free role s on b h) m)
       go s b m (inr h) = g .least s (between-without chosen free role s on b h) m
 
-  -- only without it: the exclusions have no room
-  pub one-way : t .room (with chosen role) ≡ false → Found t chosen (without free role) a next → Found t chosen free a next
+  -- only without it: the exclusions are not met
+  pub one-way : t .met (with chosen role) ≡ false → Found t chosen (without free role) a next → Found t chosen free a next
   one-way full f =
       record { old = f .old; new = old-new (f .new); least = λ s b m. go s b m (either (has s role)) }
     where
@@ -137,7 +137,7 @@ module _ (t : Task) (less : (x y : ℕ) → Sub x y → t .room y ≡ true → t
       old-new (inr e) = inr (record { between = between-old chosen free role (next .roles) on (e .between); serving = e .serving; keyed = e .keyed })
 
       go : (s : ℕ) → Between chosen free s → serves t s ≡ true → (has s role ≡ true) ⊎ (has s role ≡ false) → rankAt next ≤ rankOf t s
-      go s b m (inl h) = absurd (no-room full s b m h)
+      go s b m (inl h) = absurd (not-met full s b m h)
       go s b m (inr h) = f .least s (between-without chosen free role s on b h) m
 
 -- the best so far is no worse than any set between
@@ -146,16 +146,16 @@ pub none-better : (t : Task) (chosen free : ℕ) (a : Best) → ((s : ℕ) → B
 none-better t chosen free a h = record { old = le-refl (rankAt a); new = inl refl; least = h }
 
 -- all subsets, with no role left: the chosen roles judged
-pub leaf : (t : Task) (chosen : ℕ) (a r : Best) → t .room chosen ≡ true → rankAt r ≤ rankAt a
+pub leaf : (t : Task) (chosen : ℕ) (a r : Best) → t .met chosen ≡ true → rankAt r ≤ rankAt a
     → (r ≡ a) ⊎ ((within (t .lower) (carries t chosen) ≡ true) × (r ≡ bestAt t chosen))
     → (within (t .lower) (carries t chosen) ≡ true → rankAt r ≤ rankOf t chosen) → Found t chosen 0 a r
 unfolding serves
-leaf t chosen a r room old new least =
-    record { old = old; new = found new; least = λ s b m. only s (between-none chosen s b) (and-l (within (t .lower) (carries t s)) (t .room s) m) }
+leaf t chosen a r met old new least =
+    record { old = old; new = found new; least = λ s b m. only s (between-none chosen s b) (and-l (within (t .lower) (carries t s)) (t .met s) m) }
   where
     found : (r ≡ a) ⊎ ((within (t .lower) (carries t chosen) ≡ true) × (r ≡ bestAt t chosen)) → (r ≡ a) ⊎ Served t chosen 0 r
     found (inl e) = inl e
-    found (inr e) = inr (subst (Served t chosen 0) (sym (e .1)) (served t chosen 0 (e .0) room))
+    found (inr e) = inr (subst (Served t chosen 0) (sym (e .1)) (served t chosen 0 (e .0) met))
 
     only : (s : ℕ) → s ≡ chosen → within (t .lower) (carries t s) ≡ true → rankAt r ≤ rankOf t s
     only s e m =

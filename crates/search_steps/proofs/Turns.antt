@@ -26,9 +26,9 @@ use Rattle.search_steps.proofs.Between.{fewer-within}
 use Rattle.search_steps.proofs.Carried.{carried-sub, carried-with, carried-none, top-bound}
 use Rattle.search_steps.proofs.Returns.{given-up, reached, taken-up, tried-none, tried-on, tried-off, both-ways, one-way, none-better, leaf}
 
--- what the exclusions leave room for passes to smaller sets
+-- that the exclusions are met passes to smaller sets
 abbrev pub Falls : Task → Type 0
-Falls t = (x y : ℕ) → Sub x y → t .room y ≡ true → t .room x ≡ true
+Falls t = (x y : ℕ) → Sub x y → t .met y ≡ true → t .met x ≡ true
 
 -- ---- the chosen roles judged: their key, and whether the best so far is no worse
 module _ (t : Task) (n chosen carried key : ℕ) (a : Best) (b : Bool) (ready : Ready t n chosen carried)
@@ -55,7 +55,7 @@ module _ (t : Task) (n chosen carried key : ℕ) (a : Best) (b : Bool) (ready : 
     pub reaches : b ≡ false → (w : Bool) → w ≡ within (t .lower) carried → w ≡ true → Found t chosen free a (record { key = key; roles = chosen })
     reaches e w l m =
         subst (λ (k : ℕ). Found t chosen free a (record { key = k; roles = chosen })) (sym same-key)
-        (reached t chosen free a (modest .permissions) (modest .roles) (better e) (in-bound w l m) (ready .room))
+        (reached t chosen free a (modest .permissions) (modest .roles) (better e) (in-bound w l m) (ready .met))
 
 module _ (t : Task) (n chosen carried : ℕ) (a : Best) (ready : Ready t n chosen carried) (w : Bool) (judged : w ≡ within (t .lower) carried) where
   short : w ≡ false → within (t .lower) (carries t chosen) ≡ false
@@ -80,7 +80,7 @@ tries-sub free x tries e = keeps-sub (has x) free tries (inter-keeps free x trie
 -- ---- a role taken up: with it, and without it
 module _ (t : Task) (n chosen carried role : ℕ) (ready : Ready t n chosen carried) where
   pub ready-more : (more sum row : ℕ) (b : Bool) → role < 64 → more ≡ with chosen role → sum ≡ union carried row → row ≡ t .row role
-      → b ≡ t .room more → b ≡ true
+      → b ≡ t .met more → b ≡ true
       → Ready t n more sum
   unfolding carries
   ready-more more sum row b l em es er eb e =
@@ -88,13 +88,13 @@ module _ (t : Task) (n chosen carried role : ℕ) (ready : Ready t n chosen carr
         few = ready .few;
         carry = es ∙ ap (λ (x : ℕ). union x row) (ready .carry) ∙ ap (union (carries t chosen)) er ∙ sym (carried-with (t .row) 64 chosen role l)
             ∙ ap (carries t) (sym em);
-        room = sym eb ∙ e;
+        met = sym eb ∙ e;
       }
 
 module _ (t : Task) (falls : Falls t) (chosen free role less more : ℕ) (b : Bool) (on : has free role ≡ true)
-    (el : less ≡ without free role) (em : more ≡ with chosen role) (eb : b ≡ t .room more) where
-  full : b ≡ false → t .room (with chosen role) ≡ false
-  full e = ap (t .room) (sym em) ∙ sym eb ∙ e
+    (el : less ≡ without free role) (em : more ≡ with chosen role) (eb : b ≡ t .met more) where
+  full : b ≡ false → t .met (with chosen role) ≡ false
+  full e = ap (t .met) (sym em) ∙ sym eb ∙ e
 
   pub tries-on : (tries rest : ℕ) (a next r : Best) → has tries role ≡ true → rest ≡ without tries role → Found t more less a next
       → Tried t rest chosen less next r
@@ -119,26 +119,26 @@ pub barred-sub : (tries free role rest less : ℕ) → Sub tries free → has tr
 barred-sub tries free role rest less h m er el = rw (er, el) (fewer-within tries role m free (h role m) h)
 
 -- with no role free the chosen ones are judged
-pub judges : (rows : List (List ℕ)) (masks rooms : List ℕ) (job : Job) (chosen free carried : ℕ) (a r : Best)
-    → Ready (taskOf rows masks rooms job) (job .count) chosen carried → free ≡ 0 → Judged job chosen carried a r
-    → Found (taskOf rows masks rooms job) chosen free a r
-judges rows masks rooms job chosen free carried a r ready none judged =
-    let t = taskOf rows masks rooms job in
+pub judges : (rows : List (List ℕ)) (masks ns : List ℕ) (job : Job) (chosen free carried : ℕ) (a r : Best)
+    → Ready (taskOf rows masks ns job) (job .count) chosen carried → free ≡ 0 → Judged job chosen carried a r
+    → Found (taskOf rows masks ns job) chosen free a r
+judges rows masks ns job chosen free carried a r ready none judged =
+    let t = taskOf rows masks ns job in
     let j = subst (λ (c : ℕ). Judged job chosen c a r) (ready .carry) judged in
-    subst (λ (f : ℕ). Found t chosen f a r) (sym none) (leaf t chosen a r (ready .room) (j .old) (j .new) (j .least))
+    subst (λ (f : ℕ). Found t chosen f a r) (sym none) (leaf t chosen a r (ready .met) (j .old) (j .new) (j .least))
 
 -- no set between is better than the best so far, by what the free roles carry from the lowest on
-pub cuts-off : (rows reach : List (List ℕ)) (masks rooms : List ℕ) (job : Job) (chosen free carried role top : ℕ) (a : Best) (b : Bool)
-    → Ready (taskOf rows masks rooms job) (job .count) chosen carried → Reaches (rowsOf rows) (rowsOf reach) free → Lowest free role
+pub cuts-off : (rows reach : List (List ℕ)) (masks ns : List ℕ) (job : Job) (chosen free carried role top : ℕ) (a : Best) (b : Bool)
+    → Ready (taskOf rows masks ns job) (job .count) chosen carried → Reaches (rowsOf rows) (rowsOf reach) free → Lowest free role
     → top ≡ union carried (rowsOf reach role) → (b ≡ true → Settled job chosen free carried top a) → b ≡ true
-    → Found (taskOf rows masks rooms job) chosen free a a
+    → Found (taskOf rows masks ns job) chosen free a a
 unfolding serves carries
-cuts-off rows reach masks rooms job chosen free carried role top a b ready reaches low et settled e =
-    let t = taskOf rows masks rooms job in
+cuts-off rows reach masks ns job chosen free carried role top a b ready reaches low et settled e =
+    let t = taskOf rows masks ns job in
     none-better t chosen free a (λ s between m. settled e s (carries t s) between
     (λ p k. carried-sub (rowsOf rows) 64 chosen s (between .least) p (ap (λ (x : ℕ). has x p) (sym (ready .carry)) ∙ k))
     (λ p k. ap (λ (x : ℕ). has x p) et ∙ top-bound (rowsOf rows) (rowsOf reach) chosen free carried role reaches low (ready .carry) s between p k)
-    (and-l (within (t .lower) (carries t s)) (t .room s) m))
+    (and-l (within (t .lower) (carries t s)) (t .met s) m))
 
 -- ---- what falls: the permissions still wanted and the roles still free
 
@@ -160,6 +160,6 @@ pub roles-less : (free role less : ℕ) → free < 2 ^ 64 → role < 64 → has 
 roles-less free role less h l m e = omega (arith, ap (count 64) e, count-without 64 free role h l m)
 
 -- the empty set, with which a search starts
-pub ready-none : (t : Task) (n c : ℕ) → n ≤ 32 → c ≡ 0 → t .room 0 ≡ true → Ready t n 0 c
+pub ready-none : (t : Task) (n c : ℕ) → n ≤ 32 → c ≡ 0 → t .met 0 ≡ true → Ready t n 0 c
 unfolding carries
-ready-none t n c h e m = record { few = h; carry = e ∙ sym (carried-none (t .row) 64); room = m }
+ready-none t n c h e m = record { few = h; carry = e ∙ sym (carried-none (t .row) 64); met = m }

@@ -9,32 +9,32 @@ use Rattle.model.specs.Sets.{has, within, unionTo}
 use Rattle.sets.specs.Words.{value}
 use Rattle.query_rank.specs.declared.Best.{Best}
 use Rattle.query_rank.specs.declared.Job.{Job}
-use Rattle.query_rooms.specs.Rooms.{roomy}
+use Rattle.query_reduced.specs.Met.{reducedMet}
 use Rattle.query.specs.Carry.{rowsOf}
 use Rattle.query_rank.specs.Ranks.{keyBy, rank, rankAt, Between}
 
 -- ---- the task
 
--- what is searched: what each role carries, the lower bound, the role sets that the exclusions have room for, and the
+-- what is searched: what each role carries, the lower bound, the role sets that meet the exclusions, and the
 -- objectives for permissions and for roles
 pub record Task : Type 0 where
   pub row : ℕ → ℕ
   pub lower : ℕ
-  pub room : ℕ → Bool
+  pub met : ℕ → Bool
   pub first : ℕ
   pub second : ℕ
 
 abbrev pub taskOf : List (List ℕ) → List ℕ → List ℕ → Job → Task
-taskOf rows masks rooms job =
-    record { row = rowsOf rows; lower = value (job .lower); room = roomy masks rooms (job .count); first = job .first; second = job .second }
+taskOf rows masks ns job =
+    record { row = rowsOf rows; lower = value (job .lower); met = reducedMet masks ns (job .count); first = job .first; second = job .second }
 
 -- the permissions that the roles of s carry
 unfoldable pub carries : Task → ℕ → ℕ
 carries t s = unionTo (t .row) s 64
 
--- the roles of s carry the lower bound, and the exclusions have room for them
+-- the roles of s carry the lower bound and meet the exclusions
 unfoldable pub serves : Task → ℕ → Bool
-serves t s = within (t .lower) (carries t s) && t .room s
+serves t s = within (t .lower) (carries t s) && t .met s
 
 -- ---- ranks
 
@@ -47,11 +47,11 @@ rankOf t s = rank (keyOf t s) s
 
 -- ---- a step of a search: what it is given, and what it hands back
 
--- the permissions that the chosen roles carry are these, and the exclusions, at most 32, have room for the roles
+-- the permissions that the chosen roles carry are these, and the roles meet the exclusions, at most 32
 pub record Ready (t : Task) (count chosen carried : ℕ) : Type 0 where
   pub few : count ≤ 32
   pub carry : carried ≡ carries t chosen
-  pub room : t .room chosen ≡ true
+  pub met : t .met chosen ≡ true
 
 -- neither objective is the most
 pub record Modest (t : Task) : Type 0 where

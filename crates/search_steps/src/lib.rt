@@ -15,7 +15,7 @@ use query_rank::judged;
 use query_rank::key_of;
 use query_rank::no_worse;
 use query_rank::settled;
-use query_rooms::rooms::room_for;
+use query_reduced::met::reduced_met;
 
 // A node of a search: the roles still free, the roles chosen so far, and the permissions that these carry.
 pub struct Node {
@@ -28,22 +28,22 @@ pub struct Node {
 pub fn permission_step(
     rows: &[[u64; 4]; 64],
     masks: &[u64; 32],
-    rooms: &[u32; 32],
+    ns: &[u32; 32],
     job: Job,
     node: Node,
     best: Best,
     turned: &[u64; 256],
 ) -> Best
-    requires { ⌜ (Ready (taskOf (now rows) (now masks) (now rooms) job) (job .count) (node .chosen) (value (node .carried)))
-        × (Modest (taskOf (now rows) (now masks) (now rooms) job)) × (Turned (rowsOf (now rows)) (now turned) (value (job .lower)) (node .free)) ⌝ }
+    requires { ⌜ (Ready (taskOf (now rows) (now masks) (now ns) job) (job .count) (node .chosen) (value (node .carried)))
+        × (Modest (taskOf (now rows) (now masks) (now ns) job)) × (Turned (rowsOf (now rows)) (now turned) (value (job .lower)) (node .free)) ⌝ }
     ensures { λ r. ⌜ (within (value (job .lower)) (value (node .carried)) ≡ false
-        → Found (taskOf (now (rows .entry)) (now (masks .entry)) (now (rooms .entry)) job) (node .chosen) (node .free) best r) ⌝ }
+        → Found (taskOf (now (rows .entry)) (now (masks .entry)) (now (ns .entry)) job) (node .chosen) (node .free) best r) ⌝ }
 {
     let lower = job.lower;
     let carried = node.carried;
     let p = missing(lower, carried);
     let tries = sets::inter(node.free, turned[p.0 as usize]);
-    role_step(rows, masks, rooms, job, tries, node, best, turned)
+    role_step(rows, masks, ns, job, tries, node, best, turned)
 }
 
 // The roles of tries are tried. One that was tried is barred from what is tried after it. A set that is no better than
@@ -52,17 +52,17 @@ pub fn permission_step(
 pub fn role_step(
     rows: &[[u64; 4]; 64],
     masks: &[u64; 32],
-    rooms: &[u32; 32],
+    ns: &[u32; 32],
     job: Job,
     tries: u64,
     node: Node,
     best: Best,
     turned: &[u64; 256],
 ) -> Best
-    requires { ⌜ (Ready (taskOf (now rows) (now masks) (now rooms) job) (job .count) (node .chosen) (value (node .carried)))
-        × (Modest (taskOf (now rows) (now masks) (now rooms) job)) × (Sub tries (node .free))
+    requires { ⌜ (Ready (taskOf (now rows) (now masks) (now ns) job) (job .count) (node .chosen) (value (node .carried)))
+        × (Modest (taskOf (now rows) (now masks) (now ns) job)) × (Sub tries (node .free))
         × (Turned (rowsOf (now rows)) (now turned) (value (job .lower)) (node .free)) ⌝ }
-    ensures { λ r. ⌜ Tried (taskOf (now (rows .entry)) (now (masks .entry)) (now (rooms .entry)) job) tries (node .chosen) (node .free) best r ⌝ }
+    ensures { λ r. ⌜ Tried (taskOf (now (rows .entry)) (now (masks .entry)) (now (ns .entry)) job) tries (node .chosen) (node .free) best r ⌝ }
 {
     let lower = job.lower;
     let chosen = node.chosen;
@@ -77,7 +77,7 @@ pub fn role_step(
         let more = sets::with(chosen, role);
         left = rest;
         still = less;
-        if !room_for(masks, rooms, job.count, more) {
+        if !reduced_met(masks, ns, job.count, more) {
             continue;
         }
         let sum = sets::perm_union(carried, rows[role.0 as usize]);
@@ -97,7 +97,7 @@ pub fn role_step(
             chosen: more,
             carried: sum,
         };
-        let next = permission_step(rows, masks, rooms, job, below, found, turned);
+        let next = permission_step(rows, masks, ns, job, below, found, turned);
         found = next;
     }
     found
@@ -107,15 +107,15 @@ pub fn role_step(
 pub fn first_step(
     rows: &[[u64; 4]; 64],
     masks: &[u64; 32],
-    rooms: &[u32; 32],
+    ns: &[u32; 32],
     job: Job,
     node: Node,
     best: Best,
     turned: &[u64; 256],
 ) -> Best
-    requires { ⌜ (Ready (taskOf (now rows) (now masks) (now rooms) job) (job .count) (node .chosen) (value (node .carried)))
-        × (Modest (taskOf (now rows) (now masks) (now rooms) job)) × (Turned (rowsOf (now rows)) (now turned) (value (job .lower)) (node .free)) ⌝ }
-    ensures { λ r. ⌜ Found (taskOf (now (rows .entry)) (now (masks .entry)) (now (rooms .entry)) job) (node .chosen) (node .free) best r ⌝ }
+    requires { ⌜ (Ready (taskOf (now rows) (now masks) (now ns) job) (job .count) (node .chosen) (value (node .carried)))
+        × (Modest (taskOf (now rows) (now masks) (now ns) job)) × (Turned (rowsOf (now rows)) (now turned) (value (job .lower)) (node .free)) ⌝ }
+    ensures { λ r. ⌜ Found (taskOf (now (rows .entry)) (now (masks .entry)) (now (ns .entry)) job) (node .chosen) (node .free) best r ⌝ }
 {
     let chosen = node.chosen;
     let carried = node.carried;
@@ -130,24 +130,24 @@ pub fn first_step(
             roles: chosen,
         };
     }
-    permission_step(rows, masks, rooms, job, node, best, turned)
+    permission_step(rows, masks, ns, job, node, best, turned)
 }
 
-// Every set that has the chosen roles and some of the free ones: with the lowest where the exclusions have room, and
+// Every set that has the chosen roles and some of the free ones: with the lowest where the exclusions are met, and
 // then without it. They are given up where none of them can be better than the best so far, by `reach`: what the free
 // roles carry from each role on.
 pub fn subset_step(
     rows: &[[u64; 4]; 64],
     reach: &[[u64; 4]; 64],
     masks: &[u64; 32],
-    rooms: &[u32; 32],
+    ns: &[u32; 32],
     job: Job,
     node: Node,
     best: Best,
 ) -> Best
-    requires { ⌜ (Ready (taskOf (now rows) (now masks) (now rooms) job) (job .count) (node .chosen) (value (node .carried)))
+    requires { ⌜ (Ready (taskOf (now rows) (now masks) (now ns) job) (job .count) (node .chosen) (value (node .carried)))
         × (Reaches (rowsOf (now rows)) (rowsOf (now reach)) (node .free)) ⌝ }
-    ensures { λ r. ⌜ Found (taskOf (now (rows .entry)) (now (masks .entry)) (now (rooms .entry)) job) (node .chosen) (node .free) best r ⌝ }
+    ensures { λ r. ⌜ Found (taskOf (now (rows .entry)) (now (masks .entry)) (now (ns .entry)) job) (node .chosen) (node .free) best r ⌝ }
 {
     let chosen = node.chosen;
     let carried = node.carried;
@@ -166,7 +166,7 @@ pub fn subset_step(
         let less = sets::without(left, role);
         let wider = sets::with(chosen, role);
         left = less;
-        if !room_for(masks, rooms, count, wider) {
+        if !reduced_met(masks, ns, count, wider) {
             continue;
         }
         let sum = sets::perm_union(carried, rows[i]);
@@ -175,7 +175,7 @@ pub fn subset_step(
             chosen: wider,
             carried: sum,
         };
-        let next = subset_step(rows, reach, masks, rooms, job, below, found);
+        let next = subset_step(rows, reach, masks, ns, job, below, found);
         found = next;
     }
     judged(job, chosen, carried, found)

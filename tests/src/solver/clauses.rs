@@ -73,11 +73,11 @@ pub fn clauses(request: &Request) -> Clauses {
     hard.extend(permissions_of(&request.upper, false, permissions).map(|permission| vec![-of_permission(permission)]));
     let (mut highest, mut of_exclusions) = (roles + permissions, Vec::new());
     for exclusion in &policy.exclusions {
-        let (left, room) = reduced(exclusion, request.line, request.session);
-        let counted = counter(&left, room, highest);
+        let (left, n) = reduced(exclusion, request.line, request.session);
+        let counted = counter(&left, n, highest);
         of_exclusions.push(counted.len());
         hard.extend(counted);
-        highest += left.len() * room;
+        highest += left.len() * n;
     }
     let mut soft = wanted(request.objectives.0, roles + 1, (0..permissions).map(of_permission));
     soft.extend(wanted(request.objectives.1, 1, (0..roles).map(of_role)));
@@ -89,7 +89,7 @@ fn permissions_of(set: &PermissionFlags, inside: bool, below: usize) -> impl Ite
     (0..below).filter(move |permission| set[*permission] == inside)
 }
 
-/// The members of an exclusion that are not counted already, as variables, and the room for them.
+/// The members of an exclusion that are not counted already, as variables, and what is left of its n.
 fn reduced(exclusion: &Exclusion, line: &Line, session: usize) -> (Vec<i64>, usize) {
     let others = || line.sessions.iter().enumerate().filter(|(number, _)| *number != session);
     let counted = |role: usize| match exclusion.kind {
@@ -99,26 +99,26 @@ fn reduced(exclusion: &Exclusion, line: &Line, session: usize) -> (Vec<i64>, usi
         Kind::UserHistory => line.history[role],
     };
     let left: Vec<usize> = exclusion.members.iter().copied().filter(|role| !counted(*role)).collect();
-    let room = exclusion.n - (exclusion.members.len() - left.len());
-    (left.into_iter().map(|role| role as i64 + 1).collect(), room)
+    let n = exclusion.n - (exclusion.members.len() - left.len());
+    (left.into_iter().map(|role| role as i64 + 1).collect(), n)
 }
 
-/// The clauses that fewer than `room` of these variables are true, by helpers above the number `highest`.
-fn counter(left: &[i64], room: usize, highest: usize) -> Vec<Vec<i64>> {
-    let helper = |row: usize, count: usize| (highest + (row - 1) * room + count) as i64;
+/// The clauses that fewer than `n` of these variables are true, by helpers above the number `highest`.
+fn counter(left: &[i64], n: usize, highest: usize) -> Vec<Vec<i64>> {
+    let helper = |row: usize, count: usize| (highest + (row - 1) * n + count) as i64;
     let mut clauses = Vec::new();
     for (row, variable) in (1..).zip(left) {
         clauses.push(vec![-variable, helper(row, 1)]);
         if row > 1 {
-            for count in 1..=room {
+            for count in 1..=n {
                 clauses.push(vec![-helper(row - 1, count), helper(row, count)]);
             }
-            for count in 2..=room {
+            for count in 2..=n {
                 clauses.push(vec![-variable, -helper(row - 1, count - 1), helper(row, count)]);
             }
         }
     }
-    clauses.push(vec![-helper(left.len(), room)]);
+    clauses.push(vec![-helper(left.len(), n)]);
     clauses
 }
 

@@ -31,7 +31,7 @@ pub +before-blocking-spec : {M : Type 1} → statement M
     before-blocking.Post
     (λ c. search needs)
     (λ c. let g = c .before .args in
-    (search needs, λ e f. ends-here (under (now (g .rows)) (now (g .masks)) (now (g .rooms)) (g .lower)) _ _ _ (c .before .pre .1 .0) (c .if1 .taken) e f))
+    (search needs, λ e f. ends-here (under (now (g .rows)) (now (g .masks)) (now (g .ns)) (g .lower)) _ _ _ (c .before .pre .1 .0) (c .if1 .taken) e f))
     (λ c. search needs)
     (λ c. search needs)
     (λ c κs. search needs)
@@ -42,6 +42,6 @@ pub +before-blocking-spec : {M : Type 1} → statement M
     (λ c. let b = c .before .before in
     let g = b .before .before .args in (
       c .before-blocking2 .ensures .0,
-      λ e f. ends-wider (under (now (g .rows)) (now (g .masks)) (now (g .rooms)) (g .lower)) _ _ _ _ (omega arith)
+      λ e f. ends-wider (under (now (g .rows)) (now (g .masks)) (now (g .ns)) (g .lower)) _ _ _ _ (omega arith)
           (c .before-blocking2 .ensures .1 e (found-so _ _ _ _ (b .left-with .ensures) (c .before .if2 .left))),
     ))

@@ -5,26 +5,26 @@ use borrow.Author.Needs.{needs}
 use borrow.Author.Tests.{not-true, not-false}
 use denote.Ref.{now}
 use Rattle.sets.specs.Words.{joined, value}
-use Rattle.query_rooms.proofs.RoomLaws.{roomy-less}
+use Rattle.query_reduced.proofs.MetLaws.{met-less}
 use Rattle.search_steps.proofs.Turns.{ready-none}
 use Rattle.obstacles_blocks.specs.Firsts.{under}
-use Rattle.obstacles_blocks.proofs.Firsts.{no-room}
+use Rattle.obstacles_blocks.proofs.Firsts.{not-met}
 use Rattle.obstacles_blocks.proofs.left_with.Statement.{statement}
 use Rattle.obstacles_blocks.proofs.left_with.Tie as tie
 
 returns : tie.Need-returns
 returns c =
     let g = c .before .before .args in
-    no-room (under (now (g .rows)) (now (g .masks)) (now (g .rooms)) (g .lower) (g .count)) _ (roomy-less (now (g .masks)) (now (g .rooms)) (g .count)) _
-    (c .before .room-for .ensures) (not-true _ (c .if1 .taken))
+    not-met (under (now (g .rows)) (now (g .masks)) (now (g .ns)) (g .lower) (g .count)) _ (met-less (now (g .masks)) (now (g .ns)) (g .count)) _
+    (c .before .reduced-met .ensures) (not-true _ (c .if1 .taken))
 
 some-step-requires : tie.Need-some-step-requires
 unfolding value joined
 some-step-requires c κs =
     let s = c .before .before in
     let g = s .args in (
-      ready-none (under (now (g .rows)) (now (g .masks)) (now (g .rooms)) (g .lower) (g .count)) (g .count) 0 (s .pre .0) refl
-          (sym (c .before .room-for .ensures) ∙ not-false _ (c .if1 .left)),
+      ready-none (under (now (g .rows)) (now (g .masks)) (now (g .ns)) (g .lower) (g .count)) (g .count) 0 (s .pre .0) refl
+          (sym (c .before .reduced-met .ensures) ∙ not-false _ (c .if1 .left)),
       s .pre .1,
     )
 

@@ -15,7 +15,7 @@ first-step-requires c κs =
     let i = c .before .before .before .before in
     let s = i .before .before in
     let g = s .args in (
-      ready-none (taskOf (now (g .rows)) (now (g .masks)) (now (g .rooms)) (g .job)) (g .job .count) 0 (s .pre .0) refl (s .pre .1),
+      ready-none (taskOf (now (g .rows)) (now (g .masks)) (now (g .ns)) (g .job)) (g .job .count) 0 (s .pre .0) refl (s .pre .1),
       record { permissions = i .before .if1 .taken; roles = i .if2 .taken },
       c .before .join-carriers .ensures .0,
     )
@@ -25,7 +25,7 @@ unfolding value joined
 subset-step-requires c κs =
     let s = c .before .before .before in
     let g = s .args in (
-      ready-none (taskOf (now (g .rows)) (now (g .masks)) (now (g .rooms)) (g .job)) (g .job .count) 0 (s .pre .0) refl (s .pre .1),
+      ready-none (taskOf (now (g .rows)) (now (g .masks)) (now (g .ns)) (g .job)) (g .job .count) 0 (s .pre .0) refl (s .pre .1),
       c .before .reach .ensures,
     )
 

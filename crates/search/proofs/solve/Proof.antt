@@ -6,7 +6,7 @@ use borrow.Author.Tests.{not-true, not-false}
 use denote.Ref.{now}
 use Rattle.sets.specs.Words.{value}
 use Rattle.search_steps.specs.Search.{taskOf}
-use Rattle.query_rooms.proofs.RoomLaws.{roomy-less}
+use Rattle.query_reduced.proofs.MetLaws.{met-less}
 use Rattle.search.proofs.Solved.{is-chosen, none-chosen}
 use Rattle.search.proofs.solve.Statement.{statement}
 use Rattle.search.proofs.solve.Tie as tie
@@ -15,8 +15,8 @@ returns : tie.Need-returns
 returns c m l k given =
     let s = c .before .before in
     let g = s .args in
-    none-chosen (taskOf (now (g .rows)) (now (g .masks)) (now (g .rooms)) (g .job)) (value (g .upper)) (g .authorized) (s .fits .authorized .fits) m l k given
-    (roomy-less (now (g .masks)) (now (g .rooms)) (g .job .count)) _ (c .before .room-for .ensures) (not-true _ (c .if1 .taken))
+    none-chosen (taskOf (now (g .rows)) (now (g .masks)) (now (g .ns)) (g .job)) (value (g .upper)) (g .authorized) (s .fits .authorized .fits) m l k given
+    (met-less (now (g .masks)) (now (g .ns)) (g .job .count)) _ (c .before .reduced-met .ensures) (not-true _ (c .if1 .taken))
 
 returns-2 : tie.Need-returns-2
 returns-2 c m l k given =
@@ -24,7 +24,7 @@ returns-2 c m l k given =
     let u = b .before in
     let s = u .before .before .before in
     let g = s .args in
-    is-chosen (taskOf (now (g .rows)) (now (g .masks)) (now (g .rooms)) (g .job)) (value (g .upper)) (g .authorized) (s .fits .authorized .fits) m l
+    is-chosen (taskOf (now (g .rows)) (now (g .masks)) (now (g .ns)) (g .job)) (value (g .upper)) (g .authorized) (s .fits .authorized .fits) m l
     k given (u .usable .result) (u .usable .ensures)
     (b .best-of .result) (c .answer .result) (c .answer .ensures) (b .best-of .ensures)
 
@@ -36,6 +36,6 @@ solve-spec =
     returns
     (λ c κs. search needs)
     (λ c κs. let s = c .before .before .before in
-    (s .pre, sym (c .before .before .room-for .ensures) ∙ not-false _ (c .before .if1 .left)))
+    (s .pre, sym (c .before .before .reduced-met .ensures) ∙ not-false _ (c .before .if1 .left)))
     (λ c κs. search needs)
     returns-2)

@@ -13,7 +13,7 @@ use Rattle.model.specs.Sets.{count}
 use Rattle.sets.specs.Words.{value}
 use Rattle.query.specs.Carry.{rowsOf}
 use Rattle.search_steps.specs.Search.{taskOf}
-use Rattle.query_rooms.proofs.RoomLaws.{roomy-less}
+use Rattle.query_reduced.proofs.MetLaws.{met-less}
 use Rattle.query.proofs.Turned.{turned-sub}
 use Rattle.search_steps.proofs.Turns.{gives-up, reaches, goes-on, tries-sub, ready-more, wanted, wanted-less}
 use Rattle.search_steps.proofs.Loops.{Trying, trying-start, trying-end, trying-less, trying-off, trying-on, less-free, fewer-free}
@@ -26,7 +26,7 @@ use Rattle.search_steps.proofs.+permission_step+role_step.Lts-role_step
 use Rattle.query.proofs.carry.missing.Reads as missing-reads
 use Rattle.query_rank.proofs.key_of.Reads as key-of-reads
 use Rattle.query_rank.proofs.no_worse.Reads as no-worse-reads
-use Rattle.query_rooms.proofs.rooms.room_for.Reads as room-for-reads
+use Rattle.query_reduced.proofs.met.reduced_met.Reads as reduced-met-reads
 use Rattle.sets.proofs.inter.Reads as inter-reads
 use Rattle.sets.proofs.lowest.Reads as lowest-reads
 use Rattle.sets.proofs.perm_union.Reads as perm-union-reads
@@ -55,11 +55,11 @@ abbrev role-step-below : ℕ → In 4 role-step-kinds.ps
 role-step-below t = and 4 role-step-kinds.ps (falls 4 role-step-kinds.ps _<_ μ-role-step t) role-step.Pre
 
 abbrev Inv-loop : role-step-lts.InvT-loop
-Inv-loop rows masks rooms job tries turned lower chosen carried left₀ still₀ found₀ left still found =
-    Trying (taskOf rows masks rooms job) tries chosen still₀ found₀ left still found
+Inv-loop rows masks ns job tries turned lower chosen carried left₀ still₀ found₀ left still found =
+    Trying (taskOf rows masks ns job) tries chosen still₀ found₀ left still found
 
 abbrev μ-loop : role-step-lts.MeasureT-loop
-μ-loop rows masks rooms job tries turned lower chosen carried left₀ still₀ found₀ left still found = count 64 left
+μ-loop rows masks ns job tries turned lower chosen carried left₀ still₀ found₀ left still found = count 64 left
 
 pub +permission-step+role-step-spec : {M : Type 1} → statement M
 +permission-step+role-step-spec =
@@ -84,7 +84,7 @@ pub +permission-step+role-step-spec : {M : Type 1} → statement M
     let m = h .before .before .before in
     let s = m .before .before .before in
     let g = s .args in
-    goes-on (taskOf (now (g .rows)) (now (g .masks)) (now (g .rooms)) (g .job)) _ _ _ _ (s .pre .1 .0) _ refl (now (g .turned)) _ (m .missing .result .0)
+    goes-on (taskOf (now (g .rows)) (now (g .masks)) (now (g .ns)) (g .job)) _ _ _ _ (s .pre .1 .0) _ refl (now (g .turned)) _ (m .missing .result .0)
     (h .inter .result) _ lacking (m .missing .ensures) (s .pre .1 .2) (h .inter .ensures) (c .role-step .ensures)))
     λ t. role-step-lts.spec (
       lowest-reads.Asked,
@@ -93,8 +93,8 @@ pub +permission-step+role-step-spec : {M : Type 1} → statement M
       without-reads.Learnt,
       with-reads.Asked,
       with-reads.Learnt,
-      room-for-reads.Asked,
-      room-for-reads.Learnt,
+      reduced-met-reads.Asked,
+      reduced-met-reads.Learnt,
       perm-union-reads.Asked,
       perm-union-reads.Learnt,
       key-of-reads.Asked,
@@ -127,9 +127,9 @@ pub +permission-step+role-step-spec : {M : Type 1} → statement M
     let l = f .before .before in
     let k = l .before .before in
     let g = k .before .before .before .args in
-    trying-off (taskOf (now (g .rows)) (now (g .masks)) (now (g .rooms)) (g .job)) (roomy-less (now (g .masks)) (now (g .rooms)) (g .job .count)) _ _ _ _
+    trying-off (taskOf (now (g .rows)) (now (g .masks)) (now (g .ns)) (g .job)) (met-less (now (g .masks)) (now (g .ns)) (g .job .count)) _ _ _ _
     (k .loop .left) _ _ (k .loop .inv) _ _ _ _ _ (l .lowest .ensures .member) (f .before .without .ensures) (f .without2 .ensures) (w .with .ensures)
-    (c .before .room-for .ensures) (not-true _ (c .if1 .taken)))
+    (c .before .reduced-met .ensures) (not-true _ (c .if1 .taken)))
     (λ c. search needs)
     (λ c. search needs)
     (λ c. search needs)
@@ -150,12 +150,12 @@ pub +permission-step+role-step-spec : {M : Type 1} → statement M
     let k = l .before .before in
     let s = k .before .before .before in
     let g = s .args in
-    let t = taskOf (now (g .rows)) (now (g .masks)) (now (g .rooms)) (g .job) in
-    trying-on t (roomy-less (now (g .masks)) (now (g .rooms)) (g .job .count)) _ _ _ _
+    let t = taskOf (now (g .rows)) (now (g .masks)) (now (g .ns)) (g .job) in
+    trying-on t (met-less (now (g .masks)) (now (g .ns)) (g .job .count)) _ _ _ _
     (k .loop .left) _ _ (k .loop .inv) _ _ _ _ _ (l .lowest .ensures .member) (f .before .without .ensures) (f .without2 .ensures) (w .with .ensures)
-    (i .before .room-for .ensures) _
+    (i .before .reduced-met .ensures) _
     (gives-up t _ _ _ _ _ _
-    (ready-more t _ _ _ _ (s .pre .1 .0) _ _ _ _ (l .lowest .ensures .small) (w .with .ensures) (u .perm-union .ensures) refl (i .before .room-for .ensures)
+    (ready-more t _ _ _ _ (s .pre .1 .0) _ _ _ _ (l .lowest .ensures .small) (w .with .ensures) (u .perm-union .ensures) refl (i .before .reduced-met .ensures)
     (not-false _ (i .if1 .left)))
     (c .before .before .key-of .ensures) (c .before .no-worse .ensures) _ (s .pre .1 .1) (c .if2 .taken)))
     (λ c κs. search needs)
@@ -175,12 +175,12 @@ pub +permission-step+role-step-spec : {M : Type 1} → statement M
     let k = l .before .before in
     let s = k .before .before .before in
     let g = s .args in
-    let t = taskOf (now (g .rows)) (now (g .masks)) (now (g .rooms)) (g .job) in
-    trying-on t (roomy-less (now (g .masks)) (now (g .rooms)) (g .job .count)) _ _ _ _
+    let t = taskOf (now (g .rows)) (now (g .masks)) (now (g .ns)) (g .job) in
+    trying-on t (met-less (now (g .masks)) (now (g .ns)) (g .job .count)) _ _ _ _
     (k .loop .left) _ _ (k .loop .inv) _ _ _ _ _ (l .lowest .ensures .member) (f .before .without .ensures) (f .without2 .ensures) (w .with .ensures)
-    (i .before .room-for .ensures) _
+    (i .before .reduced-met .ensures) _
     (reaches t _ _ _ _ _ _
-    (ready-more t _ _ _ _ (s .pre .1 .0) _ _ _ _ (l .lowest .ensures .small) (w .with .ensures) (u .perm-union .ensures) refl (i .before .room-for .ensures)
+    (ready-more t _ _ _ _ (s .pre .1 .0) _ _ _ _ (l .lowest .ensures .small) (w .with .ensures) (u .perm-union .ensures) refl (i .before .reduced-met .ensures)
     (not-false _ (i .if1 .left)))
     (j .before .before .key-of .ensures) (j .before .no-worse .ensures) _ (s .pre .1 .1) (j .if2 .left) _ (c .before .perm-within .ensures) (c .if3 .taken)))
     (λ c κs. let j = c .before .before in
@@ -203,8 +203,8 @@ pub +permission-step+role-step-spec : {M : Type 1} → statement M
         wanted-less (value (g .job .lower)) (value (g .node .carried)) _ (value (u .perm-union .result)) (u .perm-union .ensures),
       ),
       (
-        ready-more (taskOf (now (g .rows)) (now (g .masks)) (now (g .rooms)) (g .job)) _ _ _ _ (s .pre .1 .0) _ _ _ _ (low .small) (w .with .ensures)
-            (u .perm-union .ensures) refl (i .before .room-for .ensures) (not-false _ (i .if1 .left)),
+        ready-more (taskOf (now (g .rows)) (now (g .masks)) (now (g .ns)) (g .job)) _ _ _ _ (s .pre .1 .0) _ _ _ _ (low .small) (w .with .ensures)
+            (u .perm-union .ensures) refl (i .before .reduced-met .ensures) (not-false _ (i .if1 .left)),
         s .pre .1 .1,
         turned-sub (rowsOf (now (g .rows))) (now (g .turned)) (value (g .job .lower)) (g .node .free) _ (s .pre .1 .3)
             (less-free (g .node .free) (k .loop .still) (l .lowest .result .0) _ (inv .fewer) on (f .without2 .ensures)),
@@ -225,7 +225,7 @@ pub +permission-step+role-step-spec : {M : Type 1} → statement M
     let l = f .before .before in
     let k = l .before .before in
     let g = k .before .before .before .args in
-    trying-on (taskOf (now (g .rows)) (now (g .masks)) (now (g .rooms)) (g .job)) (roomy-less (now (g .masks)) (now (g .rooms)) (g .job .count)) _ _ _ _
+    trying-on (taskOf (now (g .rows)) (now (g .masks)) (now (g .ns)) (g .job)) (met-less (now (g .masks)) (now (g .ns)) (g .job .count)) _ _ _ _
     (k .loop .left) _ _ (k .loop .inv) _ _ _ _ _ (l .lowest .ensures .member) (f .before .without .ensures) (f .without2 .ensures) (w .with .ensures)
-    (i .before .room-for .ensures) _ (c .permission-step .ensures (sym (h .before .perm-within .ensures) ∙ h .if3 .left)))
+    (i .before .reduced-met .ensures) _ (c .permission-step .ensures (sym (h .before .perm-within .ensures) ∙ h .if3 .left)))
     (λ c. let k = c .before in trying-end _ _ _ _ _ _ _ _ (k .loop .inv) (c .loop-test .left))

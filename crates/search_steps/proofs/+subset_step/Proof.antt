@@ -10,7 +10,7 @@ use borrow.Fn.PlainCycle.{Measures, is, falls, and}
 use denote.Ref.{now}
 use Rattle.model.specs.Sets.{count}
 use Rattle.search_steps.specs.Search.{taskOf}
-use Rattle.query_rooms.proofs.RoomLaws.{roomy-less}
+use Rattle.query_reduced.proofs.MetLaws.{met-less}
 use Rattle.search_steps.proofs.Turns.{judges, ready-more, cuts-off}
 use Rattle.search_steps.proofs.Loops.{Walking, walking-start, walking-off, walking-on, reaches-sub, less-free, fewer-left, fewer-free}
 use Rattle.search_steps.proofs.subset_step.Reads as subset-step
@@ -20,7 +20,7 @@ use Rattle.query_rank.proofs.fewest_permissions.Reads as fewest-permissions-rea
 use Rattle.query_rank.proofs.fewest_roles.Reads as fewest-roles-reads
 use Rattle.query_rank.proofs.judged.Reads as judged-reads
 use Rattle.query_rank.proofs.settled.Reads as settled-reads
-use Rattle.query_rooms.proofs.rooms.room_for.Reads as room-for-reads
+use Rattle.query_reduced.proofs.met.reduced_met.Reads as reduced-met-reads
 use Rattle.sets.proofs.lowest.Reads as lowest-reads
 use Rattle.sets.proofs.perm_union.Reads as perm-union-reads
 use Rattle.sets.proofs.with.Reads as with-reads
@@ -38,11 +38,11 @@ abbrev subset-step-below : ℕ → In 4 subset-step-kinds.ps
 subset-step-below t = and 4 subset-step-kinds.ps (falls 4 subset-step-kinds.ps _<_ μ-subset-step t) subset-step.Pre
 
 abbrev Inv-loop : subset-step-lts.InvT-loop
-Inv-loop rows reach masks rooms job chosen carried permissions roles n left₀ found₀ left found =
-    Walking (taskOf rows masks rooms job) chosen left₀ found₀ left found
+Inv-loop rows reach masks ns job chosen carried permissions roles n left₀ found₀ left found =
+    Walking (taskOf rows masks ns job) chosen left₀ found₀ left found
 
 abbrev μ-loop : subset-step-lts.MeasureT-loop
-μ-loop rows reach masks rooms job chosen carried permissions roles n left₀ found₀ left found = count 64 left
+μ-loop rows reach masks ns job chosen carried permissions roles n left₀ found₀ left found = count 64 left
 
 pub +subset-step-spec : {M : Type 1} → statement M
 +subset-step-spec =
@@ -61,8 +61,8 @@ pub +subset-step-spec : {M : Type 1} → statement M
       without-reads.Learnt,
       with-reads.Asked,
       with-reads.Learnt,
-      room-for-reads.Asked,
-      room-for-reads.Learnt,
+      reduced-met-reads.Asked,
+      reduced-met-reads.Learnt,
       subset-step-below t,
       subset-step.Post,
       judged-reads.Asked,
@@ -87,7 +87,7 @@ pub +subset-step-spec : {M : Type 1} → statement M
     let n = k .before in
     let s = n .before .before .before in
     let g = s .args in
-    k .loop .inv .rest _ (cuts-off (now (g .rows)) (now (g .reach)) (now (g .masks)) (now (g .rooms)) (g .job) _ _ _ _ _ _ _ (s .pre .1 .0)
+    k .loop .inv .rest _ (cuts-off (now (g .rows)) (now (g .reach)) (now (g .masks)) (now (g .ns)) (g .job) _ _ _ _ _ _ _ (s .pre .1 .0)
     (reaches-sub _ _ (g .node .free) (k .loop .left) (k .loop .inv .inside) (s .pre .1 .1)) (l .lowest .ensures) (u .perm-union .ensures)
     (λ e. c .before .settled .ensures e _ (n .before .fewest-permissions .ensures) (n .fewest-roles .ensures)) (c .if1 .taken)))
     (λ c κs. search needs)
@@ -106,8 +106,8 @@ pub +subset-step-spec : {M : Type 1} → statement M
     let l = f .before .before .before .before .before .before in
     let k = l .before .before in
     let g = k .before .before .before .before .args in
-    walking-off (taskOf (now (g .rows)) (now (g .masks)) (now (g .rooms)) (g .job)) (roomy-less (now (g .masks)) (now (g .rooms)) (g .job .count)) _ _ _
-    (k .loop .left) _ (k .loop .inv) _ _ _ _ (l .lowest .ensures .member) (f .without .ensures) (w .with .ensures) (c .before .room-for .ensures)
+    walking-off (taskOf (now (g .rows)) (now (g .masks)) (now (g .ns)) (g .job)) (met-less (now (g .masks)) (now (g .ns)) (g .job .count)) _ _ _
+    (k .loop .left) _ (k .loop .inv) _ _ _ _ (l .lowest .ensures .member) (f .without .ensures) (w .with .ensures) (c .before .reduced-met .ensures)
     (not-true _ (c .if2 .taken)))
     (λ c. search needs)
     (λ c. search needs)
@@ -128,8 +128,8 @@ pub +subset-step-spec : {M : Type 1} → statement M
             (low .member) (f .without .ensures),
       ),
       (
-        ready-more (taskOf (now (g .rows)) (now (g .masks)) (now (g .rooms)) (g .job)) _ _ _ _ (s .pre .1 .0) _ _ _ _ (low .small)
-            (w .with .ensures) (c .perm-union2 .ensures) refl (i .before .room-for .ensures) (not-false _ (i .if2 .left)),
+        ready-more (taskOf (now (g .rows)) (now (g .masks)) (now (g .ns)) (g .job)) _ _ _ _ (s .pre .1 .0) _ _ _ _ (low .small)
+            (w .with .ensures) (c .perm-union2 .ensures) refl (i .before .reduced-met .ensures) (not-false _ (i .if2 .left)),
         reaches-sub _ _ (g .node .free) _
             (less-free (g .node .free) (k .loop .left) (l .lowest .result .0) _ inside (low .member) (f .without .ensures)) (s .pre .1 .1),
       ),
@@ -146,12 +146,12 @@ pub +subset-step-spec : {M : Type 1} → statement M
     let l = f .before .before .before .before .before .before in
     let k = l .before .before in
     let g = k .before .before .before .before .args in
-    walking-on (taskOf (now (g .rows)) (now (g .masks)) (now (g .rooms)) (g .job)) (roomy-less (now (g .masks)) (now (g .rooms)) (g .job .count)) _ _ _
-    (k .loop .left) _ (k .loop .inv) _ _ _ _ (l .lowest .ensures .member) (f .without .ensures) (w .with .ensures) (i .before .room-for .ensures) _
+    walking-on (taskOf (now (g .rows)) (now (g .masks)) (now (g .ns)) (g .job)) (met-less (now (g .masks)) (now (g .ns)) (g .job .count)) _ _ _
+    (k .loop .left) _ (k .loop .inv) _ _ _ _ (l .lowest .ensures .member) (f .without .ensures) (w .with .ensures) (i .before .reduced-met .ensures) _
     (c .subset-step .ensures))
     (λ c κs. search needs)
     (λ c. let k = c .before .before in
     let s = k .before .before .before .before in
     let g = s .args in
-    k .loop .inv .rest _ (judges (now (g .rows)) (now (g .masks)) (now (g .rooms)) (g .job) _ _ _ _ _ (s .pre .1 .0) (c .before .loop-test .left)
+    k .loop .inv .rest _ (judges (now (g .rows)) (now (g .masks)) (now (g .ns)) (g .job) _ _ _ _ _ (s .pre .1 .0) (c .before .loop-test .left)
     (c .judged .ensures)))

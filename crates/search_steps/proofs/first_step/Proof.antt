@@ -13,7 +13,7 @@ returns : tie.Need-returns
 returns c =
     let s = c .before .before .before .before in
     let g = s .args in
-    gives-up (taskOf (now (g .rows)) (now (g .masks)) (now (g .rooms)) (g .job)) _ _ _ _ _ _ (s .pre .0) (c .before .before .key-of .ensures)
+    gives-up (taskOf (now (g .rows)) (now (g .masks)) (now (g .ns)) (g .job)) _ _ _ _ _ _ (s .pre .0) (c .before .before .key-of .ensures)
     (c .before .no-worse .ensures) _ (s .pre .1) (c .if1 .taken)
 
 returns-2 : tie.Need-returns-2
@@ -21,7 +21,7 @@ returns-2 c =
     let i = c .before .before .before in
     let s = i .before .before .before .before in
     let g = s .args in
-    reaches (taskOf (now (g .rows)) (now (g .masks)) (now (g .rooms)) (g .job)) _ _ _ _ _ _ (s .pre .0) (i .before .before .key-of .ensures)
+    reaches (taskOf (now (g .rows)) (now (g .masks)) (now (g .ns)) (g .job)) _ _ _ _ _ _ (s .pre .0) (i .before .before .key-of .ensures)
     (i .before .no-worse .ensures) _ (s .pre .1) (i .if1 .left) _ (c .before .perm-within .ensures) (c .if2 .taken)
 
 returns-3 : tie.Need-returns-3

@@ -1,4 +1,4 @@
--- `asks::ask::best` meets its contract: the reduced exclusions leave room exactly where every exclusion is met.
+-- `asks::ask::best` meets its contract: the reduced exclusions are met exactly where every exclusion is.
 -- Assumes nothing.
 use borrow.Author.Needs.{needs}
 use Rattle.exclusion_rows.specs.Rows.{exclusionsIn}

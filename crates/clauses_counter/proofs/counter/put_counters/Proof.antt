@@ -14,12 +14,12 @@ use Rattle.clauses_counter.proofs.counter.put_counters.Statement.{state
 use Rattle.clauses_counter.proofs.counter.put_counters.Tie as tie
 
 abbrev Inv-loop : tie.InvT-loop
-Inv-loop out₀ at w a masks rooms count next₀ behind₀ i₀ out next behind i =
+Inv-loop out₀ at w a masks ns count next₀ behind₀ i₀ out next behind i =
     (i ≤ count) × (behind ≤ a + 274877906880 * i) × (length out ≡ length out₀)
-    × Along out₀ at (linesOf w (counters masks rooms count 0 a)) (linesOf w (counters masks rooms (count - i) i behind)) out next
+    × Along out₀ at (linesOf w (counters masks ns count 0 a)) (linesOf w (counters masks ns (count - i) i behind)) out next
 
 abbrev μ-loop : tie.MeasureT-loop
-μ-loop out₀ at w a masks rooms count next₀ behind₀ i₀ out next behind i = count - i
+μ-loop out₀ at w a masks ns count next₀ behind₀ i₀ out next behind i = count - i
 
 loop-again : tie.Need-loop-again Inv-loop μ-loop
 loop-again c =

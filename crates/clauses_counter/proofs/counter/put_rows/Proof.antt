@@ -9,7 +9,7 @@ use Rattle.model.specs.Sets.{count}
 use Rattle.model.specs.Clauses.{rows, variablesIn}
 use Rattle.clauses_lines.specs.Lines.{linesOf}
 use Rattle.clauses_bytes.proofs.WritingLaws.{puts-as, Along, along-starts, along-ends}
-use Rattle.clauses_counter.proofs.CounterLaws.{rows-none, behind-next, one-fewer, rows-room, rows-goes}
+use Rattle.clauses_counter.proofs.CounterLaws.{rows-none, behind-next, one-fewer, rows-fit, rows-goes}
 use Rattle.clauses_counter.proofs.counter.put_rows.Statement.{statement}
 use Rattle.clauses_counter.proofs.counter.put_rows.Tie as tie
 
@@ -30,6 +30,6 @@ returns c =
 pub put-rows-spec : {M : Type 1} → statement M
 put-rows-spec =
     tie.close
-    (tie.spec Inv-loop μ-loop (λ c. search (needs, along-starts, rows-room)) (λ c κs. search needs) (λ c. search needs)
+    (tie.spec Inv-loop μ-loop (λ c. search (needs, along-starts, rows-fit)) (λ c κs. search needs) (λ c. search needs)
     (λ c. search needs) (λ c κs. search needs) (λ c. search needs) (λ c κs. search needs) (λ c. search (needs, one-fewer))
     (λ c. search (needs, behind-next, rows-goes)) (λ c. search needs) (λ c κs. search needs) (λ c. search needs) returns)

@@ -10,11 +10,11 @@ use Rattle.clauses_hard.proofs.sizes.counters_size.Statement.{statement
 use Rattle.clauses_hard.proofs.sizes.counters_size.Tie as tie
 
 abbrev Inv-loop : tie.InvT-loop
-Inv-loop masks rooms count total₀ i₀ total i =
-    (i ≤ count) × (total ≡ sumTo (λ k. counterSize (getD rooms k 0) (getD masks k 0)) i) × (total ≤ 549755813762 * i)
+Inv-loop masks ns count total₀ i₀ total i =
+    (i ≤ count) × (total ≡ sumTo (λ k. counterSize (getD ns k 0) (getD masks k 0)) i) × (total ≤ 549755813762 * i)
 
 abbrev μ-loop : tie.MeasureT-loop
-μ-loop masks rooms count total₀ i₀ total i = count - i
+μ-loop masks ns count total₀ i₀ total i = count - i
 
 loop-again : tie.Need-loop-again Inv-loop μ-loop
 loop-again c =

@@ -12,7 +12,7 @@ use Rattle.model.specs.Sets.{count}
 use Rattle.sets.specs.Words.{value}
 use Rattle.query.specs.Carry.{rowsOf}
 use Rattle.search_steps.specs.Search.{taskOf}
-use Rattle.query_rooms.proofs.RoomLaws.{roomy-less}
+use Rattle.query_reduced.proofs.MetLaws.{met-less}
 use Rattle.query.proofs.Turned.{turned-sub}
 use Rattle.search_steps.proofs.Turns.{ready-more}
 use Rattle.search_steps.proofs.Loops.{less-free, fewer-left, fewer-free}
@@ -21,7 +21,7 @@ use Rattle.obstacles_blocks.proofs.first.some_step.Reads as some-step
 use Rattle.obstacles_blocks.proofs.first.some_step.Kinds as some-step-kinds
 use Rattle.obstacles_blocks.proofs.first.+some_step.Lts-some_step as some-step-lts
 use Rattle.query.proofs.carry.missing.Reads as missing-reads
-use Rattle.query_rooms.proofs.rooms.room_for.Reads as room-for-reads
+use Rattle.query_reduced.proofs.met.reduced_met.Reads as reduced-met-reads
 use Rattle.sets.proofs.inter.Reads as inter-reads
 use Rattle.sets.proofs.lowest.Reads as lowest-reads
 use Rattle.sets.proofs.perm_union.Reads as perm-union-reads
@@ -41,10 +41,10 @@ abbrev some-step-below : ℕ → In 4 some-step-kinds.ps
 some-step-below t = and 4 some-step-kinds.ps (falls 4 some-step-kinds.ps _<_ μ-some-step t) some-step.Pre
 
 abbrev Inv-loop : some-step-lts.InvT-loop
-Inv-loop rows masks rooms job free chosen carried turned n left₀ still₀ left still = Passing (taskOf rows masks rooms job) chosen free left still
+Inv-loop rows masks ns job free chosen carried turned n left₀ still₀ left still = Passing (taskOf rows masks ns job) chosen free left still
 
 abbrev μ-loop : some-step-lts.MeasureT-loop
-μ-loop rows masks rooms job free chosen carried turned n left₀ still₀ left still = count 64 left
+μ-loop rows masks ns job free chosen carried turned n left₀ still₀ left still = count 64 left
 
 pub +some-step-spec : {M : Type 1} → statement M
 +some-step-spec =
@@ -61,8 +61,8 @@ pub +some-step-spec : {M : Type 1} → statement M
       without-reads.Learnt,
       with-reads.Asked,
       with-reads.Learnt,
-      room-for-reads.Asked,
-      room-for-reads.Learnt,
+      reduced-met-reads.Asked,
+      reduced-met-reads.Learnt,
       perm-union-reads.Asked,
       perm-union-reads.Learnt,
       some-step-below t,
@@ -75,7 +75,7 @@ pub +some-step-spec : {M : Type 1} → statement M
     (λ c κs. search needs)
     (λ c. let s = c .before .before .before in
     let g = s .args in
-    found-chosen (taskOf (now (g .rows)) (now (g .masks)) (now (g .rooms)) (g .job)) _ _ _ (s .pre .1 .0) _ (c .before .perm-within .ensures) _ (c .if1 .taken))
+    found-chosen (taskOf (now (g .rows)) (now (g .masks)) (now (g .ns)) (g .job)) _ _ _ (s .pre .1 .0) _ (c .before .perm-within .ensures) _ (c .if1 .taken))
     (λ c κs. search needs)
     (λ c. search needs)
     (λ c. search needs)
@@ -85,7 +85,7 @@ pub +some-step-spec : {M : Type 1} → statement M
     let w = m .before .before in
     let s = w .before .before in
     let g = s .args in
-    passing-start (taskOf (now (g .rows)) (now (g .masks)) (now (g .rooms)) (g .job)) _ _ _ (s .pre .1 .0) _ (w .perm-within .ensures) (now (g .turned)) _
+    passing-start (taskOf (now (g .rows)) (now (g .masks)) (now (g .ns)) (g .job)) _ _ _ (s .pre .1 .0) _ (w .perm-within .ensures) (now (g .turned)) _
     (m .missing .result .0) _ (m .before .if1 .left) (m .missing .ensures) (s .pre .1 .1) (c .inter .ensures))
     (λ c κs. search needs)
     (λ c κs. search needs)
@@ -108,9 +108,9 @@ pub +some-step-spec : {M : Type 1} → statement M
     let k = l .before .before in
     let m = k .before .before .before .before in
     let g = m .before .before .before .before .args in
-    passing-off (taskOf (now (g .rows)) (now (g .masks)) (now (g .rooms)) (g .job)) _ _ (k .loop .left) _ (k .loop .inv) _ _ _ _
+    passing-off (taskOf (now (g .rows)) (now (g .masks)) (now (g .ns)) (g .job)) _ _ (k .loop .left) _ (k .loop .inv) _ _ _ _
     (l .lowest .ensures .member) (f .before .without .ensures) (f .without2 .ensures) (w .with .ensures)
-    (roomy-less (now (g .masks)) (now (g .rooms)) (g .job .count)) _ (c .before .room-for .ensures) (not-true _ (c .if2 .taken)))
+    (met-less (now (g .masks)) (now (g .ns)) (g .job .count)) _ (c .before .reduced-met .ensures) (not-true _ (c .if2 .taken)))
     (λ c. search needs)
     (λ c. search needs)
     (λ c. search needs)
@@ -132,8 +132,8 @@ pub +some-step-spec : {M : Type 1} → statement M
         fewer-free (g .free) (k .loop .still) (l .lowest .result .0) _ (s .fits .free .fits) (inv .fewer) (low .small) on (f .without2 .ensures),
       ),
       (
-        ready-more (taskOf (now (g .rows)) (now (g .masks)) (now (g .rooms)) (g .job)) _ _ _ _ (s .pre .1 .0) _ _ _ _ (low .small) (w .with .ensures)
-            (c .perm-union .ensures) refl (i .before .room-for .ensures) (not-false _ (i .if2 .left)),
+        ready-more (taskOf (now (g .rows)) (now (g .masks)) (now (g .ns)) (g .job)) _ _ _ _ (s .pre .1 .0) _ _ _ _ (low .small) (w .with .ensures)
+            (c .perm-union .ensures) refl (i .before .reduced-met .ensures) (not-false _ (i .if2 .left)),
         turned-sub (rowsOf (now (g .rows))) (now (g .turned)) (value (g .job .lower)) (g .free) _ (s .pre .1 .1)
             (less-free (g .free) (k .loop .still) (l .lowest .result .0) _ (inv .fewer) on (f .without2 .ensures)),
       ),
@@ -145,7 +145,7 @@ pub +some-step-spec : {M : Type 1} → statement M
     let k = l .before .before in
     let m = k .before .before .before .before in
     let g = m .before .before .before .before .args in
-    passing-found (taskOf (now (g .rows)) (now (g .masks)) (now (g .rooms)) (g .job)) _ _ (k .loop .left) _ (k .loop .inv) _ _ _ _
+    passing-found (taskOf (now (g .rows)) (now (g .masks)) (now (g .ns)) (g .job)) _ _ (k .loop .left) _ (k .loop .inv) _ _ _ _
     (l .lowest .ensures .member) (f .before .without .ensures) (f .without2 .ensures) (w .with .ensures) _ (c .before .some-step .ensures) (c .if3 .taken))
     (λ c. let i = c .before .before .before .before .before in
     let r = i .before .before .before .before in
@@ -163,6 +163,6 @@ pub +some-step-spec : {M : Type 1} → statement M
     let k = l .before .before in
     let m = k .before .before .before .before in
     let g = m .before .before .before .before .args in
-    passing-on (taskOf (now (g .rows)) (now (g .masks)) (now (g .rooms)) (g .job)) _ _ (k .loop .left) _ (k .loop .inv) _ _ _ _
+    passing-on (taskOf (now (g .rows)) (now (g .masks)) (now (g .ns)) (g .job)) _ _ (k .loop .left) _ (k .loop .inv) _ _ _ _
     (l .lowest .ensures .member) (f .before .without .ensures) (f .without2 .ensures) (w .with .ensures) _ (c .before .some-step .ensures) (c .if3 .left))
     (λ c. let k = c .before in passing-end _ _ _ _ _ (k .loop .inv) (c .loop-test .left))

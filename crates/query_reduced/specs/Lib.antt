@@ -1,5 +1,5 @@
--- The room that exclusions leave, over the model's definitions.
+-- Whether roles meet the reduced exclusions, over the model's definitions.
 
 -- Helpers of code and proofs: no theorem and no exported contract is stated in these.
-pub mod Rooms
+pub mod Met
 pub mod Reduction

@@ -1,4 +1,4 @@
--- Tests of every number below n, and the room of exclusions: what leaves room for a set leaves room for a smaller one.
+-- Tests of every number below n, and the reduced exclusions: what a set meets a smaller one meets.
 -- Assumes nothing.
 use mathlib.Core.Path.{_≡_, refl, sym, ap, _∙_}
 use mathlib.Core.Bool.{Bool, true, false, _&&_}
@@ -14,7 +14,7 @@ use borrow.Author.Tests.{ltb-true, ltb-false, lt-ltb}
 use Rattle.model.specs.Sets.{has, inter, count}
 use Rattle.model_laws.proofs.Bools.{and-l, and-r, both, not-both}
 use Rattle.model_laws.proofs.SetLaws.{has-inter}
-use Rattle.query_rooms.specs.Rooms.{fits, allBelow, roomy}
+use Rattle.query_reduced.specs.Met.{fits, allBelow, reducedMet}
 use Rattle.query.specs.Carry.{Sub}
 use Rattle.query.proofs.Members.{either, sub-count}
 
@@ -52,12 +52,12 @@ module _ (f : ℕ → Bool) where
   pub below-ends : (n k : ℕ) → k ≤ n → n ≤ k → true ≡ allBelow k f → true ≡ allBelow n f
   below-ends n k l m h = let e : k ≡ n = omega arith in h ∙ ap (λ (x : ℕ). allBelow x f) e
 
-module _ (mask room : ℕ) where
-  pub fits-less : (a b : ℕ) → Sub a b → fits mask room b ≡ true → fits mask room a ≡ true
+module _ (mask n : ℕ) where
+  pub fits-less : (a b : ℕ) → Sub a b → fits mask n b ≡ true → fits mask n a ≡ true
   unfolding fits
   fits-less a b h m =
-      lt-ltb (count 64 (inter mask a)) room
-      (lt-of-le-of-lt (sub-count 64 (inter mask a) (inter mask b) met) (ltb-true (count 64 (inter mask b)) room m))
+      lt-ltb (count 64 (inter mask a)) n
+      (lt-of-le-of-lt (sub-count 64 (inter mask a) (inter mask b) met) (ltb-true (count 64 (inter mask b)) n m))
     where
       met : Sub (inter mask a) (inter mask b)
       met i n =
@@ -65,11 +65,11 @@ module _ (mask room : ℕ) where
           has-inter mask b i ∙ both (has mask i) (has b i) (and-l (has mask i) (has a i) e) (h i (and-r (has mask i) (has a i) e))
 
 -- exclusions pass to subsets
-pub roomy-less : (masks rooms : List ℕ) (n a b : ℕ) → Sub a b → roomy masks rooms n b ≡ true → roomy masks rooms n a ≡ true
-unfolding roomy
-roomy-less masks rooms n a b h m =
-    at-below (λ k. fits (getD masks k 0) (getD rooms k 0) a) n (λ k l.
-    fits-less (getD masks k 0) (getD rooms k 0) a b h (below-at (λ j. fits (getD masks j 0) (getD rooms j 0) b) n k m l))
+pub met-less : (masks ns : List ℕ) (n a b : ℕ) → Sub a b → reducedMet masks ns n b ≡ true → reducedMet masks ns n a ≡ true
+unfolding reducedMet
+met-less masks ns n a b h m =
+    at-below (λ k. fits (getD masks k 0) (getD ns k 0) a) n (λ k l.
+    fits-less (getD masks k 0) (getD ns k 0) a b h (below-at (λ j. fits (getD masks j 0) (getD ns j 0) b) n k m l))
 
 -- ---- the set of all roles
 abbrev pub every : ℕ

@@ -1,13 +1,13 @@
--- `query_rooms::exclusions::active_elsewhere` meets its contract: session k is emptied first.
+-- `query_reduced::exclusions::active_elsewhere` meets its contract: session k is emptied first.
 -- Assumes nothing.
 use borrow.Author.Needs.{needs}
 use native.Mathlib.Omega.{arith}
 use mathlib.Core.Path.{_≡_, _∙_}
 use lib.ListN.{length}
 use Rattle.model.specs.Line.{SESSIONS, emptySession}
-use Rattle.query_rooms.proofs.Reductions.{active-emptied}
-use Rattle.query_rooms.proofs.exclusions.active_elsewhere.Statement.{statement}
-use Rattle.query_rooms.proofs.exclusions.active_elsewhere.Tie as tie
+use Rattle.query_reduced.proofs.Reductions.{active-emptied}
+use Rattle.query_reduced.proofs.exclusions.active_elsewhere.Statement.{statement}
+use Rattle.query_reduced.proofs.exclusions.active_elsewhere.Tie as tie
 
 returns : tie.Need-returns
 unfolding emptySession

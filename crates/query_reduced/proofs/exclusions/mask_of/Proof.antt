@@ -1,9 +1,9 @@
--- `query_rooms::exclusions::mask_of` meets its contract.
+-- `query_reduced::exclusions::mask_of` meets its contract.
 -- Assumes nothing.
 use mathlib.Core.Path.{refl}
 use Rattle.model.specs.Reduced.{maskOf}
-use Rattle.query_rooms.proofs.exclusions.mask_of.Statement.{statement}
-use Rattle.query_rooms.proofs.exclusions.mask_of.Tie as tie
+use Rattle.query_reduced.proofs.exclusions.mask_of.Statement.{statement}
+use Rattle.query_reduced.proofs.exclusions.mask_of.Tie as tie
 
 returns : tie.Need-returns
 unfolding maskOf

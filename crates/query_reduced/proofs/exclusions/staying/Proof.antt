@@ -1,9 +1,9 @@
--- `query_rooms::exclusions::staying` meets its contract.
+-- `query_reduced::exclusions::staying` meets its contract.
 -- Assumes nothing.
 use borrow.Author.Needs.{needs}
 use Rattle.model.specs.Reduced.{stay}
-use Rattle.query_rooms.proofs.exclusions.staying.Statement.{statement}
-use Rattle.query_rooms.proofs.exclusions.staying.Tie as tie
+use Rattle.query_reduced.proofs.exclusions.staying.Statement.{statement}
+use Rattle.query_reduced.proofs.exclusions.staying.Tie as tie
 
 pub staying-spec : {M : Type 1} → statement M
 unfolding stay

@@ -1,0 +1,3 @@
+-- The laws behind the reduced exclusions.
+pub mod MetLaws
+pub mod Reductions

@@ -1,3 +1,0 @@
--- The laws behind the room that exclusions leave.
-pub mod RoomLaws
-pub mod Reductions
