@@ -1,5 +1,7 @@
 // The clause text of an ask under an accepted policy: refused as an ask is before the search, then if the buffer is too
 // short, else written to its front.
+#![tactic(auto)]
+
 ghost use Rattle.std.specs.Prelude.{◌≡◌, List, ℕ, ◌+◌, ◌*◌, ◌%◌, ◌^◌, ◌≤◌, ◌<◌, ltb, length};
 ghost use Rattle.model.specs.Tests.{pick};
 ghost use Rattle.model.specs.Policy.{Policy, below_table};

@@ -1,5 +1,7 @@
 // What stands in the way of an ask under an accepted policy: refused as a short ask is up to 17, then for a buffer of
 // another length, else told.
+#![tactic(auto)]
+
 ghost use Rattle.std.specs.Prelude.{◌≡◌, List, ◌++◌, ℕ, ◌*◌, ◌+◌, ◌≤◌, ◌<◌, length};
 ghost use Rattle.model.specs.Bytes.{bytes_of};
 ghost use Rattle.model.specs.Policy.{Policy, below_table, meaning};

@@ -1,5 +1,7 @@
 // The calls on an image alone, over byte slices: what they return, and the refusal that every call under a refused
 // image returns.
+#![tactic(auto)]
+
 ghost use Rattle.std.specs.Prelude.{◌≡◌, length};
 ghost use Rattle.model.specs.Image.{check_number};
 ghost use Rattle.model.specs.Judgement.{judge};

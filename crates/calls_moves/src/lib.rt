@@ -1,5 +1,7 @@
 // The calls that carry a ledger over, over byte slices: from so many sessions a user to so many, and the two that a
 // host may make.
+#![tactic(auto)]
+
 ghost use Rattle.std.specs.Prelude.{◌≤◌, ◌<◌};
 ghost use Rattle.model.specs.Line.{SESSIONS};
 ghost use Rattle.model.specs.Moves.{move, widened, narrowed};

@@ -1,5 +1,7 @@
 // What stands in the way of an ask, over byte slices: the image is read first, and the call is refused as the image is,
 // or goes by its policy.
+#![tactic(auto)]
+
 ghost use Rattle.std.specs.Prelude.{length};
 ghost use Rattle.model.specs.Line.{SESSIONS};
 ghost use Rattle.model.specs.Run.{step, obstacle_by};

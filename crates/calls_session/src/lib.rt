@@ -1,5 +1,7 @@
 // The calls on a user's session, over byte slices: each reads its image first and is refused as the image is, and then
 // goes by its policy.
+#![tactic(auto)]
+
 ghost use Rattle.std.specs.Prelude.{◌≡◌, length};
 ghost use Rattle.model.specs.Line.{SESSIONS};
 ghost use Rattle.model.specs.Run.{step, open_by, close_by, show_by, ask_by, explain_by, clauses_by, returned};

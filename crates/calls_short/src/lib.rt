@@ -1,4 +1,6 @@
 // The short ask over byte slices: an ask for the fewest permissions, then the fewest roles.
+#![tactic(auto)]
+
 ghost use Rattle.std.specs.Prelude.{length};
 ghost use Rattle.model.specs.Line.{SESSIONS};
 ghost use Rattle.model.specs.Run.{step, short_ask_by};

@@ -1,4 +1,6 @@
 // The call that tells whom an image stops, over byte slices: the users whose line of the ledger is not sound under it.
+#![tactic(auto)]
+
 ghost use Rattle.std.specs.Prelude.{◌≡◌, ◌*◌, ◌≤◌, length};
 ghost use Rattle.model.specs.Policy.{Policy};
 ghost use Rattle.model.specs.Line.{SESSIONS, line_size};

@@ -1,5 +1,7 @@
 // An exclusion as a row of two machine words, so that a table of exclusions can go by reference: its kind and its n in
 // the first word, its members in the second.
+#![tactic(auto)]
+
 ghost use Rattle.std.specs.Prelude.{◌≡◌};
 ghost use Rattle.model.specs.Image.{kind_of};
 ghost use Rattle.model.specs.Policy.{kind_number};

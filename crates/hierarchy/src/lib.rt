@@ -1,4 +1,6 @@
 // Seniority by the table of direct juniors: the table closed, and who is reached by it.
+#![tactic(auto)]
+
 pub mod closure; // closure.rt: the table closed by Warshall's rule
 pub mod member; // member.rt: a set with one role more, by a test, and without its lowest
 pub mod reach; // reach.rt: the roles that roles reach, and the granting role among them

@@ -1,6 +1,8 @@
 // A reader over a policy image: a struct that holds the image's bytes and the place of the next word, and thin
 // functions over it. The work is done by functions of a slice and a place. A place is a word's number in the image, and
 // the head has place 0.
+#![tactic(auto)]
+
 ghost use Rattle.std.specs.Prelude.{◌≡◌, ◌+◌};
 ghost use Rattle.model.specs.Image.{behind_head as behind_head_of};
 ghost use Rattle.image_reader.specs.Places.{found_at, place_after as place_after_of, is_exclusion as is_exclusion_of, exclusion_after as exclusion_after_of};

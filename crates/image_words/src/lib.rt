@@ -1,2 +1,4 @@
 // The words of a policy image, decoded.
+#![tactic(auto)]
+
 pub mod word; // word.rt: the head, and a word behind it

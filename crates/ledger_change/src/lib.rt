@@ -1,4 +1,6 @@
 // The changes that calls make to a line: a session opened, closed, or given other active roles.
+#![tactic(auto)]
+
 ghost use Rattle.std.specs.Prelude.{◌≡◌, true, ◌+◌, ◌<◌, ◌^◌};
 ghost use Rattle.model.specs.Line.{SESSIONS, is_open as is_open_of, lowest_closed as lowest_closed_of, opening, closing, put_in};
 

@@ -1,5 +1,7 @@
 // A count for each role, kept in words: bit r of the plane for 2^i is bit i of the count of role r. A word adds one to
 // each of its roles with a few operations on whole words.
+#![tactic(auto)]
+
 ghost use Rattle.std.specs.Prelude.{◌≡◌, ℕ, ◌+◌, ◌<◌};
 ghost use Rattle.model.specs.Sets.{has, one};
 ghost use Rattle.limits_counts.specs.Counted.{count_at as count_at_of};

@@ -1,4 +1,6 @@
 // In how many sessions each role is active: the words of active roles are added up.
+#![tactic(auto)]
+
 ghost use Rattle.std.specs.Prelude.{◌≡◌, ℕ, ◌+◌, ◌*◌, ◌≤◌, ◌<◌, length};
 ghost use Rattle.model.specs.Tests.{pick};
 ghost use Rattle.model.specs.Line.{SESSIONS, line_size, holding, others};

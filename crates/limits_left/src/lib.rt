@@ -1,4 +1,6 @@
 // The roles that no limit bars.
+#![tactic(auto)]
+
 ghost use Rattle.std.specs.Prelude.{◌≡◌, true, false, not, ◌*◌, ◌≤◌, ◌<◌, eqb, get_or, length};
 ghost use Rattle.model.specs.declared.Exclusions.{Exclusions};
 ghost use Rattle.model.specs.Tests.{any};

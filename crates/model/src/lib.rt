@@ -1,5 +1,6 @@
 // The plain data of the session kit. The definitions in specs/ and the code of the other crates use these same types,
 // so that a contract is a plain equation. There is no function here.
+#![tactic(auto)]
 
 pub mod layout; // layout.rt: the kinds and fields of an image's words
 pub mod refusals; // refusals.rt: the numbers that refuse an image or a call

@@ -1,4 +1,6 @@
 // The choose numbers up to 64 in a triangular table, and how many sets an exclusion allows alone.
+#![tactic(auto)]
+
 ghost use Rattle.std.specs.Prelude.{◌≡◌, ◌≤◌};
 ghost use Rattle.model_binomials.specs.Binomial.{binomial, sum_below};
 

@@ -1,5 +1,7 @@
 // One line of an old ledger: read as a line of SESSIONS sessions, with empty ones behind its own, judged, and written
 // with the sessions of the new one.
+#![tactic(auto)]
+
 ghost use Rattle.std.specs.Prelude.{◌≡◌, ◌++◌, ◌+◌, ◌-◌, ◌*◌, ◌≤◌, ◌<◌, length, drop, replicate};
 ghost use Rattle.model.specs.Policy.{Meaning};
 ghost use Rattle.model.specs.Line.{SESSIONS, line_size as line_size_of, read_sessions, read_line, empty_session, sound as sound_by};

@@ -1,5 +1,7 @@
 // The calls of the session kit, as a C host makes them: numbers are u64, a slice is a pointer and a length, and the
 // answer is a number plus 256 times an extra. No call requires anything of its arguments.
+#![tactic(auto)]
+
 ghost use Rattle.std.specs.Prelude.{◌≡◌, ◌+◌, ◌*◌, length};
 ghost use Rattle.model.specs.Line.{SESSIONS};
 ghost use Rattle.model.specs.Image.{check_number};

@@ -1,5 +1,7 @@
 // The program: a policy image from the file `policy.img`, a script from standard input, and for each line of it one
 // line out. Module `input` reads and writes.
+#![tactic(auto)]
+
 mod input;
 
 fn main() {

@@ -1,6 +1,8 @@
 // The survey: a policy image from the file `policy.img`, a script from standard input; a line for each exclusion, and a
 // line for each number that the answers have. Module `input` reads the script. Where it can't be read to its end,
 // nothing is printed.
+#![tactic(auto)]
+
 mod input;
 
 use libc::STDOUT_FILENO;

@@ -1,4 +1,6 @@
 // What stands in the way of an ask, on a line that meets every exclusion: the first of the four kinds that holds.
+#![tactic(auto)]
+
 ghost use Rattle.std.specs.Prelude.{◌≡◌, ℕ, ◌≤◌, ◌<◌, length};
 ghost use Rattle.model.specs.Line.{SESSIONS};
 ghost use Rattle.model.specs.Policy.{Policy, meaning};

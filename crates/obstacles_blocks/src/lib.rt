@@ -1,5 +1,7 @@
 // An exclusion that stands in the way of an ask: of the exclusions in the order of the tidy image the first with which
 // no role set is left. It is found by halving: with fewer exclusions no fewer sets are left.
+#![tactic(auto)]
+
 ghost use Rattle.std.specs.Prelude.{◌≡◌, true, false, [], ℕ, ◌^◌, ◌≤◌, ◌<◌, length, get_or};
 ghost use Rattle.std.proofs.Math.Option.{some};
 ghost use Rattle.model.specs.declared.Line.{Line};

@@ -1,4 +1,6 @@
 // Little-endian numbers in byte slices: 4-byte words and 8-byte numbers read, 8-byte numbers and runs of bytes put in.
+#![tactic(auto)]
+
 ghost use Rattle.std.specs.Prelude.{◌≡◌, [], ◌∷◌, ◌+◌, ◌*◌, ◌≤◌, length};
 ghost use Rattle.model.specs.Image.{word_at};
 ghost use Rattle.model.specs.Bytes.{number, bytes_of};

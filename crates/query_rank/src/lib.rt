@@ -1,5 +1,7 @@
 // How role sets rank: by a key made of the two objectives' costs, of which the lower is better, then by the lower set
 // number.
+#![tactic(auto)]
+
 ghost use Rattle.std.specs.Prelude.{◌≡◌, true, ℕ, ◌≤◌, leb};
 ghost use Rattle.model.specs.Sets.{union as union_of, count};
 ghost use Rattle.sets.specs.Words.{value};

@@ -1,3 +1,5 @@
 // The exclusions of the choice of a role set: reduced to what may still join, and whether roles meet them.
+#![tactic(auto)]
+
 pub mod exclusions; // exclusions.rt: the exclusions reduced to what may still join
 pub mod met; // met.rt: whether roles meet the reduced exclusions

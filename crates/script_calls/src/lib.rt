@@ -1,4 +1,6 @@
 // The call that a parsed line is, made under an image and on a ledger.
+#![tactic(auto)]
+
 ghost use Rattle.std.specs.Prelude.{◌≡◌, length};
 ghost use Rattle.asks.specs.Asks.{Answers};
 ghost use Rattle.model_script.specs.Script.{answer_by};

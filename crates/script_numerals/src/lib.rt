@@ -1,4 +1,6 @@
 // Decimal and hexadecimal words of a script read as numbers and bounds.
+#![tactic(auto)]
+
 pub mod numerals;
 
 // A word read as a decimal: whether it is one, and its number.

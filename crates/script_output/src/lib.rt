@@ -1,4 +1,6 @@
 // The output line of a call, from what the call returns to a host.
+#![tactic(auto)]
+
 ghost use Rattle.std.specs.Prelude.{◌≡◌, ◌+◌, ◌/◌, ◌%◌, ◌≤◌, length, take, drop};
 ghost use Rattle.model.specs.Bytes.{number as number_of};
 ghost use Rattle.model_script.specs.Script.{line_of};

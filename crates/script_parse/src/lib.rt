@@ -1,4 +1,6 @@
 // A line of the script read as the call that it is.
+#![tactic(auto)]
+
 pub mod parse;
 
 // The form of a line, with its numbers: user, session, and the objectives of permissions and roles. The bounds of an

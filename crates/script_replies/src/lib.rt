@@ -1,5 +1,7 @@
 // A script's lines answered: the call that a line is made under an image and on a ledger, and its answer written as an
 // output line.
+#![tactic(auto)]
+
 ghost use Rattle.std.specs.Prelude.{◌≡◌, ◌+◌, ◌≤◌, ◌<◌, length};
 ghost use Rattle.model_script.specs.Script.{answer_to, printed};
 ghost use Rattle.script_text.specs.Writing.{Stores};

@@ -1,4 +1,6 @@
 // Bytes and hexadecimal digits, written into a buffer from a place on. Each function returns the place behind its text.
+#![tactic(auto)]
+
 ghost use Rattle.std.specs.Prelude.{◌≡◌, [], ◌∷◌, ◌+◌, ◌≤◌, ◌<◌, length};
 ghost use Rattle.model_script.specs.Script.{glyph as glyph_of, numeral};
 ghost use Rattle.script_text.specs.Writing.{Stores, pair_of};

@@ -1,4 +1,6 @@
 // The text of an output line, written into a buffer from a place on. Each function returns the place behind its text.
+#![tactic(auto)]
+
 ghost use Rattle.std.specs.Prelude.{◌≡◌, ◌∷◌, ◌+◌, ◌*◌, ◌/◌, ◌%◌, ◌≤◌, ◌<◌, length, take, drop};
 ghost use Rattle.model.specs.Bytes.{number as number_of};
 ghost use Rattle.model_script.specs.Script.{numeral, line_of};

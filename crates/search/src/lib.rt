@@ -1,4 +1,6 @@
 // The choice of a role set (the User Authorization Query): `solve`, by the two searches.
+#![tactic(auto)]
+
 ghost use Rattle.std.specs.Prelude.{◌≡◌, true, ℕ, ◌≤◌};
 ghost use Rattle.model.specs.declared.Line.{Line};
 ghost use Rattle.model.specs.Policy.{Meaning};

@@ -1,5 +1,7 @@
 // The steps of the two searches for a role set. Each is given the roles chosen so far with what they carry, the roles
 // still free, and the best set so far. Which roles carry a wanted permission is read off the turned table.
+#![tactic(auto)]
+
 ghost use Rattle.std.specs.Prelude.{◌≡◌, false};
 ghost use Rattle.model.specs.Sets.{within};
 ghost use Rattle.sets.specs.Words.{value};

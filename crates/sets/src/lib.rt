@@ -1,5 +1,7 @@
 // Sets in machine words: role sets in a `u64`, permission sets in a `[u64; 4]` by value. Each function computes what
 // the model's definition of the same name says of the sets that the words hold.
+#![tactic(auto)]
+
 ghost use Rattle.std.specs.Prelude.{◌≡◌, ◌<◌, ltb, get_or, set};
 ghost use Rattle.model.specs.Tests.{pick};
 ghost use Rattle.model.specs.Sets.{has as has_of, union as union_of, inter as inter_of, with as with_of, within as within_of, count, union_at};

@@ -1,4 +1,6 @@
 // Where a permission stands in a permission set of four words.
+#![tactic(auto)]
+
 ghost use Rattle.std.specs.Prelude.{◌≡◌, ◌+◌, ◌*◌, ◌<◌};
 ghost use Rattle.sets_split.specs.Split.{Splits};
 

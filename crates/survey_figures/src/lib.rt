@@ -1,2 +1,4 @@
 // Lines of figures written into a buffer.
+#![tactic(auto)]
+
 pub mod figures;
