@@ -23,7 +23,7 @@ use search::Choice;
 use sessions::answer::fill;
 
 // What is asked for: the bounds as sets, and the objectives (01: aims) on permissions and on roles.
-#[derive(Drop)]
+#[derive(Clone, Copy)]
 pub struct Wanted {
     pub lower: [u64; 4],
     pub upper: [u64; 4],

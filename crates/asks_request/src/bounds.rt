@@ -6,7 +6,7 @@ ghost use Rattle.sets.specs.Words.{value};
 ghost use Rattle.asks_request.specs.Refusals.{Bounded};
 
 // The bounds of an ask: whether each was 32 bytes long and, where both were, the sets that they hold.
-#[derive(Drop)]
+#[derive(Clone, Copy)]
 pub struct Bounds {
     pub sized: bool,
     pub lower: [u64; 4],

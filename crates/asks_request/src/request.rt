@@ -15,7 +15,7 @@ use sessions::given::{Sizes, UserSession};
 
 // What is asked under a policy: its sizes, the session of a user, the bounds, and the objectives (01: aims) on
 // permissions and on roles.
-#[derive(Drop)]
+#[derive(Clone, Copy)]
 pub struct Request {
     pub sizes: Sizes,
     pub who: UserSession,

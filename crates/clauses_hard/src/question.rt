@@ -2,7 +2,7 @@
 
 // How many roles and permissions there are, the roles that the user may activate, the bounds, and the objectives for
 // permissions and then for roles (01: aims): 0 is any, 1 the fewest, 2 the most.
-#[derive(Drop)]
+#[derive(Clone, Copy)]
 pub struct Question {
     pub roles: usize,
     pub permissions: usize,

@@ -5,7 +5,7 @@
 ghost use Rattle.std.specs.Prelude.{◌≡◌};
 ghost use Rattle.model.specs.Image.{kind_of};
 ghost use Rattle.model.specs.Policy.{kind_number};
-ghost use Rattle.exclusion_rows.specs.Rows.{exclusion_of as exclusion_of_of};
+ghost use Rattle.exclusion_rows.specs.Rows.{exclusion_of as exclusion_by_row};
 
 use model::{Exclusion, Kind};
 
@@ -35,7 +35,7 @@ pub fn number_of(kind: Kind) -> u8
 
 // The row of an exclusion.
 pub fn row_of(x: Exclusion) -> [u64; 2]
-    ensures { exclusion_of_of result ≡ x }
+    ensures { exclusion_by_row result ≡ x }
 {
     let kind = x.kind;
     let number = number_of(kind);
@@ -44,7 +44,7 @@ pub fn row_of(x: Exclusion) -> [u64; 2]
 
 // The exclusion of a row.
 pub fn exclusion_of(row: [u64; 2]) -> Exclusion
-    ensures { result ≡ exclusion_of_of row }
+    ensures { result ≡ exclusion_by_row row }
 {
     let kind = kind_of((row[0] % 4) as u8);
     Exclusion {

@@ -33,7 +33,7 @@ pub fn reached_by(below: &[u64; 64], set: u64) -> u64
 }
 
 // The name of a granting role, where there is one.
-#[derive(Drop)]
+#[derive(Clone, Copy)]
 pub enum Named {
     By(Role),
     Nobody,

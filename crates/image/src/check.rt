@@ -111,7 +111,7 @@ pub fn next(t: Scan, e: Entry) -> Scan
 }
 
 // A word before the last judged: its fault, or 0 with what it leaves to judge the next one by.
-#[derive(Drop)]
+#[derive(Clone, Copy)]
 struct Step {
     number: u8,
     scan: Scan,

@@ -11,7 +11,7 @@ ghost use Rattle.image_reader.specs.Readers.{moved_on};
 use model::{Entry, Word};
 
 // What stands at a place behind the head: a word decoded, or nothing where the image has no such place.
-#[derive(Drop)]
+#[derive(Clone, Copy)]
 pub enum Found {
     Decoded(Word),
     Nothing,
@@ -58,7 +58,7 @@ pub fn place_after(image: &[u8], place: usize) -> usize
 // ---- the reader
 
 // The image's bytes, and the place of the next word.
-#[derive(Drop)]
+#[derive(Clone, Copy)]
 pub struct Reader<'a> {
     pub image: &'a [u8],
     pub at: usize,

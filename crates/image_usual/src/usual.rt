@@ -17,14 +17,14 @@ const GRANT_TURNED: u32 = 64 * layout::GRANT;
 const MEMBER_TURNED: u32 = 64 * layout::MEMBER;
 
 // Where a run of usual words ends, and the sum of the words up to there.
-#[derive(Drop)]
+#[derive(Clone, Copy)]
 pub struct Run {
     pub place: usize,
     pub sum: u32,
 }
 
 // What a word grants, where it is a usual grant: the permission, to the role.
-#[derive(Drop)]
+#[derive(Clone, Copy)]
 pub enum Granting {
     To(WideRole, WidePermission),
     Nobody,
@@ -55,7 +55,7 @@ fn rows_of(rows: [u64; 64])
 {}
 
 // Where the assignments to one user end, the sum of the words up to there, and the user's roles with theirs.
-#[derive(Drop)]
+#[derive(Clone, Copy)]
 struct Gathered {
     place: usize,
     sum: u32,
@@ -315,7 +315,7 @@ fn member(roles: u8, t: Scan, w: u32) -> Scan
 }
 
 // Where the members of an exclusion end, the sum of the words up to there, and what the next word is judged by.
-#[derive(Drop)]
+#[derive(Clone, Copy)]
 pub struct Behind {
     pub place: usize,
     pub sum: u32,

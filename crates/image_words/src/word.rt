@@ -1,6 +1,6 @@
 // A word decoded: the head's numbers, or what a word behind the head says, in the enum of entries.
 ghost use Rattle.std.specs.Prelude.{◌≡◌, ◌%◌, ◌^◌};
-ghost use Rattle.model.specs.Image.{field, kind_of, says, decode as decode_of, head_of as head_of_of, head_right as head_right_of};
+ghost use Rattle.model.specs.Image.{field, kind_of, says, decode as decode_of, head_of as head_by_word, head_right as head_right_of};
 ghost use Rattle.image_words.specs.Bounds.{Small};
 
 use model::{Entry, Exclusion, Head, Permission, Role, User, Word, layout};
@@ -65,7 +65,7 @@ pub fn decode(w: u32) -> Word
 }
 
 pub fn head_of(w: u32) -> Head
-    ensures { result ≡ head_of_of w }
+    ensures { result ≡ head_by_word w }
 {
     Head {
         users: (w / layout::USERS_UNIT % 128) as u8,

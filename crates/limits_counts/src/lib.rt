@@ -7,7 +7,7 @@ ghost use Rattle.model.specs.Sets.{has, one};
 ghost use Rattle.limits_counts.specs.Counted.{count_at as count_at_of};
 
 // Ten planes: no role is active in more than 512 sessions.
-#[derive(Drop)]
+#[derive(Clone, Copy)]
 pub struct Counts {
     pub p0: u64,
     pub p1: u64,

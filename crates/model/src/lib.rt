@@ -8,21 +8,21 @@ pub mod refusals; // refusals.rt: the numbers that refuse an image or a call
 // ---- numbers, one sort for each
 
 // A user's number (01: person).
-#[derive(Drop)]
+#[derive(Clone, Copy)]
 pub struct User(pub u8);
 
 // A role's number.
-#[derive(Drop)]
+#[derive(Clone, Copy)]
 pub struct Role(pub u8);
 
 // A permission's number.
-#[derive(Drop)]
+#[derive(Clone, Copy)]
 pub struct Permission(pub u8);
 
 // ---- the policy image
 
 // The head's numbers: of users, roles and permissions (01: U, R, P).
-#[derive(Drop)]
+#[derive(Clone, Copy)]
 pub struct Head {
     pub users: u8,
     pub roles: u8,
@@ -32,7 +32,7 @@ pub struct Head {
 // The four kinds of mutual exclusion, 0 to 3 in an image: what is counted is active in the session (single session),
 // active in any open session of the user (multi session), or was so at any time since the session was opened, or ever
 // (history).
-#[derive(Drop)]
+#[derive(Clone, Copy)]
 pub enum Kind {
     SsDmer,
     MsDmer,
@@ -41,7 +41,7 @@ pub enum Kind {
 }
 
 // A mutual exclusion: fewer than n of its members may be counted. The members are a role set.
-#[derive(Drop)]
+#[derive(Clone, Copy)]
 pub struct Exclusion {
     pub kind: Kind,
     pub n: u8,
@@ -49,7 +49,7 @@ pub struct Exclusion {
 }
 
 // A policy's exclusions, in image order: the first `count` of the list.
-#[derive(Drop)]
+#[derive(Clone, Copy)]
 pub struct Exclusions {
     pub list: [Exclusion; 32],
     pub count: usize,
@@ -57,7 +57,7 @@ pub struct Exclusions {
 
 // What a word behind the head says. An exclusion word comes with the number of its member words (01: m), and has no
 // member yet. A limit word says that fewer than t sessions of all users may hold a role.
-#[derive(Drop)]
+#[derive(Clone, Copy)]
 pub enum Entry {
     Assignment(User, Role),
     Grant(Role, Permission),
@@ -70,7 +70,7 @@ pub enum Entry {
 }
 
 // A word decoded: what it says, and its spare bits.
-#[derive(Drop)]
+#[derive(Clone, Copy)]
 pub struct Word {
     pub entry: Entry,
     pub spare: u32,
@@ -78,7 +78,7 @@ pub struct Word {
 
 // What the words so far leave to judge the next one by, beside the roles assigned so far: the number of exclusions, how
 // many members are still due, and the members so far of the exclusion that they are due for.
-#[derive(Drop)]
+#[derive(Clone, Copy)]
 pub struct Scan {
     pub exclusions: u32,
     pub due: u32,
@@ -86,7 +86,7 @@ pub struct Scan {
 }
 
 // The answer of a check: the head's numbers, or the refusal's number and what it names: a place, a role or a user.
-#[derive(Drop)]
+#[derive(Clone, Copy)]
 pub enum Checked {
     Accepted(Head),
     Refused(u8, u16),
@@ -98,7 +98,7 @@ pub enum Checked {
 pub const SESSIONS: usize = 8;
 
 // A session: its active roles, and those active at any time since it was opened (01: its past), as role sets.
-#[derive(Drop)]
+#[derive(Clone, Copy)]
 pub struct Session {
     pub active: u64,
     pub history: u64,
@@ -106,7 +106,7 @@ pub struct Session {
 
 // A user's line of the ledger: the open sessions as a set, the roles ever active (01: the person's past), and each
 // session.
-#[derive(Drop)]
+#[derive(Clone, Copy)]
 pub struct Line {
     pub opened: u64,
     pub history: u64,

@@ -7,7 +7,7 @@ use libc::{STDIN_FILENO, STDOUT_FILENO};
 use script_answers::lines::{Place, answer_last, answer_lines};
 
 // The run between two reads: how many bytes of the line are kept, how many calls are answered, and whether it goes on.
-#[derive(Drop)]
+#[derive(Clone, Copy)]
 struct Run {
     kept: usize,
     calls: u64,

@@ -9,7 +9,7 @@ use survey_counts::counts::{count_chunk, count_last};
 
 // The run between two reads: how many bytes of the line are kept, how many calls are answered, whether it goes on, and
 // whether the input is read to its end.
-#[derive(Drop)]
+#[derive(Clone, Copy)]
 struct Run {
     kept: usize,
     calls: u64,

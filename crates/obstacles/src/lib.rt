@@ -19,7 +19,7 @@ use obstacles_lacks::roles::lacked_by_any;
 use tables_rows::carried::fill_carried;
 
 // The roles that the user may activate, and those of them that no limit bars.
-#[derive(Drop)]
+#[derive(Clone, Copy)]
 pub struct Roles {
     pub own: u64,
     pub free: u64,

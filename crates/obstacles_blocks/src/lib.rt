@@ -11,7 +11,7 @@ ghost use Rattle.model.specs.Policy.{Policy, sorted};
 ghost use Rattle.model.specs.Limits.{Others};
 ghost use Rattle.model.specs.Obstacle.{left, blocking, blocks};
 ghost use Rattle.sets.specs.Words.{value};
-ghost use Rattle.exclusion_rows.specs.Rows.{exclusion_of as exclusion_of_of, exclusions_in};
+ghost use Rattle.exclusion_rows.specs.Rows.{exclusion_of as exclusion_by_row, exclusions_in};
 ghost use Rattle.query.specs.Carry.{rows_of, Turned, Keeps};
 ghost use Rattle.asks.specs.Asks.{left_to, Asked};
 ghost use Rattle.obstacles_lacks.specs.Founds.{found_of};
@@ -89,7 +89,7 @@ fn before_blocking(
 fn told_at(xs: &[[u64; 2]; 32], masks: &[u64; 32], j: usize) -> Told
     requires { (j < 32) × (length xs.now ≡ 32) }
     ensures { (l : Line) (k : ℕ) → ReducedAt xs.now masks.now l k j
-        → found_of (Found.One result) ≡ blocks l k (some (exclusion_of_of (get_or xs.now j []))) }
+        → found_of (Found.One result) ≡ blocks l k (some (exclusion_by_row (get_or xs.now j []))) }
 {
     let x = exclusion_of(xs[j]);
     let kind = x.kind;

@@ -2,7 +2,7 @@
 
 // An obstacle: its kind, what it is about (a permission, or the kind of an exclusion plus 4 times its n), and two role
 // sets.
-#[derive(Drop)]
+#[derive(Clone, Copy)]
 pub struct Told {
     pub kind: u8,
     pub about: u16,
@@ -11,7 +11,7 @@ pub struct Told {
 }
 
 // Nothing stands in the way, or an obstacle does.
-#[derive(Drop)]
+#[derive(Clone, Copy)]
 pub enum Found {
     Nothing,
     One(Told),

@@ -8,7 +8,7 @@ ghost use Rattle.sets.specs.Words.{value};
 ghost use Rattle.query_rank.specs.Ranks.{Costs, key_by, rank, rank_at, Judged, LeastCost, Settled};
 
 // The best set so far, with its key.
-#[derive(Drop)]
+#[derive(Clone, Copy)]
 pub struct Best {
     pub key: u64,
     pub roles: u64,
@@ -19,7 +19,7 @@ pub const NONE: u64 = 1048576;
 
 // What is asked: the lower bound, how many exclusions there are, and the objectives for permissions and then for roles
 // (01: aims): 0 is any, 1 the fewest, 2 the most.
-#[derive(Drop)]
+#[derive(Clone, Copy)]
 pub struct Job {
     pub lower: [u64; 4],
     pub count: usize,

@@ -11,7 +11,7 @@ use model::{Kind, Line, SESSIONS, Session};
 
 // Each exclusion by the members that are not counted yet and by its n less those that are,
 // fewer than which may still join: the first `count` of both lists.
-#[derive(Drop)]
+#[derive(Clone, Copy)]
 pub struct Reduced {
     pub masks: [u64; 32],
     pub ns: [u32; 32],

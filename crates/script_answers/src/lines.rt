@@ -7,7 +7,7 @@ use script_input::lines::gather;
 
 // Where the run stands in a chunk: the place of the next byte, how many bytes of the line are kept, how many calls are
 // answered, and how much of the output buffer is filled.
-#[derive(Drop)]
+#[derive(Clone, Copy)]
 pub struct Place {
     pub next: usize,
     pub kept: usize,

@@ -13,7 +13,7 @@ use model::Checked;
 pub const LEDGER: usize = 64 * LINE;
 
 // A line that is begun: the place of the next byte in the chunk, and how many bytes of the line are kept.
-#[derive(Drop)]
+#[derive(Clone, Copy)]
 pub struct Begun {
     pub next: usize,
     pub kept: usize,

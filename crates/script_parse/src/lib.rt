@@ -5,7 +5,7 @@ pub mod parse;
 
 // The form of a line, with its numbers: user, session, and the objectives of permissions and roles. The bounds of an
 // ask stand beside it.
-#[derive(Drop)]
+#[derive(Clone, Copy)]
 pub enum Form {
     Open(u64),
     Close(u64, u64),
@@ -16,7 +16,7 @@ pub enum Form {
 }
 
 // A line as the call that it is.
-#[derive(Drop)]
+#[derive(Clone, Copy)]
 pub struct Parsed {
     pub form: Form,
     pub lower: [u8; 32],

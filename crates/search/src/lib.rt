@@ -18,7 +18,7 @@ use query_reduced::met::reduced_met;
 use search_steps::{Node, first_step, subset_step};
 
 // The answer of a query: no set is admissible, or the best one.
-#[derive(Drop)]
+#[derive(Clone, Copy)]
 pub enum Choice {
     Nothing,
     Roles(u64),

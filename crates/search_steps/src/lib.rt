@@ -13,7 +13,7 @@ use query_rank::{Best, Job, fewest_permissions, fewest_roles, judged, key_of, no
 use query_reduced::met::reduced_met;
 
 // A node of a search: the roles still free, the roles chosen so far, and the permissions that these carry.
-#[derive(Drop)]
+#[derive(Clone, Copy)]
 pub struct Node {
     pub free: u64,
     pub chosen: u64,

@@ -122,11 +122,11 @@ fn four_words(row: [u64; 4])
 {}
 
 // A role's number in 32 bits, as a pass over the words of an image has it.
-#[derive(Drop)]
+#[derive(Clone, Copy)]
 pub struct WideRole(pub u32);
 
 // A permission's number in 32 bits.
-#[derive(Drop)]
+#[derive(Clone, Copy)]
 pub struct WidePermission(pub u32);
 
 // Row r takes in the permission p: of its four words the one that has p is stored, and no other is read. A shift finds

@@ -7,7 +7,7 @@ ghost use Rattle.sets_split.specs.Split.{Splits};
 use model::Permission;
 
 // Where a permission stands: bit `bit` of the word at `place` of the four.
-#[derive(Drop)]
+#[derive(Clone, Copy)]
 pub struct Spot {
     pub place: usize,
     pub bit: u8,

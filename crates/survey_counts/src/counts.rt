@@ -10,7 +10,7 @@ use script_input::lines::gather;
 use survey_figures::figures::put_two;
 
 // A run between two chunks: how many bytes of the line are kept, and how many calls are answered.
-#[derive(Drop)]
+#[derive(Clone, Copy)]
 pub struct Counted {
     pub kept: usize,
     pub calls: u64,

@@ -12,7 +12,7 @@ use survey_figures::figures::{put_four, put_two};
 use tables_exclusions::exclusions::exclusion_at;
 
 // What is printed before the script is read: how much of the buffer it fills, and whether the image is accepted.
-#[derive(Drop)]
+#[derive(Clone, Copy)]
 pub struct Opening {
     pub filled: usize,
     pub accepted: bool,

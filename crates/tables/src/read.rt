@@ -19,7 +19,7 @@ use tables_usual::usual::pass;
 use tables_words::take::{Placed, step};
 
 // What a pass over an image answers: the judgement and, of an accepted image, the number of exclusions.
-#[derive(Drop)]
+#[derive(Clone, Copy)]
 pub struct Reading {
     pub checked: Checked,
     pub count: usize,

@@ -76,7 +76,7 @@ fn take_exclusion(
 }
 
 // A word of an image, and its place.
-#[derive(Drop)]
+#[derive(Clone, Copy)]
 pub struct Placed {
     pub word: Word,
     pub place: usize,

@@ -5,7 +5,7 @@ ghost use Rattle.model.specs.Sets.{one};
 ghost use Rattle.model_tidy.specs.Groups.{spread};
 ghost use Rattle.model_tidy.specs.Tidy.{exclusion_group};
 ghost use Rattle.sets.specs.Words.{values};
-ghost use Rattle.exclusion_rows.specs.Rows.{exclusion_of as exclusion_of_of};
+ghost use Rattle.exclusion_rows.specs.Rows.{exclusion_of as exclusion_by_row};
 ghost use Rattle.tidy_words.specs.Tables.{table_words, Table, limit_words, Limited};
 
 use exclusion_rows::exclusion_of;
@@ -37,7 +37,7 @@ pub fn count_grants(granted: &[[u64; 4]; 64], n: usize) -> usize
 // The words of the first n exclusions.
 pub fn count_exclusions(xs: &[[u64; 2]; 32], n: usize) -> usize
     requires { (n ≤ 32) × (length xs.now ≡ 32) }
-    ensures { (result < 2 ^ 40) × (result ≡ length (spread (map exclusion_group (take n (map exclusion_of_of xs.now))))) }
+    ensures { (result < 2 ^ 40) × (result ≡ length (spread (map exclusion_group (take n (map exclusion_by_row xs.now))))) }
 {
     let mut m: usize = 0;
     for i in 0..n {

@@ -5,7 +5,7 @@ ghost use Rattle.model.specs.Words.{grant_word};
 ghost use Rattle.model_tidy.specs.Groups.{spread};
 ghost use Rattle.model_tidy.specs.Tidy.{exclusion_group};
 ghost use Rattle.sets.specs.Words.{value, values};
-ghost use Rattle.exclusion_rows.specs.Rows.{exclusion_of as exclusion_of_of};
+ghost use Rattle.exclusion_rows.specs.Rows.{exclusion_of as exclusion_by_row};
 ghost use Rattle.tidy_words.specs.Buffers.{buffer, puts, Room};
 ghost use Rattle.tidy_words.specs.Tables.{pair_word, row_words, table_words, Table, exclusion_words, limit_row, limit_words, Limited};
 
@@ -87,9 +87,9 @@ fn put_exclusion(out: &mut [u8], from: Cursor, x: Exclusion) -> Cursor
 
 // The first n exclusions, in their order.
 pub fn put_exclusions(out: &mut [u8], from: Cursor, xs: &[[u64; 2]; 32], n: usize) -> Cursor
-    requires { (n ≤ 32) × (length xs.now ≡ 32) × Room out.old from (spread (map exclusion_group (take n (map exclusion_of_of xs.now)))) }
+    requires { (n ≤ 32) × (length xs.now ≡ 32) × Room out.old from (spread (map exclusion_group (take n (map exclusion_by_row xs.now)))) }
     ensures { buffer out.new result
-        ≡ puts (buffer out.old from) (spread (map exclusion_group (take n (map exclusion_of_of xs.now)))) }
+        ≡ puts (buffer out.old from) (spread (map exclusion_group (take n (map exclusion_by_row xs.now)))) }
 {
     let mut c = from;
     for i in 0..n {

@@ -3,7 +3,7 @@ ghost use Rattle.std.specs.Prelude.{◌≡◌, ◌+◌, ◌*◌, ◌^◌, ◌≤
 ghost use Rattle.tidy_words.specs.Buffers.{buffer, put_word as put_word_of, puts, Room, set_words};
 
 // Where the next word goes, and the sum of the words so far.
-#[derive(Drop)]
+#[derive(Clone, Copy)]
 pub struct Cursor {
     pub at: usize,
     pub sum: u32,
