@@ -1,0 +1,16 @@
+-- `hierarchy::reach::reached_by` meets its contract. The loop's invariant: the roles so far are joined, those of the
+-- members to come are not.
+-- Assumes nothing.
+use mathlib.Core.Path.{refl, ap, ◌∙◌}
+use lib.ListN.{get_or}
+use borrow.Author.Rules.{rules}
+use Rattle.model.specs.Sets.{union, count, union_at}
+use Rattle.model.specs.Policy.{with_selves}
+use Rattle.sets.proofs.Unions.{Joins, joins_start, joins_next, joins_less, joins_end}
+use Rattle.hierarchy.proofs.reach.reached_by.Given as goal
+
+abbrev pub invariant-loop-left : goal.invariant-loop-left
+invariant-loop-left l = Joins (λ r. get_or (with_selves l.below) r 0) l.set l.left l.all
+
+abbrev pub decreases-loop-left : goal.decreases-loop-left
+decreases-loop-left l = count 64 l.left
