@@ -2,7 +2,6 @@
 -- Assumes nothing.
 use mathlib.Core.Path.{refl}
 use native.Mathlib.Omega.{arith}
-use borrow.Author.Rules.{rules}
 use Rattle.sets.specs.Words.{value}
 use Rattle.query_rank.proofs.Bounds.{least_few, least_many}
 use Rattle.model_laws.proofs.Ranks.{count-le}

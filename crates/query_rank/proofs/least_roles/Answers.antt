@@ -1,7 +1,6 @@
 -- `query_rank::least_roles` meets its contract.
 -- Assumes nothing.
 use native.Mathlib.Omega.{arith}
-use borrow.Author.Rules.{rules}
 use Rattle.query_rank.proofs.Bounds.{least_few, least_many}
 use Rattle.model_laws.proofs.Ranks.{count-le}
 use Rattle.query_rank.proofs.least_roles.Goals as goal

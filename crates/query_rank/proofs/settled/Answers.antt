@@ -1,6 +1,5 @@
 -- `query_rank::settled` meets its contract.
 -- Assumes nothing.
-use borrow.Author.Rules.{rules}
 use borrow.Author.Tests.{not-true}
 use Rattle.sets.specs.Words.{value}
 use Rattle.query_rank.proofs.Bounds.{key_bound, settled_short, settled-rank}
