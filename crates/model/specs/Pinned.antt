@@ -486,7 +486,8 @@ said_by_words = refl
 -- ---- what claims go by
 
 -- every number of 64 bits fits, and no other
-pub fits_eight_bytes : map (λ n. fits_line (record { opened = n; history = n; sessions = record { active = n; history = n } ∷ [] })) ((2 ^ 64 - 1) ∷ 2 ^ 64 ∷ [])
+pub fits_eight_bytes : map (λ n. fits_line (record { opened = n; history = n; sessions = record { active = n; history = n } ∷ [] }))
+    ((2 ^ 64 - 1) ∷ 2 ^ 64 ∷ [])
     ++ map (λ n. fits_session (record { active = n; history = 0 })) ((2 ^ 64 - 1) ∷ 2 ^ 64 ∷ []) ≡ (true ∷ false ∷ true ∷ false ∷ [])
 unfolding computing fits_session fits_line
 fits_eight_bytes = refl
