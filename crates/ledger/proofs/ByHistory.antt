@@ -15,7 +15,7 @@ use Rattle.model.specs.declared.Session.{Session}
 use Rattle.model.specs.declared.Line.{Line}
 use Rattle.model.specs.Sets.{union, inter, within, count}
 use Rattle.model.specs.Policy.{Meaning}
-use Rattle.model.specs.Line.{read_sessions, read_line, is_open, exclusions_met, session_sound, sessions_sound, sound}
+use Rattle.model.specs.Line.{read_sessions, read_line, is_open, session_sound, sessions_sound, sound}
 use Rattle.model_laws.proofs.Bools.{and_l, and_r, all_four}
 use Rattle.model_laws.proofs.SetLaws.{count-within}
 use Rattle.model_laws.proofs.Inclusion.{within_refl, within_trans, none_within, union-within, inter-within}
