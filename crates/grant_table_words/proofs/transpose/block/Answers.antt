@@ -1,8 +1,7 @@
 use mathlib.Core.Path.{◌≡◌}
-use Prim.Native.Nat.{◌+◌, ◌-◌, ◌≤◌}
+use Prim.Native.Nat.{◌+◌}
 use native.Mathlib.Omega.{arith}
 use borrow.Author.Rules.{rules}
-use Rattle.grant_table_words.specs.Stages.{Blocked}
 use Rattle.grant_table_words.proofs.Blocks.{block_starts, block_goes}
 use Rattle.grant_table_words.proofs.transpose.block.Goals as goal
 
@@ -12,16 +11,14 @@ loop-k-init c = search (rules, block_starts)
 pub pair-requires : goal.pair-requires
 pair-requires c =
     (search rules, search rules, c.requires.3 c.loop-k.k (search rules) (search rules) (search rules), search rules)
--- FIX: took also ['κs']
 
 pub loop-k-preserved : goal.loop-k-preserved
-loop-k-preserved c =
-    (
-      search rules,
-      search rules,
-      search rules,
-      block_goes _ _ _ _ _ _ _ _ (search rules) (search rules) (search rules) (search rules) c.loop-k.invariant.3 c.pair.ensures,
-    )
+loop-k-preserved c = (
+  search rules,
+  search rules,
+  search rules,
+  block_goes _ _ _ _ _ _ _ _ (search rules) (search rules) (search rules) (search rules) c.loop-k.invariant.3 c.pair.ensures,
+)
 
 pub returns : goal.returns
 returns c =

@@ -3,10 +3,7 @@
 -- Assumes nothing.
 use mathlib.Core.Path.{◌≡◌}
 use Prim.Native.Nat.{◌+◌, ◌-◌, ◌≤◌}
-use native.Mathlib.Omega.{arith}
-use borrow.Author.Rules.{rules}
 use Rattle.grant_table_words.specs.Stages.{Blocked}
-use Rattle.grant_table_words.proofs.Blocks.{block_starts, block_goes}
 use Rattle.grant_table_words.proofs.transpose.block.Given as goal
 
 abbrev pub invariant-loop-k : goal.invariant-loop-k

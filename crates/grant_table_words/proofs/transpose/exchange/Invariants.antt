@@ -3,11 +3,8 @@
 -- Assumes nothing.
 use mathlib.Core.Path.{◌≡◌}
 use Prim.Native.Nat.{ℕ, ◌≤◌, ◌<◌, ◌-◌}
-use native.Mathlib.Omega.{arith}
-use borrow.Author.Rules.{rules}
 use lib.ListN.{length, get_or}
 use Rattle.grant_table_words.specs.Stages.{exchanged, MarkedFrom}
-use Rattle.grant_table_words.proofs.Blocks.{marked_first, marked_next, block_fits, rows-go}
 use Rattle.grant_table_words.proofs.transpose.exchange.Given as goal
 
 abbrev pub invariant-loop-from : goal.invariant-loop-from

@@ -6,27 +6,21 @@ use Rattle.grant_table_words.proofs.transpose.transpose.Goals as goal
 
 pub exchange-requires : goal.exchange-requires
 exchange-requires c = search (rules, marks_32)
--- FIX: took also ['κs']
 
 pub exchange-requires-2 : goal.exchange-requires-2
 exchange-requires-2 c = search (rules, marks_16)
--- FIX: took also ['κs']
 
 pub exchange-requires-3 : goal.exchange-requires-3
 exchange-requires-3 c = search (rules, marks_8)
--- FIX: took also ['κs']
 
 pub exchange-requires-4 : goal.exchange-requires-4
 exchange-requires-4 c = search (rules, marks-4)
--- FIX: took also ['κs']
 
 pub exchange-requires-5 : goal.exchange-requires-5
 exchange-requires-5 c = search (rules, marks-2)
--- FIX: took also ['κs']
 
 pub exchange-requires-6 : goal.exchange-requires-6
 exchange-requires-6 c = search (rules, marks_1)
--- FIX: took also ['κs']
 
 pub returns : goal.returns
 returns c = search (rules, transposed)
