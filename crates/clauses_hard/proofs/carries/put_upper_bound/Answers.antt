@@ -1,0 +1,20 @@
+use borrow.Author.Rules.{rules}
+use mathlib.Core.Path.{◌≡◌}
+use Prim.Native.Nat.{◌-◌, ◌≤◌}
+use lib.ListN.{length}
+use Rattle.model.specs.Clauses.{list_to}
+use Rattle.sets.specs.Words.{value}
+use Rattle.clauses_bytes.specs.Putting.{Puts}
+use Rattle.clauses_lines.specs.Lines.{lines_of}
+use Rattle.clauses_hard.specs.Parts.{upper as upper_of, upper_bound_to}
+use Rattle.clauses_lines.proofs.LineLaws.{lines_none, lines_next, lines-done}
+use Rattle.clauses_hard.proofs.carries.put_upper_bound.Goals as goal
+
+pub loop-q-init : goal.loop-q-init
+loop-q-init c = search (rules, lines_none)
+
+pub loop-q-preserved : goal.loop-q-preserved
+loop-q-preserved c = search (rules, lines_next)
+
+pub returns : goal.returns
+returns c = unfold upper_bound_to in search (rules, lines-done)
