@@ -1,11 +1,5 @@
 use borrow.Author.Rules.{rules}
-use mathlib.Core.Path.{◌≡◌}
-use Prim.Native.Nat.{◌-◌, ◌≤◌}
-use lib.ListN.{length}
-use Rattle.model.specs.Clauses.{list_to}
-use Rattle.clauses_bytes.specs.Putting.{Puts}
-use Rattle.clauses_lines.specs.Lines.{lines_of}
-use Rattle.clauses_hard.specs.Parts.{barred, barring_to}
+use Rattle.clauses_hard.specs.Parts.{barring_to}
 use Rattle.clauses_lines.proofs.LineLaws.{lines_none, lines_next, lines-done}
 use Rattle.clauses_hard.proofs.carries.put_barring.Goals as goal
 

@@ -1,12 +1,5 @@
 use borrow.Author.Rules.{rules}
-use mathlib.Core.Path.{◌≡◌}
-use Prim.Native.Nat.{◌-◌, ◌≤◌}
-use lib.ListN.{length}
-use Rattle.model.specs.Clauses.{list_to}
-use mathlib.Core.List.{[], ◌∷◌}
-use Rattle.clauses_bytes.specs.Putting.{Puts}
-use Rattle.clauses_lines.specs.Lines.{lines_of}
-use Rattle.clauses_hard.specs.Parts.{rows_of, carried_one, carried_to}
+use Rattle.clauses_hard.specs.Parts.{carried_to}
 use Rattle.clauses_lines.proofs.LineLaws.{lines_none, lines_next, lines-done}
 use Rattle.clauses_hard.proofs.CarrierLaws.{column_put}
 use Rattle.clauses_hard.proofs.carries.put_carried.Goals as goal

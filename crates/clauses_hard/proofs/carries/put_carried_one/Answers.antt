@@ -1,6 +1,5 @@
 -- `clauses_hard::carries::put_carried_one` meets its contract.
 -- Assumes nothing.
-use borrow.Author.Rules.{rules}
 use Rattle.clauses_lines.proofs.LineLaws.{line_more}
 use Rattle.clauses_hard.proofs.carries.put_carried_one.Goals as goal
 

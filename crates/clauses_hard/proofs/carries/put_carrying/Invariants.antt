@@ -1,14 +1,12 @@
 -- `clauses_hard::carries::put_carrying` meets its contract: what is put is the list up to the next number.
 -- Assumes nothing.
-use borrow.Author.Rules.{rules}
 use mathlib.Core.Path.{◌≡◌}
 use Prim.Native.Nat.{◌-◌, ◌≤◌}
 use lib.ListN.{length}
 use Rattle.model.specs.Clauses.{list_to, role_variable}
 use Rattle.clauses_bytes.specs.Putting.{Puts}
 use Rattle.clauses_lines.specs.Lines.{lines_of}
-use Rattle.clauses_hard.specs.Parts.{rows_of, carrying_row, carrying_to}
-use Rattle.clauses_lines.proofs.LineLaws.{lines_none, lines_next, lines-done}
+use Rattle.clauses_hard.specs.Parts.{rows_of, carrying_row}
 use Rattle.clauses_hard.proofs.carries.put_carrying.Given as goal
 
 abbrev pub invariant-loop-r : goal.invariant-loop-r

@@ -1,11 +1,6 @@
 use borrow.Author.Rules.{rules}
-use mathlib.Core.Path.{◌≡◌}
-use Prim.Native.Nat.{◌+◌, ◌-◌}
-use lib.ListN.{length}
-use Rattle.model.specs.Clauses.{gives}
-use Rattle.sets.specs.Words.{value}
 use Rattle.clauses_hard.specs.Parts.{carried_as, carrying_row}
-use Rattle.clauses_hard.proofs.WalkLaws.{Walked, walk_starts, walk_goes, walk_ends}
+use Rattle.clauses_hard.proofs.WalkLaws.{walk_starts, walk_goes, walk_ends}
 use Rattle.clauses_hard.proofs.carries.put_carrying_row.Goals as goal
 
 pub loop-q-init : goal.loop-q-init

@@ -1,11 +1,6 @@
 use borrow.Author.Rules.{rules}
-use mathlib.Core.Path.{◌≡◌}
-use Prim.Native.Nat.{◌+◌, ◌-◌}
-use lib.ListN.{length}
-use Rattle.model.specs.Clauses.{must}
-use Rattle.sets.specs.Words.{value}
 use Rattle.clauses_hard.specs.Parts.{lower, lower_bound_to}
-use Rattle.clauses_hard.proofs.WalkLaws.{Walked, walk_starts, walk_goes, walk_ends}
+use Rattle.clauses_hard.proofs.WalkLaws.{walk_starts, walk_goes, walk_ends}
 use Rattle.clauses_hard.proofs.carries.put_lower_bound.Goals as goal
 
 pub loop-q-init : goal.loop-q-init

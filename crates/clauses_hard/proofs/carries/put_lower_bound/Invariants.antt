@@ -1,13 +1,11 @@
 -- `clauses_hard::carries::put_lower_bound` meets its contract: the lines of the members below the next one are put.
 -- Assumes nothing.
-use borrow.Author.Rules.{rules}
 use mathlib.Core.Path.{◌≡◌}
 use Prim.Native.Nat.{◌+◌, ◌-◌}
 use lib.ListN.{length}
 use Rattle.model.specs.Clauses.{must}
 use Rattle.sets.specs.Words.{value}
-use Rattle.clauses_hard.specs.Parts.{lower, lower_bound_to}
-use Rattle.clauses_hard.proofs.WalkLaws.{Walked, walk_starts, walk_goes, walk_ends}
+use Rattle.clauses_hard.proofs.WalkLaws.{Walked}
 use Rattle.clauses_hard.proofs.carries.put_lower_bound.Given as goal
 
 abbrev pub invariant-loop-q : goal.invariant-loop-q

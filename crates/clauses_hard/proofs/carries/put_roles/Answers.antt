@@ -1,11 +1,5 @@
 use borrow.Author.Rules.{rules}
-use mathlib.Core.Path.{◌≡◌}
-use Prim.Native.Nat.{◌^◌, ◌<◌}
-use lib.ListN.{length}
-use Rattle.model.specs.Sets.{count}
-use Rattle.model.specs.Dimacs.{literals_text}
-use Rattle.clauses_hard.specs.Parts.{roles_in}
-use Rattle.clauses_bytes.proofs.WritingLaws.{Along, along_done}
+use Rattle.clauses_bytes.proofs.WritingLaws.{along_done}
 use Rattle.clauses_hard.proofs.CarrierLaws.{roles_within, roles_start, roles_small, roles_fewer, roles_none, roles_goes}
 use Rattle.clauses_hard.proofs.carries.put_roles.Goals as goal
 

@@ -1,15 +1,13 @@
 -- `clauses_hard::carries::put_roles` meets its contract: the roles that are left are still to be put. The measure is
 -- their number.
 -- Assumes nothing.
-use borrow.Author.Rules.{rules}
 use mathlib.Core.Path.{◌≡◌}
 use Prim.Native.Nat.{◌^◌, ◌<◌}
 use lib.ListN.{length}
 use Rattle.model.specs.Sets.{count}
 use Rattle.model.specs.Dimacs.{literals_text}
 use Rattle.clauses_hard.specs.Parts.{roles_in}
-use Rattle.clauses_bytes.proofs.WritingLaws.{Along, along_done}
-use Rattle.clauses_hard.proofs.CarrierLaws.{roles_within, roles_start, roles_small, roles_fewer, roles_none, roles_goes}
+use Rattle.clauses_bytes.proofs.WritingLaws.{Along}
 use Rattle.clauses_hard.proofs.carries.put_roles.Given as goal
 
 abbrev pub invariant-loop-left : goal.invariant-loop-left

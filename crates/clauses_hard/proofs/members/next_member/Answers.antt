@@ -1,7 +1,5 @@
 use borrow.Author.Rules.{rules}
-use Prim.Native.Nat.{◌-◌, ◌≤◌}
-use Rattle.sets.specs.Words.{value}
-use Rattle.clauses_hard.proofs.MemberLaws.{Between, between_none, between_word, next_found, next-none}
+use Rattle.clauses_hard.proofs.MemberLaws.{between_none, between_word, next_found, next-none}
 use Rattle.clauses_hard.proofs.members.next_member.Goals as goal
 
 pub loop-at-init : goal.loop-at-init

@@ -1,10 +1,9 @@
 -- `clauses_hard::members::next_member` meets its contract: none is between the number and the place so far. The
 -- measure is what is left up to the end.
 -- Assumes nothing.
-use borrow.Author.Rules.{rules}
 use Prim.Native.Nat.{◌-◌, ◌≤◌}
 use Rattle.sets.specs.Words.{value}
-use Rattle.clauses_hard.proofs.MemberLaws.{Between, between_none, between_word, next_found, next-none}
+use Rattle.clauses_hard.proofs.MemberLaws.{Between}
 use Rattle.clauses_hard.proofs.members.next_member.Given as goal
 
 abbrev pub invariant-loop-at : goal.invariant-loop-at

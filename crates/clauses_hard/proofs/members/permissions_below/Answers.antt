@@ -1,9 +1,6 @@
 use borrow.Author.Rules.{rules}
 use mathlib.Core.Path.{◌≡◌}
-use Prim.Native.Nat.{◌-◌, ◌≤◌}
 use native.Mathlib.Omega.{arith}
-use Rattle.model.specs.Sets.{count}
-use Rattle.sets.specs.Words.{value}
 use Rattle.clauses_hard.proofs.MemberLaws.{count_more, smaller_some}
 use Rattle.clauses_hard.proofs.SizeLaws.{count-start}
 use Rattle.clauses_hard.proofs.members.permissions_below.Goals as goal
@@ -16,12 +13,11 @@ loop-from-smaller c =
     omega (arith, smaller_some _ _ _ (search rules) (search rules) c.smaller-more.ensures)
 
 pub loop-from-preserved : goal.loop-from-preserved
-loop-from-preserved c =
-    (
-      search rules,
-      count_more _ _ _ _ _ _ c.rest.ensures c.smaller-more.ensures.first c.loop-from.invariant.1 c.members_below-total.ensures.0,
-      search rules,
-    )
+loop-from-preserved c = (
+  search rules,
+  count_more _ _ _ _ _ _ c.rest.ensures c.smaller-more.ensures.first c.loop-from.invariant.1 c.members_below-total.ensures.0,
+  search rules,
+)
 
 pub returns : goal.returns
 returns c =

@@ -1,14 +1,10 @@
 -- `clauses_hard::members::permissions_below` meets its contract: the total is that of the numbers so far. The measure
 -- is what is left up to n.
 -- Assumes nothing.
-use borrow.Author.Rules.{rules}
 use mathlib.Core.Path.{◌≡◌}
 use Prim.Native.Nat.{◌-◌, ◌≤◌}
-use native.Mathlib.Omega.{arith}
 use Rattle.model.specs.Sets.{count}
 use Rattle.sets.specs.Words.{value}
-use Rattle.clauses_hard.proofs.MemberLaws.{count_more, smaller_some}
-use Rattle.clauses_hard.proofs.SizeLaws.{count-start}
 use Rattle.clauses_hard.proofs.members.permissions_below.Given as goal
 
 abbrev pub invariant-loop-from : goal.invariant-loop-from

@@ -1,9 +1,5 @@
 use borrow.Author.Rules.{rules}
-use mathlib.Core.Path.{◌≡◌}
-use Prim.Native.Nat.{◌-◌, ◌*◌, ◌≤◌}
-use Rattle.model.specs.Sets.{count}
-use Rattle.clauses_hard.specs.Parts.{rows_of}
-use Rattle.clauses_hard.specs.Sizes.{sum_to, carrying_size}
+use Rattle.clauses_hard.specs.Sizes.{carrying_size}
 use Rattle.clauses_hard.proofs.SizeLaws.{sum-start, sum-next, sum_done}
 use Rattle.clauses_hard.proofs.sizes.carrying_size.Goals as goal
 

@@ -1,12 +1,10 @@
 -- `clauses_hard::sizes::carrying_size` meets its contract.
 -- Assumes nothing.
-use borrow.Author.Rules.{rules}
 use mathlib.Core.Path.{◌≡◌}
 use Prim.Native.Nat.{◌-◌, ◌*◌, ◌≤◌}
 use Rattle.model.specs.Sets.{count}
 use Rattle.clauses_hard.specs.Parts.{rows_of}
-use Rattle.clauses_hard.specs.Sizes.{sum_to, carrying_size}
-use Rattle.clauses_hard.proofs.SizeLaws.{sum-start, sum-next, sum_done}
+use Rattle.clauses_hard.specs.Sizes.{sum_to}
 use Rattle.clauses_hard.proofs.sizes.carrying_size.Given as goal
 
 abbrev pub invariant-loop-r : goal.invariant-loop-r

@@ -1,8 +1,5 @@
 use borrow.Author.Rules.{rules}
-use mathlib.Core.Path.{◌≡◌}
-use Prim.Native.Nat.{◌-◌, ◌*◌, ◌≤◌}
-use lib.ListN.{get_or}
-use Rattle.clauses_hard.specs.Sizes.{sum_to, counter_size, counters_size}
+use Rattle.clauses_hard.specs.Sizes.{counters_size}
 use Rattle.clauses_hard.proofs.SizeLaws.{sum-start, sum-next, sum_done}
 use Rattle.clauses_hard.proofs.sizes.counters_size.Goals as goal
 

@@ -1,11 +1,9 @@
 -- `clauses_hard::sizes::counters_size` meets its contract.
 -- Assumes nothing.
-use borrow.Author.Rules.{rules}
 use mathlib.Core.Path.{◌≡◌}
 use Prim.Native.Nat.{◌-◌, ◌*◌, ◌≤◌}
 use lib.ListN.{get_or}
-use Rattle.clauses_hard.specs.Sizes.{sum_to, counter_size, counters_size}
-use Rattle.clauses_hard.proofs.SizeLaws.{sum-start, sum-next, sum_done}
+use Rattle.clauses_hard.specs.Sizes.{sum_to, counter_size}
 use Rattle.clauses_hard.proofs.sizes.counters_size.Given as goal
 
 abbrev pub invariant-loop-i : goal.invariant-loop-i

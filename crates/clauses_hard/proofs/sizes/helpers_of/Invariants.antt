@@ -1,12 +1,10 @@
 -- `clauses_hard::sizes::helpers_of` meets its contract.
 -- Assumes nothing.
-use borrow.Author.Rules.{rules}
 use mathlib.Core.Path.{◌≡◌}
 use Prim.Native.Nat.{◌-◌, ◌*◌, ◌≤◌}
 use lib.ListN.{get_or, length}
 use Rattle.model.specs.Clauses.{variables_in}
-use Rattle.clauses_hard.specs.Sizes.{sum_to, helpers_to}
-use Rattle.clauses_hard.proofs.SizeLaws.{sum-start, sum-next, sum_done}
+use Rattle.clauses_hard.specs.Sizes.{sum_to}
 use Rattle.clauses_hard.proofs.sizes.helpers_of.Given as goal
 
 abbrev pub invariant-loop-i : goal.invariant-loop-i
