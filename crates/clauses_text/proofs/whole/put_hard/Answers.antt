@@ -1,6 +1,5 @@
 -- `clauses_text::whole::put_hard` meets its contract.
 -- Assumes nothing.
-use borrow.Author.Rules.{rules}
 use Rattle.clauses_text.proofs.WholeLaws.{hard_text}
 use Rattle.clauses_bytes.proofs.WritingLaws.{put6}
 use Rattle.clauses_text.proofs.whole.put_hard.Goals as goal

@@ -1,6 +1,5 @@
 -- `clauses_text::whole::put_head` meets its contract.
 -- Assumes nothing.
-use borrow.Author.Rules.{rules}
 use mathlib.Core.Path.{refl}
 use Rattle.model.specs.Dimacs.{head_text}
 use Rattle.clauses_bytes.proofs.WritingLaws.{put5}

@@ -1,6 +1,5 @@
 -- `clauses_text::whole::put_text` meets its contract.
 -- Assumes nothing.
-use borrow.Author.Rules.{rules}
 use Rattle.clauses_bytes.proofs.WritingLaws.{put3}
 use Rattle.clauses_text.proofs.WholeLaws.{whole_text}
 use Rattle.clauses_text.proofs.whole.put_text.Goals as goal

@@ -1,6 +1,5 @@
 -- `clauses_text::whole::put_wcnf` meets its contract.
 -- Assumes nothing.
-use borrow.Author.Rules.{rules}
 use mathlib.Core.Path.{refl}
 use Rattle.clauses_bytes.proofs.WritingLaws.{put5}
 use Rattle.clauses_text.proofs.whole.put_wcnf.Goals as goal
