@@ -14,13 +14,12 @@ pub loop-i-init : goal.loop-i-init
 loop-i-init c = (omega arith, filled_none _ _ _ _ _ _ _ refl refl)
 
 pub loop-i-preserved : goal.loop-i-preserved
-loop-i-preserved c =
-    (
-      omega arith,
-      filled_next _ _ _ _ _ c.loop-i.masks c.loop-i.ns c.loop-i.i _ _ _ c.exclusion_of-x.result (omega arith) c.loop-i.invariant.1
-          (c.exclusion_of-x.ensures ∙ sym (row_at c.args.xs.now c.loop-i.i)) c.staying-base.ensures
-          c.mask_of.ensures c.reduced_n.ensures,
-    )
+loop-i-preserved c = (
+  omega arith,
+  filled_next _ _ _ _ _ c.loop-i.masks c.loop-i.ns c.loop-i.i _ _ _ c.exclusion_of-x.result (omega arith) c.loop-i.invariant.1
+      (c.exclusion_of-x.ensures ∙ sym (row_at c.args.xs.now c.loop-i.i)) c.staying-base.ensures
+      c.mask_of.ensures c.reduced_n.ensures,
+)
 
 pub returns : goal.returns
 unfolding session_at empty_session exclusions_in
