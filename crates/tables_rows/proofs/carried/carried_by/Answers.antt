@@ -1,7 +1,6 @@
 -- `tables_rows::carried::carried_by` meets its contract.
 -- Assumes nothing.
 use mathlib.Core.Path.{sym, ap, ◌∙◌}
-use borrow.Author.Rules.{rules}
 use Rattle.model.specs.Sets.{union_at}
 use Rattle.sets.specs.Words.{values}
 use Rattle.sets.proofs.Unions.{union_at_unions}

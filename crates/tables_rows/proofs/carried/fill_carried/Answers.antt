@@ -1,9 +1,8 @@
 use mathlib.Core.Path.{ap, ◌∙◌}
 use borrow.Author.Rules.{rules}
-use Rattle.model.specs.Sets.{count, union_at}
-use Rattle.model.specs.Policy.{with_selves}
+use Rattle.model.specs.Sets.{union_at}
 use Rattle.sets.specs.Words.{values}
-use Rattle.tables_rows.proofs.Carrying.{Made, made_start, made_next, made_less, made_all}
+use Rattle.tables_rows.proofs.Carrying.{made_start, made_next, made_less, made_all}
 use Rattle.tables_rows.proofs.carried.fill_carried.Goals as goal
 
 pub loop-left-init : goal.loop-left-init

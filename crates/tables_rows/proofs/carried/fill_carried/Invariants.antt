@@ -1,12 +1,10 @@
 -- `tables_rows::carried::fill_carried` meets its contract. The loop's invariant: the rows of the roles before those to
 -- come are made.
 -- Assumes nothing.
-use mathlib.Core.Path.{ap, ◌∙◌}
-use borrow.Author.Rules.{rules}
-use Rattle.model.specs.Sets.{count, union_at}
+use Rattle.model.specs.Sets.{count}
 use Rattle.model.specs.Policy.{with_selves}
 use Rattle.sets.specs.Words.{values}
-use Rattle.tables_rows.proofs.Carrying.{Made, made_start, made_next, made_less, made_all}
+use Rattle.tables_rows.proofs.Carrying.{Made}
 use Rattle.tables_rows.proofs.carried.fill_carried.Given as goal
 
 abbrev pub invariant-loop-left : goal.invariant-loop-left

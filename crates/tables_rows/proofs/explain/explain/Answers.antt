@@ -3,7 +3,6 @@
 use mathlib.Core.Path.{ap, ◌∙◌}
 use mathlib.Core.Option.{Option}
 use Prim.Native.Nat.{ℕ}
-use borrow.Author.Rules.{rules}
 use Rattle.model.specs.Sets.{has}
 use Rattle.model.specs.Policy.{with_selves, granter_by}
 use Rattle.model.specs.Session.{explanation}

@@ -1,16 +1,10 @@
 -- `tables_rows::explain::first_carrier` meets its contract. The loop's invariant: no role before those to come has a
 -- granting role.
 -- Assumes nothing.
-use mathlib.Core.Path.{ap, ◌∙◌}
-use mathlib.Core.Option.{Option}
-use Prim.Native.Nat.{ℕ}
-use borrow.Author.Rules.{rules}
 use Rattle.model.specs.Tests.{is_some}
 use Rattle.model.specs.Sets.{has, count}
 use Rattle.model.specs.Policy.{with_selves, granter_by}
-use Rattle.model.specs.Session.{two_roles}
-use Rattle.tables_rows.specs.Told.{told}
-use Rattle.tables_rows.proofs.Explaining.{Seeks, seeks_start, seeks_end, seeks_found, seeks_next, seeks_less, told_some, told_none, explains_found, explains_none}
+use Rattle.tables_rows.proofs.Explaining.{Seeks}
 use Rattle.tables_rows.proofs.explain.first_carrier.Given as goal
 
 abbrev pub invariant-loop-left : goal.invariant-loop-left

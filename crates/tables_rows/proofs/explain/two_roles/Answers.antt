@@ -1,6 +1,5 @@
 -- `tables_rows::explain::two_roles` meets its contract.
 -- Assumes nothing.
-use borrow.Author.Rules.{rules}
 use Rattle.model.specs.Session.{two_roles}
 use Rattle.hierarchy.specs.Names.{name_of}
 use Rattle.tables_rows.specs.Told.{told}

@@ -1,18 +1,11 @@
 -- `tables_rows::holding::holders` meets its contract. The invariant: the set so far is made by the test of the roles so
 -- far.
 -- Assumes nothing.
-use mathlib.Core.Path.{◌≡◌, sym, ap, ◌∙◌}
-use mathlib.Core.Bool.{Bool}
-use Prim.Native.Nat.{ℕ, ◌≤◌, ◌-◌}
-use native.Mathlib.Omega.{arith}
+use mathlib.Core.Path.{◌≡◌}
+use Prim.Native.Nat.{◌≤◌, ◌-◌}
 use lib.ListN.{get_or}
-use borrow.Author.Rules.{rules}
-use Rattle.model.specs.Tests.{pick}
-use Rattle.model.specs.Sets.{has, with, set_of}
+use Rattle.model.specs.Sets.{has, set_of}
 use Rattle.sets.specs.Words.{values}
-use Rattle.sets.proofs.Unions.{values_at}
-use Rattle.tables_rows.specs.Holding.{holders_of}
-use Rattle.hierarchy.proofs.Joining.{set_of_none, set_of-next, set_of-all}
 use Rattle.tables_rows.proofs.holding.holders.Given as goal
 
 abbrev pub invariant-loop-r : goal.invariant-loop-r
