@@ -33,7 +33,7 @@ program := target/bin/nutrameza_script
 surveyor := target/bin/nutrameza_survey
 prefix := $(abspath $(PREFIX))
 to := $(DESTDIR)$(prefix)
-sources := crates.txt $(shell find crates -name '*.rt' -o -name '*.antt')
+sources := crates.txt $(shell find crates -name out -prune -o '(' -name '*.rt' -o -name '*.antt' ')' -print)
 documents := $(wildcard docs/*.md) CHANGELOG.md
 pictures := $(wildcard docs/*.png)
 package := $(wildcard python/nutrameza/*.py) python/nutrameza/py.typed
@@ -62,10 +62,10 @@ folders := share/doc/nutrameza/docs share/doc/nutrameza/examples share/doc/nutra
 .PHONY: lib install uninstall man dist ward survey host test desk-test fuzz bench always
 
 lib:
-	@tools/quiet target/make/lib $(RT) staticlib nutrameza
+	@tools/quiet target/make/lib env RT=$(RT) tools/built library
 
 target/staticlib/libnutrameza.a: $(sources)
-	@tools/quiet target/make/lib $(RT) staticlib nutrameza
+	@tools/quiet target/make/lib env RT=$(RT) tools/built library
 	@touch $@
 
 # The archive's members whole, the calls of the header exported and nothing else; linked anew each time, and kept where
@@ -126,7 +126,7 @@ dist: $(library) $(shared) $(programs)
 	@cd target/dist && sha256sum *.tar.gz | tee SHA256SUMS
 
 $(program): $(sources)
-	@tools/quiet target/make/program $(RT) check nutrameza_script
+	@tools/quiet target/make/program env RT=$(RT) tools/built program nutrameza_script
 	@touch $@
 
 # The script of the ward example beside the lines that the program answers.
@@ -138,7 +138,7 @@ ward: $(program) $(library)
 	@cmp target/ward/answers examples/ward.answers
 
 $(surveyor): $(sources)
-	@tools/quiet target/make/surveyor $(RT) check nutrameza_survey
+	@tools/quiet target/make/surveyor env RT=$(RT) tools/built program nutrameza_survey
 	@touch $@
 
 # The figures of the ward example.

@@ -1,12 +1,12 @@
 #!/usr/bin/env bash
 # The archive that a record maker links, as an auditor looks at it: what it needs, what it exports, that it keeps
 # nothing between calls, and that a build in another folder gives the same bytes. It needs
-# target/staticlib/libnutrameza.a as 'rt staticlib nutrameza' left it.
+# target/staticlib/libnutrameza.a as 'tools/built library' left it.
 #
 # The second folder has a copy of the crates and, not to prove them all again, of the libraries that the first build
 # proved (rt takes one only where it was proved from the same sources). There the top crate is proved anew and the whole
-# archive is compiled anew; and every crate's sources are lowered anew in both folders, and give the same code. What is
-# not made again are the proofs of the lower crates.
+# archive, the code of every crate below it, is compiled anew. What is not made again are the proofs of the lower
+# crates.
 . "$(dirname "${BASH_SOURCE[0]}")/it.sh"
 export LC_ALL=C
 archive=$root/target/staticlib/libnutrameza.a
@@ -45,28 +45,13 @@ keeps_nothing() {
 
 # The second build: a folder of another name and length, another home, another time zone.
 built_again() {
-  mkdir -p "$second/target" && cp -R "$root/crates" "$root/crates.txt" "$second" &&
-    for part in rlib stamp; do [ ! -d "$root/target/$part" ] || cp -R "$root/target/$part" "$second/target" || return 1; done &&
-    cd "$second" && TZ=Asia/Tokyo HOME=$work $rt staticlib nutrameza > "$work/again" 2>&1 || { cat "$work/again"; return 1; }
+  mkdir -p "$second/tools" && cp -R "$root/crates" "$root/crates.txt" "$second" && cp "$root/tools/built" "$second/tools" &&
+    rm -rf "$second/crates/nutrameza_c/out" && cd "$second" &&
+    TZ=Asia/Tokyo HOME=$work RT=$rt tools/built library > "$work/again" 2>&1 || { cat "$work/again"; return 1; }
 }
 
 same_bytes() {
   test -s "$archive" && cmp "$archive" "$second/target/staticlib/libnutrameza.a"
-}
-
-# mir FOLDER CRATE: the code that a crate's sources are lowered to
-mir() {
-  cd "$1" && $rt mir "$2" 2> /dev/null
-}
-
-same_code() {
-  local crate crates
-  crates=$(sed -nE 's/^rt: ([a-z_]+) proved .*$/\1/p' "$work/again")
-  [ "$(wc -w <<< "$crates")" -gt 0 ] || { echo 'the second build names no crate'; return 1; }
-  for crate in $crates nutrameza; do
-    (mir "$root" "$crate") > "$work/first.mir" && test -s "$work/first.mir" && (mir "$second" "$crate") > "$work/second.mir" &&
-      cmp "$work/first.mir" "$work/second.mir" || { echo "$crate is not lowered to the same code"; return 1; }
-  done
 }
 
 it 'the library is there' test -s "$archive"
@@ -76,5 +61,4 @@ it 'the header declares each exported call' declared
 it 'it has no writable data' keeps_nothing
 it 'it is built again in another folder' built_again
 it 'both builds are the same bytes' same_bytes
-it 'every crate is lowered to the same code in both folders' same_code
 counted

@@ -9,7 +9,7 @@ fn main() {
     println!("cargo:rerun-if-env-changed=NUTRAMEZA_LIB");
     println!("cargo:rerun-if-changed={}", archive.display());
     if !archive.exists() {
-        panic!("{} is missing: make it with `rt staticlib nutrameza`", archive.display());
+        panic!("{} is missing: make it with `make lib`", archive.display());
     }
     println!("cargo:rustc-link-search=native={}", folder.display());
     println!("cargo:rustc-link-lib=static=nutrameza");

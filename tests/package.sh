@@ -64,8 +64,8 @@ uninstalled() {
 
 # A source that is newer than the archive or a program has it made again.
 stale() {
-  export -n NUTRAMEZA_LIB && make -n -C "$root" -W crates/nutrameza/src/lib.rt target/staticlib/libnutrameza.a | grep -q 'rt staticlib nutrameza' &&
-    make -n -C "$root" -W crates/nutrameza/src/lib.rt install "PREFIX=$prefix" | grep -q 'rt check nutrameza_survey'
+  export -n NUTRAMEZA_LIB && make -n -C "$root" -W crates/nutrameza/src/lib.rt target/staticlib/libnutrameza.a | grep -q 'tools/built library' &&
+    make -n -C "$root" -W crates/nutrameza/src/lib.rt install "PREFIX=$prefix" | grep -q 'tools/built program nutrameza_survey'
 }
 
 # The installed policy tool calls the installed library, whatever else is on the machine.

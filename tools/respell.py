@@ -4,8 +4,8 @@ dash between the names of two definitions only, types and modules in camel case.
 
 usage: python3 tools/respell.py KIT [--list]     at the top of the repository, once, behind port.py
 
-Names go over as whole words, the same word in the same way everywhere: in specs/, proofs/, the contracts of src/ and the
-texts of must-fail/. Words of the library, functions and values of src/ and the goals' generated names stay.
+Names go over as whole words, the same word in the same way everywhere: in specs/, proofs/, the contracts of src/ and
+the texts of must-fail/. Words of the library, functions and values of src/ and the goals' generated names stay.
 """
 import collections
 import os

@@ -1,6 +1,6 @@
 -- Texts set where there is room, and texts behind the end of a buffer, which are only counted.
 -- Assumes nothing.
-use Rattle.std.proofs.Common.{◌≡◌, ℕ, suc, ◌+◌, ◌/◌, ◌%◌, ◌^◌, ◌<◌, ◌≤◌, List, [], ◌∷◌, ◌++◌, length, set, sym, refl, ap, ◌∙◌, mod-eq_of_lt, arith, length-append, length-set}
+use Rattle.std.proofs.Common.{◌≡◌, ℕ, ◌+◌, ◌/◌, ◌%◌, ◌^◌, ◌<◌, ◌≤◌, List, [], ◌∷◌, ◌++◌, length, set, sym, refl, ap, ◌∙◌, mod-eq_of_lt, arith, length-append, length-set}
 use lib.Seq.{set_out}
 use Rattle.model.specs.Dimacs.{figure, decimal}
 use Rattle.clauses_bytes.specs.Putting.{behind, stored, Puts, Sets}

@@ -2,18 +2,16 @@
 -- Assumes nothing.
 use Rattle.std.proofs.Common.{◌≡◌, ℕ, ◌+◌, ◌-◌, ◌*◌, ◌/◌, ◌%◌, ◌^◌, ◌<◌, ◌≤◌, false, List, sym, refl, ap, ◌∙◌, arith, lt-ltb, eq-eqb, ne_eqb, le-leb}
 use borrow.Author.Tests.{lt-leb}
-use Rattle.model.specs.declared.Head.{Head}
 use Rattle.model.specs.declared.Scan.{Scan}
 use Rattle.model.specs.declared.Word.{Word}
 use Rattle.model.specs.declared.Entry.{Entry}
 use Rattle.model.specs.declared.Entry.TheVariants.{Member}
 use Rattle.model.specs.Tests.{pick}
-use Rattle.model.specs.Image.{word_at, field, decode, says, role, wrong_kind, in_range, repeats, crowds, entry_fault, fault, assigning, next}
+use Rattle.model.specs.Image.{word_at, field, decode, role, wrong_kind, in_range, repeats, crowds, entry_fault, fault, assigning, next}
 use Rattle.model.specs.Sets.{has, with}
-use Rattle.model.specs.Policy.{entry_at}
 use Rattle.image_words.proofs.Folds.{fold_next}
 use Rattle.image_words.proofs.Scans.{before_last, goes}
-use Rattle.image_usual.specs.Usual.{placed, places_from, Opens, Joins, Joined}
+use Rattle.image_usual.specs.Usual.{placed, Opens, Joins, Joined}
 use Rattle.image_usual.proofs.Words.{exclusion_said, member_role_lem, member_said}
 use Rattle.image_usual.proofs.Runs.{places_by}
 

@@ -115,6 +115,7 @@ fn gather(
 // The assignments from a place on to the user that the word names, taken in where they leave the user 16 roles at most.
 // All bits of the turned word go into the user's number, so that the word is read as a whole; one of another kind, or
 // with a spare bit, has no user in range.
+#[tactic(auto, using(crate::proofs::Runs::filled_none))]
 fn spell(
     image: &[u8],
     words: usize,

@@ -75,7 +75,8 @@ module _ (n N : ℕ) (small : n ≤ N) (positive : 1 ≤ N) where
       omega (
         arith,
         total-append width_of (keeping n a) (adding n a x),
-        total_list_to width_of 2 n (λ j. gives (a + j + 1) (a + n + j + 1) ∷ []) (λ j l. total-one width_of 2 (gives (a + j + 1) (a + n + j + 1)) (omega arith)),
+        total_list_to width_of 2 n (λ j. gives (a + j + 1) (a + n + j + 1) ∷ []) (λ j l. total-one width_of 2 (gives (a + j + 1) (a + n + j + 1))
+            (omega arith)),
         total_list_to width_of 3 (n - 1) (λ j. give x (a + j + 1) (a + n + j + 2) ∷ [])
             (λ j l. total-one width_of 3 (give x (a + j + 1) (a + n + j + 2)) (omega arith)),
       )

@@ -54,7 +54,8 @@ unfolding in_order
 same = record { image = refl; ledger = refl; calls = same_calls }
 
 -- the second answer of each user
-seen : (u : ℕ) → told u (in_order one_first) ≡ told u (in_order other_first) → get_or (told u (in_order one_first)) 1 0 ≡ get_or (told u (in_order other_first)) 1 0
+seen : (u : ℕ) → told u (in_order one_first) ≡ told u (in_order other_first) → get_or (told u (in_order one_first)) 1 0 ≡ get_or
+    (told u (in_order other_first)) 1 0
 seen u e = ap (λ (l : List ℕ). get_or l 1 0) e
 
 first_differs : ¬ (view_of SESSIONS 0 (in_order one_first) ≡ view_of SESSIONS 0 (in_order other_first))

@@ -101,7 +101,8 @@ short_behind (g ∷ gs) last end whole e =
     go (m ∷ ms) n h = omega (arith, n)
 
 -- an exclusion is not moved away from its member
-pub exclusion_kept : ¬ Reordered (image_bytes (1 ∷ exclusion_word 0 2 1 ∷ member_word 0 ∷ 3 ∷ [])) (image_bytes (1 ∷ member_word 0 ∷ exclusion_word 0 2 1 ∷ 3 ∷ []))
+pub exclusion_kept : ¬ Reordered (image_bytes (1 ∷ exclusion_word 0 2 1 ∷ member_word 0 ∷ 3 ∷ [])) (image_bytes
+    (1 ∷ member_word 0 ∷ exclusion_word 0 2 1 ∷ 3 ∷ []))
 unfolding words_behind words_from behind_head word_at image_bytes bytes_of member_word exclusion_word
 exclusion_kept order =
     short_behind order.to.groups order.to.last 3 (moved_each Group SameGroup Whole whole_moved order.moved order.whole) order.to.words

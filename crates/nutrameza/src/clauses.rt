@@ -7,8 +7,7 @@ use sessions::given::UserSession;
 
 // Writes an ask as weighted clauses (docs/CLAUSES.md) to the front of the buffer, and returns the text's length as the
 // extra. No session changes; 19 where the text is longer than the buffer, 20 never.
-#[unsafe(no_mangle)]
-pub extern "C" fn nutrameza_clauses(
+pub fn nutrameza_clauses(
     image: &[u8],
     ledger: &[u8],
     user: u64,

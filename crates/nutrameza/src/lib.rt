@@ -21,8 +21,7 @@ pub mod obstacle; // obstacle.rt: what stands in the way of an ask
 
 // Judges an image: 0, or the refusal's number plus 256 times the place of the refused word, by 22 the lowest role on a
 // loop, or by 23 the lowest user who may activate more than 16 roles.
-#[unsafe(no_mangle)]
-pub extern "C" fn nutrameza_check(image: &[u8]) -> u64
+pub fn nutrameza_check(image: &[u8]) -> u64
     ensures { result ≡ check_number (judge image.now) }
 {
     calls_image::check_image(image)
@@ -30,8 +29,7 @@ pub extern "C" fn nutrameza_check(image: &[u8]) -> u64
 
 // Shows the shortest loop of the lowest role on one: its roles from that role down and back to it, a byte each, and
 // zeros after them. The extra is their number; 20 where no role is on a loop. An image is judged by its words alone.
-#[unsafe(no_mangle)]
-pub extern "C" fn nutrameza_loop(image: &[u8], chain: &mut [u8]) -> u64
+pub fn nutrameza_loop(image: &[u8], chain: &mut [u8]) -> u64
     ensures { let a = loop_call image.now (length chain.old) in
         (result ≡ returned a) × (chain.new ≡ answered chain.old a) }
 {
@@ -41,8 +39,7 @@ pub extern "C" fn nutrameza_loop(image: &[u8], chain: &mut [u8]) -> u64
 // Writes the tidy image of the image's policy at the front of the buffer: head, assignments, grants, seniors,
 // exclusions, limits, each group ascending by its fields and without repeats, of limits the smallest for a role. The
 // extra is the number of words written; 19 for a buffer that is too small for them.
-#[unsafe(no_mangle)]
-pub extern "C" fn nutrameza_tidy(image: &[u8], out: &mut [u8]) -> u64
+pub fn nutrameza_tidy(image: &[u8], out: &mut [u8]) -> u64
     ensures { let w = tidy_call image.now out.old in (result ≡ w.number + 256 * w.extra) × (out.new ≡ w.out) }
 {
     calls_image::write_tidy(image, out)
@@ -50,8 +47,7 @@ pub extern "C" fn nutrameza_tidy(image: &[u8], out: &mut [u8]) -> u64
 
 // Tells whom the image stops: the users whose line of the ledger is not sound under it, user u as bit u of 8 bytes. The
 // extra is how many they are.
-#[unsafe(no_mangle)]
-pub extern "C" fn nutrameza_stopped(image: &[u8], ledger: &[u8], users: &mut [u8]) -> u64
+pub fn nutrameza_stopped(image: &[u8], ledger: &[u8], users: &mut [u8]) -> u64
     ensures { let a = stopped_call SESSIONS image.now ledger.now (length users.old) in
         (result ≡ returned a) × (users.new ≡ answered users.old a) }
 {
@@ -59,8 +55,7 @@ pub extern "C" fn nutrameza_stopped(image: &[u8], ledger: &[u8], users: &mut [u8
 }
 
 // Opens the user's lowest closed session, and returns it as the extra.
-#[unsafe(no_mangle)]
-pub extern "C" fn nutrameza_open(image: &[u8], ledger: &mut [u8], user: u64) -> u64
+pub fn nutrameza_open(image: &[u8], ledger: &mut [u8], user: u64) -> u64
     ensures { let e = step SESSIONS image.now ledger.old (open_by user) in
         (result ≡ returned e.reply) × (ledger.new ≡ e.ledger) }
 {
@@ -68,8 +63,7 @@ pub extern "C" fn nutrameza_open(image: &[u8], ledger: &mut [u8], user: u64) -> 
 }
 
 // Closes the user's session.
-#[unsafe(no_mangle)]
-pub extern "C" fn nutrameza_close(image: &[u8], ledger: &mut [u8], user: u64, session: u64) -> u64
+pub fn nutrameza_close(image: &[u8], ledger: &mut [u8], user: u64, session: u64) -> u64
     ensures { let e = step SESSIONS image.now ledger.old (close_by user session) in
         (result ≡ returned e.reply) × (ledger.new ≡ e.ledger) }
 {
@@ -77,8 +71,7 @@ pub extern "C" fn nutrameza_close(image: &[u8], ledger: &mut [u8], user: u64, se
 }
 
 // Shows the active roles of the user's session and the permissions that they carry.
-#[unsafe(no_mangle)]
-pub extern "C" fn nutrameza_show(
+pub fn nutrameza_show(
     image: &[u8],
     ledger: &[u8],
     user: u64,
@@ -93,8 +86,7 @@ pub extern "C" fn nutrameza_show(
 
 // Explains through which roles the active ones of the user's session carry the permission: the extra is 64 times the
 // lowest that carries it plus the lowest role at or below that one which holds the grant.
-#[unsafe(no_mangle)]
-pub extern "C" fn nutrameza_explain(
+pub fn nutrameza_explain(
     image: &[u8],
     ledger: &[u8],
     user: u64,
@@ -108,8 +100,7 @@ pub extern "C" fn nutrameza_explain(
 
 // Asks for roles in the user's session: at least the lower permissions, none outside the upper, the best by both
 // objectives.
-#[unsafe(no_mangle)]
-pub extern "C" fn nutrameza_ask(
+pub fn nutrameza_ask(
     image: &[u8],
     ledger: &mut [u8],
     user: u64,
@@ -138,8 +129,7 @@ pub extern "C" fn nutrameza_ask(
 }
 
 // An ask for the fewest permissions, then the fewest roles.
-#[unsafe(no_mangle)]
-pub extern "C" fn nutrameza_short_ask(
+pub fn nutrameza_short_ask(
     image: &[u8],
     ledger: &mut [u8],
     user: u64,
@@ -157,8 +147,7 @@ pub extern "C" fn nutrameza_short_ask(
 
 // Carries a ledger of four sessions a user over to one of eight: open bits, histories and each session's bytes stand as
 // they were, and the new sessions are closed. 9 is by 80 bytes a user, 19 by 144; the extra of 11 is the user.
-#[unsafe(no_mangle)]
-pub extern "C" fn nutrameza_widen(image: &[u8], old: &[u8], new: &mut [u8]) -> u64
+pub fn nutrameza_widen(image: &[u8], old: &[u8], new: &mut [u8]) -> u64
     ensures { let e = widened image.now old.now new.old in
         (result ≡ returned e.reply) × (new.new ≡ e.ledger) }
 {
@@ -167,8 +156,7 @@ pub extern "C" fn nutrameza_widen(image: &[u8], old: &[u8], new: &mut [u8]) -> u
 
 // Carries a ledger of eight sessions a user back to one of four. 9 is by 144 bytes a user, 19 by 80; 24 where any of
 // the sessions 4 to 7 is open; the extra of 11 and 24 is the user.
-#[unsafe(no_mangle)]
-pub extern "C" fn nutrameza_narrow(image: &[u8], old: &[u8], new: &mut [u8]) -> u64
+pub fn nutrameza_narrow(image: &[u8], old: &[u8], new: &mut [u8]) -> u64
     ensures { let e = narrowed image.now old.now new.old in
         (result ≡ returned e.reply) × (new.new ≡ e.ledger) }
 {
@@ -176,8 +164,7 @@ pub extern "C" fn nutrameza_narrow(image: &[u8], old: &[u8], new: &mut [u8]) -> 
 }
 
 // Fills the buffer with the closed grant table: 32 bytes for each of 64 roles, the permissions that the role carries.
-#[unsafe(no_mangle)]
-pub extern "C" fn nutrameza_table(image: &[u8], table: &mut [u8]) -> u64
+pub fn nutrameza_table(image: &[u8], table: &mut [u8]) -> u64
     ensures { let a = table_call image.now (length table.old) in
         (result ≡ returned a) × (table.new ≡ answered table.old a) }
 {
@@ -185,8 +172,7 @@ pub extern "C" fn nutrameza_table(image: &[u8], table: &mut [u8]) -> u64
 }
 
 // Turns a table of 64 rows of 32 bytes into one of 256 rows of 8: bit p of row r goes to bit r of row p.
-#[unsafe(no_mangle)]
-pub extern "C" fn nutrameza_turn(source: &[u8], target: &mut [u8]) -> u64
+pub fn nutrameza_turn(source: &[u8], target: &mut [u8]) -> u64
     ensures { let a = turn_call source.now (length target.old) in
         (result ≡ returned a) × (target.new ≡ answered target.old a) }
 {
@@ -194,8 +180,7 @@ pub extern "C" fn nutrameza_turn(source: &[u8], target: &mut [u8]) -> u64
 }
 
 // Turns a table of 256 rows of 8 bytes back into one of 64 rows of 32: bit r of row p goes to bit p of row r.
-#[unsafe(no_mangle)]
-pub extern "C" fn nutrameza_unturn(source: &[u8], target: &mut [u8]) -> u64
+pub fn nutrameza_unturn(source: &[u8], target: &mut [u8]) -> u64
     ensures { let a = unturn_call source.now (length target.old) in
         (result ≡ returned a) × (target.new ≡ answered target.old a) }
 {

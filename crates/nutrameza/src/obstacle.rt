@@ -6,8 +6,7 @@ ghost use Rattle.model.specs.Run.{step, obstacle_by, returned, answered};
 // Tells what stands in the way of an ask with these bounds, as the first of four kinds that holds: the extra is the
 // kind plus 8 times the permission or, of an exclusion, its kind plus 4 times its n; the buffer is filled with two role
 // sets of 8 bytes. No session changes; 20 where nothing stands in the way.
-#[unsafe(no_mangle)]
-pub extern "C" fn nutrameza_obstacle(
+pub fn nutrameza_obstacle(
     image: &[u8],
     ledger: &[u8],
     user: u64,

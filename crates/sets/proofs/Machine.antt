@@ -72,7 +72,8 @@ module _ (ws : List ℕ) (fit : (i : ℕ) → Fits w64 (word ws i)) where
     h' : (i : ℕ) → word vs i < 2 ^ 64
     h' i = (fit' i).fits
 
-    pub value-union : value (bit_or (word ws 0) (word vs 0) ∷ bit_or (word ws 1) (word vs 1) ∷ bit_or (word ws 2) (word vs 2) ∷ bit_or (word ws 3) (word vs 3) ∷ [])
+    pub value-union : value (bit_or (word ws 0) (word vs 0) ∷ bit_or (word ws 1) (word vs 1) ∷ bit_or (word ws 2) (word vs 2) ∷ bit_or (word ws 3)
+        (word vs 3) ∷ [])
         ≡ union (value ws) (value vs)
     unfolding value joined
     value-union = joined_or 64 (word ws) (word vs) h h' 4

@@ -13,7 +13,8 @@ use Rattle.octets.proofs.Numbers.{put_more}
 use Rattle.octets.proofs.put_numbers.Given as goal
 
 abbrev pub invariant-loop-k : goal.invariant-loop-k
-invariant-loop-k l = (l.k ≤ l.k-end) × (l.k-end ≡ length l.numbers) × (l.s ≡ splice l.initial.s l.at (bytes_of_all (take l.k l.numbers))) × (length l.s ≡ length l.initial.s)
+invariant-loop-k l = (l.k ≤ l.k-end) × (l.k-end ≡ length l.numbers) × (l.s ≡ splice l.initial.s l.at (bytes_of_all (take l.k l.numbers))) ×
+    (length l.s ≡ length l.initial.s)
 
 abbrev pub decreases-loop-k : goal.decreases-loop-k
 decreases-loop-k l = l.k-end - l.k
