@@ -32,7 +32,7 @@ unfolding pick any all first lowest if_below is_some same_list same_lists has wi
     shown_chain loop_from loop_on loop_by loop_call line_at with_line ruled step_on step_by step run open_by close_by ask_by short_ask_by show_by explain_by
     image_bytes sum_of end_word ended senior_word check_number returned filled_with answered head_word assign_word grant_word exclusion_word
     member_word limit_word resized line_fault move_answer resized_lines written_if move_on move_by move others stay mask_of reduced_n list_to when barring
-        carries
+    carries
     carrying carriers carried bounding variables_in uncounted n_left keeping adding row rows counter excluding helpers excluding_all hard
     wanting soft weight_of top ascii figure digits_to decimal literal_text literals_text clause_text clauses_text head_text helpers_of variables_of
     weighing clauses_of text_of is_text wrote text_for clauses_by written sum_to lesser limiting limited has_limits holding is_ask number_after

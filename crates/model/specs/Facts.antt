@@ -1,7 +1,7 @@
 -- What single definitions give on small arguments, by computation. Each fact is false of a wrong definition that
 -- must-fail/ tries. The cases from the bytes of whole images stand in crates/model_cases.
 -- Assumes nothing.
-use Rattle.std.specs.Prelude.{◌≡◌, refl, Bool, true, false, ◌&&◌, not, List, [], ◌∷◌, ◌++◌, map, ℕ, ◌-◌, ◌^◌, eqb, get_or, replicate}
+use Rattle.std.specs.Prelude.{◌≡◌, refl, true, false, ◌&&◌, not, List, [], ◌∷◌, ◌++◌, map, ℕ, ◌-◌, ◌^◌, eqb, get_or, replicate}
 use Rattle.std.proofs.Common.{ap, arith}
 use Rattle.std.proofs.Math.Option.{none, some}
 use Rattle.model.specs.declared.Head.{Head}
@@ -9,7 +9,6 @@ use Rattle.model.specs.declared.Kind.{Kind}
 use Rattle.model.specs.declared.Kind.TheVariants.{SsDmer, MsDmer, MsHmer}
 use Rattle.model.specs.declared.Exclusion.{Exclusion}
 use Rattle.model.specs.declared.Entry.TheVariants.{Assignment, Grant, Senior, Exclude, Member, Limit, End}
-use Rattle.model.specs.declared.Scan.{Scan}
 use Rattle.model.specs.declared.Checked.TheVariants.{Accepted, Refused}
 use Rattle.model.specs.declared.Session.{Session}
 use Rattle.model.specs.declared.Line.{Line}
@@ -26,7 +25,7 @@ use Rattle.model.specs.Reduced.{stays}
 use Rattle.model.specs.Obstacle.{obstacle_of}
 use Rattle.model.specs.Clauses.{must, must_not, soft}
 use Rattle.model.specs.Dimacs.{text_of}
-use Rattle.model.specs.Session.{Query, Operation, ask, short_ask, explain, obstacle, clauses, is_ask, query_of, refuse, done, given, tell, asked, can_give, carrier, number_after, text_for, two_roles, applies, unless, is_full, bad_session, bad_permission, bad_aim, bad_pair, not_below}
+use Rattle.model.specs.Session.{Query, ask, short_ask, explain, obstacle, clauses, is_ask, query_of, refuse, done, given, tell, asked, can_give, carrier, number_after, text_for, two_roles, applies, unless, is_full, bad_session, bad_permission, bad_aim, bad_pair, not_below}
 use Rattle.model.specs.Loop.{chain_down, loop_call, loop_from, loop_length, shown_chain}
 use Rattle.model.specs.Run.{answered, open_by, returned, step_by, step_on, unsound_other}
 use Rattle.model.specs.Moves.{move_answer, move_on, resized, written_if}

@@ -14,8 +14,7 @@ use Rattle.model.specs.declared.Line.{Line}
 use Rattle.model.specs.Sets.{has, union, inter, with, within, meets, set_of, one, count_to, sum_to, count, union_at, lowest_in, subsets}
 use Rattle.model.specs.Bytes.{bytes_of}
 use Rattle.model.specs.Words.{head_word, assign_word, grant_word, senior_word, exclusion_word, member_word, limit_word, ended, image_bytes}
-use Rattle.model.specs.Image.{user}
-use Rattle.model.specs.Policy.{Policy, Meaning, Agree, policy_of, table_of, kind_number, sorted, below_table, reached, carried_table, granter, authorized, meaning, met, limited, has_limits, only_for, same_exclusion, excludes}
+use Rattle.model.specs.Policy.{Policy, Meaning, Agree, policy_of, table_of, kind_number, sorted, below_table, reached, carried_table, granter, meaning, met, limited, has_limits, only_for, same_exclusion, excludes}
 use Rattle.model.specs.Line.{write_line}
 use Rattle.model.specs.Limits.{Others, nobody}
 use Rattle.model.specs.Reduced.{stay, stays, mask_of, reduced_n}

@@ -154,7 +154,7 @@ four_roles =
     image_of
     (head_word 1 4 3 ∷ assign_word 0 0 ∷ assign_word 0 1 ∷ assign_word 0 2 ∷ grant_word 0 0 ∷ grant_word 1 1 ∷ grant_word 2 0 ∷ grant_word 2 2 ∷ grant_word 3 1
     ∷ grant_word 3 2 ∷ exclusion_word 0 3 3 ∷ member_word 0 ∷ member_word 1 ∷ member_word 2 ∷ exclusion_word 3 2 3 ∷ member_word 1 ∷ member_word 2 ∷
-        member_word 3 ∷ [])
+    member_word 3 ∷ [])
 
 -- at least permission 0, not 2, the most permissions and any roles
 unfoldable pub text_of_four : List ℕ

@@ -262,7 +262,7 @@ carded =
     ∷ case_of_two (doctors 2 ∷ []) (damaged ++ replicate 144 0)
     (open_by 1 ∷ asks_doctor 0 ∷ asks_short 0 0x3 0x1f ∷ []) (done_with 0 ∷ refused_for 11 1 ∷ refused 11 ∷ [])
     ∷ case_of_two (doctors 2 ∷ []) (damaged ++ damaged) (asks_doctor 0 ∷ asks_short 0 0x3 0x1f ∷ open_by 1 ∷ [])
-        (refused_for 11 1 ∷ refused 11 ∷ refused 11 ∷ [])
+    (refused_for 11 1 ∷ refused 11 ∷ refused 11 ∷ [])
     -- a line over a limit is sound, and asks for other roles go on; without a limit nobody else's line is looked at
     ∷ case_of_two (doctors 2 ∷ []) (doctor_line ++ replicate 144 0)
     (shows 0 ∷ asks_short 0 0x3 0x1f ∷ open_by 1 ∷ asks_doctor 0 ∷ asks_manager 0 ∷ closes 1 ∷ asks_short 0 0x3 0x1f ∷ [])
@@ -270,7 +270,7 @@ carded =
     ∷ case_of_two [] (replicate 144 0 ++ damaged) (opens ∷ asks_short 0 0x3 0x1f ∷ []) (done_with 0 ∷ chose 1 0xf ∷ [])
     -- the middle one of three users asks: sessions of the user below and of the user above count
     ∷ case_of_three 3 (active_role 1) (active_role 0) (active_role 1) (asks_middle ∷ close_by 2 0 ∷ asks_middle ∷ [])
-        (refused 20 ∷ done_with 0 ∷ chose 1 1 ∷ [])
+    (refused 20 ∷ done_with 0 ∷ chose 1 1 ∷ [])
     -- a damaged line of the user above, of the one below, and of both; the asker's own and that of the user above, and
     -- of the one below
     ∷ case_of_three 2 (active_role 0) (active_role 0) damaged (asks_middle ∷ texts_middle ∷ []) (refused_for 11 3 ∷ refused_for 11 3 ∷ [])

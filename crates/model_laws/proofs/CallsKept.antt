@@ -19,7 +19,7 @@ use Rattle.model.specs.declared.Line.{Line}
 use Rattle.model.specs.Tests.{all, first}
 use Rattle.model.specs.Sets.{has, within, one}
 use Rattle.model.specs.Bytes.{number}
-use Rattle.model.specs.Policy.{limited, Meaning, authorized}
+use Rattle.model.specs.Policy.{limited, Meaning}
 use Rattle.model.specs.Line.{read_line, write_line, empty_session, session_at, is_open, holding, others, exclusions_met, sound, lowest_closed, opening, closing, put_in}
 use Rattle.model.specs.Limits.{Others}
 use Rattle.model.specs.Choice.{carried_by, admissible}

@@ -11,7 +11,6 @@ use lib.ListN.{length, get_or}
 use borrow.Author.Tests.{eqb-true, eqb-false}
 use borrow.Table.Steps.{cases}
 use Rattle.model.specs.declared.Head.{Head}
-use Rattle.model.specs.declared.Checked.{Checked}
 use Rattle.model.specs.declared.Checked.TheVariants.{Accepted}
 use Rattle.model.specs.Tests.{any}
 use Rattle.model.specs.Judgement.{judge}
@@ -19,12 +18,12 @@ use Rattle.model.specs.Policy.{Policy, Meaning, policy_of, has_limits, meaning, 
 use Rattle.model.specs.Line.{line_size}
 use Rattle.model.specs.Limits.{Others, nobody}
 use Rattle.model.specs.Session.{Result, rule, is_ask}
-use Rattle.model.specs.Run.{Call, Event, line_at, told, step_on, step_by, step, run}
+use Rattle.model.specs.Run.{Call, Event, line_at, told, step_on, run}
 use Rattle.model.specs.OwnWords.{policy_in, own_words}
 use Rattle.model.specs.Independence.{rules, calls_of, seen_by, told_by, told_of, Steady, no_call, own_call, other_call, SteadyFor, Run, events_of, view_of, first_line, has_text, beside_texts, SameFor, SameWords, Independent}
 use Rattle.model_laws.proofs.Judgements.{accepted-head, accepted_in_range}
 use Rattle.model_laws.proofs.LedgerLaws.{step-length, step_own, step_other, step_on_lem}
-use Rattle.model_laws.proofs.Listed.{listed, rules_listed, rules-beside}
+use Rattle.model_laws.proofs.Listed.{rules_listed, rules-beside}
 use Rattle.model_laws.proofs.Meanings.{agree_listed, only_meaning}
 use Rattle.model_laws.proofs.OwnWords.{words_agree, words-meaning}
 use Rattle.model_laws.proofs.Bools.{elim_case}

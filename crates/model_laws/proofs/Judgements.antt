@@ -5,7 +5,7 @@ use mathlib.Core.Path.{◌≡◌, refl, sym, ap, ap₂, ◌∙◌, subst}
 use mathlib.Core.Logic.{◌⊎◌, inl, inr}
 use mathlib.Core.Option.{Option, none, some}
 use mathlib.Core.List.{List}
-use Prim.Native.Nat.{ℕ, ◌<◌, zero-le}
+use Prim.Native.Nat.{ℕ, zero-le}
 use native.Mathlib.Decide.{dec_lt}
 use native.Mathlib.Omega.{arith}
 use lib.Dec.{ltb}
@@ -19,7 +19,7 @@ use Rattle.model.specs.Sets.{has, count}
 use Rattle.model.specs.Image.{judge_words}
 use Rattle.model.specs.Policy.{Policy, policy_of, below_table, authorized}
 use Rattle.model.specs.Judgement.{lowest_on_loop, lowest_over_reach, refusing, judge_meaning, judge}
-use Rattle.model.specs.Chains.{Below, LowestOnLoop}
+use Rattle.model.specs.Chains.{LowestOnLoop}
 use Rattle.model.specs.Ranges.{OneTo, InRange}
 use Rattle.model.specs.Ordered.{WordsPass, Loopless, FewRoles, LowestOverReach, JudgeIs}
 use Rattle.model_laws.proofs.Bools.{not_both}

@@ -13,7 +13,6 @@ use borrow.Table.Steps.{cases}
 use Rattle.model.specs.declared.Head.{Head}
 use Rattle.model.specs.declared.Checked.TheVariants.{Accepted}
 use Rattle.model.specs.Tests.{pick}
-use Rattle.model.specs.Bytes.{number}
 use Rattle.model.specs.Judgement.{judge}
 use Rattle.model.specs.Policy.{Policy, policy_of, has_limits, meaning}
 use Rattle.model.specs.Line.{line_size}

@@ -19,7 +19,7 @@ use Rattle.model.specs.Line.{read_line, exclusions_met, session_sound, sessions_
 use Rattle.model.specs.Limits.{Others, nobody, barred, unbarred}
 use Rattle.model.specs.Choice.{carried_by, admissible, permission_cost, better, best, choose}
 use Rattle.model.specs.Obstacle.{lacking, carriers_of, fitting, excluding_only, left, obstacle_of}
-use Rattle.model.specs.Session.{Query, Operation, open_session, close_session, ask, short_ask, show, explain, obstacle, clauses, session_of, query_of, is_text, Result, Refusal, bad_other, bad_line, bad_session, is_closed, is_full, bad_set, bad_permission, bad_bounds, bad_aim, bad_room, no_set, not_below, not_carried, no_obstacle, too_long, refusal_number, refuse, wrote, done, can_give, chosen, obstacle_for, is_none, other_first, applies, asked, obstructed, perform, unless, rule}
+use Rattle.model.specs.Session.{Query, Operation, open_session, close_session, ask, short_ask, show, explain, obstacle, clauses, session_of, query_of, is_text, Result, Refusal, bad_other, bad_line, bad_session, is_closed, bad_set, bad_permission, bad_bounds, bad_aim, no_set, no_obstacle, too_long, refusal_number, refuse, wrote, done, can_give, chosen, obstacle_for, is_none, other_first, applies, asked, obstructed, perform, unless, rule}
 use Rattle.model.specs.Independence.{rules, has_text, beside_text, beside_texts}
 use Rattle.model.specs.Ranges.{Each}
 use Rattle.model_laws.proofs.Bools.{neither}

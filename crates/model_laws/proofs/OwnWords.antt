@@ -135,7 +135,7 @@ module _ (u : ℕ) (small : u < 64) (s : List ℕ) (h : Head) (accepted : judge 
   unfolding policy_of policy_in
   same_exclusions =
       sym (ap exclusions_of left_entries ∙ exclusions_kept u (head_of (word_at s 0)) empty_rows start (entries_of s)
-          (words_valid s h (words_pass s h accepted)))
+      (words_valid s h (words_pass s h accepted)))
 
   -- the words left agree with the image
   pub words_agree : Agree u (policy_of s) (policy_in (own_words u s))

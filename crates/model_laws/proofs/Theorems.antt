@@ -6,8 +6,6 @@ use mathlib.Core.Logic.{◌↔◌}
 use mathlib.Core.Bool.{true, false}
 use mathlib.Core.List.{List, [], ◌∷◌, ◌++◌}
 use Prim.Native.Nat.{ℕ, ◌^◌, ◌≤◌, ◌<◌}
-use native.Mathlib.Nat.{lt_of_lt_of_le}
-use lib.Pow.{pow_mono}
 use lib.ListN.{get_or, length, take}
 use Rattle.model.specs.declared.Head.{Head}
 use Rattle.model.specs.declared.Exclusion.{Exclusion}
@@ -25,13 +23,13 @@ use Rattle.model.specs.Choice.{carried_by, admissible}
 use Rattle.model.specs.Line.{line_size, exclusions_met}
 use Rattle.model.specs.Session.{Query, explanation}
 use Rattle.model.specs.Read.{ReadOff}
-use Rattle.model.specs.Chains.{Chain, Authorized, Carries, Provides, GranterIs}
+use Rattle.model.specs.Chains.{Chain, Authorized, Carries, GranterIs}
 use Rattle.model.specs.Obstacles.{ObstacleIs, AsksTwenty}
 use Rattle.model.specs.Explained.{ExplanationIs}
 use Rattle.model.specs.Ordered.{FewRoles, JudgeIs, Antisymmetric, LoopCallIs}
 use Rattle.model.specs.Ranges.{InRange}
 use Rattle.model.specs.Chosen.{ChoiceIs, Unbarred, ChosenIs, RankIs}
-use Rattle.model.specs.Conditions.{Conditions, Solution, Admitted, Permitted}
+use Rattle.model.specs.Conditions.{Solution, Admitted, Permitted}
 use Rattle.model.specs.Independence.{Run, told_of, SameFor, Independent}
 use Rattle.model.specs.Kept.{LineKept, RunKept}
 use Rattle.model.specs.Frames.{LineBytes, StepFrame, ShowKeeps, ExplainKeeps, ObstacleKeeps, ClausesKeep, AnswerKeepsLength, TextsKeep, SessionFrames}
@@ -43,7 +41,6 @@ use Rattle.model_laws.proofs.Reaches
 use Rattle.model_laws.proofs.Judgements
 use Rattle.model_laws.proofs.OrderedProof
 use Rattle.model_laws.proofs.ExplainedProof
-use Rattle.model_laws.proofs.AnyWidth
 use Rattle.model_laws.proofs.Ranks
 use Rattle.model_laws.proofs.Choices
 use Rattle.model_laws.proofs.Barred

@@ -62,8 +62,10 @@ high_decides n d = (
         → (k : ℕ) × (d ≤ k) × (has n k ≡ true)
     find f (inl (k, e)) = (k, leb-true d k (and_r (has n k) (leb d k) e), and_l (has n k) (leb d k) e)
     find f (inr w) =
-        let low = members_below_lem d n (λ k h. elim (dec_lt k d) [ yes l ↦ l | no l ↦ absurd (w k (both (has n k) (leb d k) h (le-leb d k (omega arith))))
-            ]) in
+        let low = members_below_lem d n (λ k h. elim (dec_lt k d) [
+          | yes l ↦ l
+          | no l ↦ absurd (w k (both (has n k) (leb d k) h (le-leb d k (omega arith))))
+        ]) in
         absurd (true≢false (sym (lt-ltb n (2 ^ d) low) ∙ f))
 
 pub high_bounds : (d : ℕ) (q : Query)

@@ -43,7 +43,7 @@ module _ (W : ℕ) (s : List ℕ) (g : Head) (e : judge s ≡ Accepted g) where
 
       go : (b : Bool) → eqb c.user u ≡ b
           → line_at (line_size W) u (last_ledger after (run W s after cs)) ≡ last_line (line_at (line_size W) u after)
-              (seen_by (line_size W) u cs (run W s after cs))
+          (seen_by (line_size W) u cs (run W s after cs))
           → line_at (line_size W) u (last_ledger after (run W s after cs))
           ≡ last_line (line_at (line_size W) u l) (seen_by (line_size W) u (c ∷ cs) (step_on W (policy_of s) l c ∷ run W s after cs))
       go true t ih = rw (t, seen_by) ih

@@ -224,7 +224,7 @@ module _ (s : List ℕ) (h : Head) (accepted : judge s ≡ Accepted h) (bytes : 
   said g m e q =
       subst (Memᴰ e) (sym entries_are)
       (subst (λ (v : Entry). Memᴰ v (map entry_of (spread gs ++ (last ∷ [])))) q (mathlib.Core.List.Memᴰ.map entry_of
-          (mathlib.Core.List.Memᴰ.append_left (last ∷ []) (spread_mem g gs m))))
+      (mathlib.Core.List.Memᴰ.append_left (last ∷ []) (spread_mem g gs m))))
 
   read : LimitsRead s
   read = limits_read s h (words_pass s h accepted)
@@ -248,7 +248,7 @@ module _ (s : List ℕ) (h : Head) (accepted : judge s ≡ Accepted h) (bytes : 
         let e = ((read_off s).assigned u r).1 (said g m _ q) in
         subst (λ (k : Group). Memᴰ k (tidy_groups p)) (sym (alone _ q refl (assign_word u r) (written _ q)))
         (mathlib.Core.List.Memᴰ.append_left _ (table_written p assign_word (λ u r. Assignment (user u) (role r)) 64 p.assigned (assigned_word p rng apart)
-            u r e))
+        u r e))
 
     in-grants : (r k : ℕ) → entry_of g.word ≡ Grant (role r) (permission k) → Memᴰ g (tidy_groups p)
     unfolding tidy_groups due_behind
@@ -257,7 +257,7 @@ module _ (s : List ℕ) (h : Head) (accepted : judge s ≡ Accepted h) (bytes : 
         subst (λ (k : Group). Memᴰ k (tidy_groups p)) (sym (alone _ q refl (grant_word r k) (written _ q)))
         (mathlib.Core.List.Memᴰ.append_right (table_groups assign_word 64 0 p.assigned)
         (mathlib.Core.List.Memᴰ.append_left _ (table_written p grant_word (λ r m. Grant (role r) (permission m)) 256 p.granted (granted_word p rng apart) r
-            k e)))
+        k e)))
 
     in-seniors : (c d : ℕ) → entry_of g.word ≡ Senior (role c) (role d) → Memᴰ g (tidy_groups p)
     unfolding tidy_groups due_behind
@@ -320,7 +320,7 @@ module _ (s : List ℕ) (h : Head) (accepted : judge s ≡ Accepted h) (bytes : 
         (mathlib.Core.List.Memᴰ.append_right (table_groups assign_word 64 0 p.assigned)
         (mathlib.Core.List.Memᴰ.append_right (table_groups grant_word 256 0 p.granted)
         (mathlib.Core.List.Memᴰ.append_right (table_groups senior_word 64 0 p.juniors) (mathlib.Core.List.Memᴰ.append_left (limit_groups p.limits)
-            (mathlib.Core.List.Memᴰ.map exclusion_group there)))))
+        (mathlib.Core.List.Memᴰ.map exclusion_group there)))))
       where
         policy-has : Memᴰ (with_members x (map entry_of g.members)) p.exclusions
         policy-has =

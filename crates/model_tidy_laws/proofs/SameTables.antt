@@ -85,7 +85,7 @@ module _ (s t : List ℕ) where
       → ((r p : ℕ) → Memᴰ (Grant (role r) (permission p)) (entries_of s) ↔ Memᴰ (Grant (role r) (permission p)) (entries_of t))
       → ((r q : ℕ) → Memᴰ (Senior (role r) (role q)) (entries_of s) ↔ Memᴰ (Senior (role r) (role q)) (entries_of t))
       → ((x : Exclusion) → excludes (policy_of s) x ≡ excludes (policy_of t) x) → (policy_of s).limits ≡ (policy_of t).limits → SamePolicy (policy_of s)
-          (policy_of t)
+      (policy_of t)
   unfolding policy_of
   same_policy eh ea eg ej ex el =
       let f = read_off s in

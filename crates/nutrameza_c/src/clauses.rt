@@ -21,5 +21,15 @@ pub extern "C" fn nutrameza_clauses(
         (clauses_by user session lower.now upper.now permission_aim role_aim (length out.old)) in
         (result ≡ returned e.reply) × (out.new ≡ written out.old e.reply) }
 {
-    nutrameza::clauses::nutrameza_clauses(image, ledger, user, session, lower, upper, permission_aim, role_aim, out)
+    nutrameza::clauses::nutrameza_clauses(
+        image,
+        ledger,
+        user,
+        session,
+        lower,
+        upper,
+        permission_aim,
+        role_aim,
+        out,
+    )
 }

@@ -122,7 +122,17 @@ pub extern "C" fn nutrameza_ask(
         (ask_by user session lower.now upper.now permission_aim role_aim (length answer.old)) in
         (result ≡ returned e.reply) × (ledger.new ≡ e.ledger) × (answer.new ≡ answered answer.old e.reply) }
 {
-    nutrameza::nutrameza_ask(image, ledger, user, session, lower, upper, permission_aim, role_aim, answer)
+    nutrameza::nutrameza_ask(
+        image,
+        ledger,
+        user,
+        session,
+        lower,
+        upper,
+        permission_aim,
+        role_aim,
+        answer,
+    )
 }
 
 // An ask for the fewest permissions, then the fewest roles.

@@ -4,11 +4,12 @@
 
 mod input;
 
-fn main() {
+fn main(rt: HostRuntime) {
     let mut file = [0u8; 16385];
-    let size = script_input::file::read_image(&mut file);
+    let size = script_input::file::read_image(&rt, &mut file);
     let image = &file[..size];
     let mut ledger = [0u8; script_input::lines::LEDGER];
     let used = script_input::lines::ledger_length(image);
-    input::answer_all(image, &mut ledger[0..used]);
+    let mut input = rt.stdin();
+    input::answer_all(&rt, &mut input, image, &mut ledger[0..used]);
 }

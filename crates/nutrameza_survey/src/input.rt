@@ -4,7 +4,7 @@ ghost use Rattle.model.specs.Judgement.{judge};
 ghost use Rattle.model_script.specs.Script.{first_ledger};
 ghost use Rattle.survey_counts.specs.Counting.{Most};
 
-use libc::STDIN_FILENO;
+use std::io::Read;
 use survey_counts::counts::{count_chunk, count_last};
 
 // The run between two reads: how many bytes of the line are kept, how many calls are answered, whether it goes on, and
@@ -20,6 +20,8 @@ struct Run {
 // Reads once and counts the answers to what came; at the end of the input, that to the line that is begun. A read that
 // fails is not the end: the run stops, with a line on standard error.
 fn count_some(
+    rt: &impl Eprint,
+    input: &mut impl Read,
     image: &[u8],
     ledger: &mut [u8],
     line: &mut [u8],
@@ -32,17 +34,18 @@ fn count_some(
     ensures { (result.kept ≤ 174) × (result.calls ≤ run.calls + length chunk.old) × (length counts.new ≡ 256)
         × (Most counts.new result.calls) }
 {
-    let got = libc::read(STDIN_FILENO, chunk);
-    if got < 0 {
-        os::fail(b"nutrameza_survey: standard input can't be read");
-        return Run {
-            kept: 0,
-            calls: run.calls,
-            going: false,
-            ended: false,
-        };
-    }
-    let count = io::count(got, chunk);
+    let count = match input.read(chunk) {
+        Ok(count) => count,
+        Err(e) => {
+            let _ = eprintln!(rt; "nutrameza_survey: standard input can't be read: {e}");
+            return Run {
+                kept: 0,
+                calls: run.calls,
+                going: false,
+                ended: false,
+            };
+        }
+    };
     if count == 0 {
         let calls = count_last(image, ledger, line, counts, run.kept, run.calls);
         return Run {
@@ -72,6 +75,8 @@ fn count_some(
 // Reads and counts until the input ends, and returns whether it is read to its end. A proved loop has to end, so it
 // counts its turns down, from a number of reads that no run uses up; it keeps the counts within 64 bits.
 fn count_each(
+    rt: &impl Eprint,
+    input: &mut impl Read,
     image: &[u8],
     ledger: &mut [u8],
     line: &mut [u8],
@@ -88,7 +93,7 @@ fn count_each(
     };
     let mut turns: u64 = 281474976710655;
     while turns > 0 && run.going {
-        run = count_some(image, ledger, line, chunk, counts, run);
+        run = count_some(rt, input, image, ledger, line, chunk, counts, run);
         turns -= 1;
     }
     run.ended
@@ -96,10 +101,16 @@ fn count_each(
 
 // Counts the answers to all of the input from the first ledger on, by a buffer for a line and one for what is read;
 // returns whether the input is read to its end.
-pub fn count_all(image: &[u8], ledger: &mut [u8], counts: &mut [u64; 256]) -> bool
+pub fn count_all(
+    rt: &impl Eprint,
+    input: &mut impl Read,
+    image: &[u8],
+    ledger: &mut [u8],
+    counts: &mut [u64; 256],
+) -> bool
     requires { (ledger.old ≡ first_ledger (judge image.now)) × (counts.old ≡ replicate 256 0) }
 {
     let mut line = [0u8; 174];
-    let mut chunk = io::large_buffer();
-    count_each(image, ledger, &mut line, &mut chunk, counts)
+    let mut chunk = [0u8; 65536];
+    count_each(rt, input, image, ledger, &mut line, &mut chunk, counts)
 }

@@ -5,33 +5,31 @@
 
 mod input;
 
-use libc::STDOUT_FILENO;
-
 // Writes the survey; where it can't be written, says why on standard error.
-fn write_survey(text: &[u8]) {
-    let is_written = io::write_all(STDOUT_FILENO, text);
-    if !is_written {
-        os::fail(b"nutrameza_survey: standard output can't be written");
+fn write_survey(rt: &(impl Print + Eprint), text: &[u8]) {
+    if let Err(e) = rt.write_all(text) {
+        let _ = eprintln!(rt; "nutrameza_survey: standard output can't be written: {e}");
     }
 }
 
-fn main() {
+fn main(rt: HostRuntime) {
     let mut file = [0u8; 16385];
-    let size = script_input::file::read_image(&mut file);
+    let size = script_input::file::read_image(&rt, &mut file);
     let image = &file[..size];
     let mut out = [0u8; 16384];
     let opening = survey_exclusions::exclusions::put_opening(image, &mut out);
     let filled = opening.filled;
     if !opening.accepted {
-        write_survey(&out[0..filled]);
+        write_survey(&rt, &out[0..filled]);
         return;
     }
     let mut ledger = [0u8; script_input::lines::LEDGER];
     let used = script_input::lines::ledger_length(image);
     let mut counts = [0u64; 256];
-    let is_read = input::count_all(image, &mut ledger[0..used], &mut counts);
+    let mut input = rt.stdin();
+    let is_read = input::count_all(&rt, &mut input, image, &mut ledger[0..used], &mut counts);
     if is_read {
         let end = survey_counts::counts::put_counts(&mut out, filled, &counts);
-        write_survey(&out[0..end]);
+        write_survey(&rt, &out[0..end]);
     }
 }

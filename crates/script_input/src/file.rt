@@ -2,6 +2,10 @@
 ghost use Rattle.std.specs.Prelude.{◌+◌, ◌≤◌, length};
 ghost use Rattle.io.specs.Counts.{IsPrefixLen};
 
+use std::fs;
+use std::io::Read;
+use std::rt::Files;
+
 // What a read into a buffer from a place on finds: how many bytes, none at the end of the file, and whether it failed.
 #[derive(Clone, Copy)]
 struct Got {
@@ -10,25 +14,30 @@ struct Got {
 }
 
 // Reads once into a buffer from `have` on.
-fn read_more(fd: i32, file: &mut [u8], have: usize) -> Got
+fn read_more(source: &mut impl Read, file: &mut [u8], have: usize) -> Got
     requires { have ≤ length file.old }
     ensures { have + result.count ≤ length file.new }
 {
     let rest = &mut file[have..];
-    let got = libc::read(fd, rest);
-    Got {
-        count: io::count(got, rest),
-        failed: got < 0,
+    match source.read(rest) {
+        Ok(count) => Got {
+            count,
+            failed: false,
+        },
+        Err(_) => Got {
+            count: 0,
+            failed: true,
+        },
     }
 }
 
 // Reads a file until it ends or the buffer is full, and returns how many bytes; none where a read fails.
-fn read_file(fd: i32, file: &mut [u8]) -> usize
+fn read_file(source: &mut impl Read, file: &mut [u8]) -> usize
     ensures { IsPrefixLen result file.new }
 {
     let mut have: usize = 0;
     while have < file.len() {
-        let got = read_more(fd, file, have);
+        let got = read_more(source, file, have);
         if got.failed {
             return 0;
         }
@@ -42,14 +51,11 @@ fn read_file(fd: i32, file: &mut [u8]) -> usize
 
 // Reads the image, and returns its length; a file that can't be read counts as empty, and of a larger one than any
 // image just as much is read as has it refused.
-pub fn read_image(file: &mut [u8]) -> usize
+pub fn read_image(files: &impl Files, file: &mut [u8]) -> usize
     ensures { IsPrefixLen result file.new }
 {
-    let fd = os::open_read(b"policy.img");
-    if fd < 0 {
+    let Ok(mut source) = fs::open(files, "policy.img") else {
         return 0;
-    }
-    let size = read_file(fd, file);
-    libc::close(fd);
-    size
+    };
+    read_file(&mut source, file)
 }

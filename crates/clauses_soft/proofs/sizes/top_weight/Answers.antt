@@ -17,8 +17,7 @@ overflow_add-result-2 c =
     record { fits = omega (arith, weights-small c.args.roles c.args.permissions (search rules) (search rules)) }
 
 pub returns : goal.returns
-returns c =
-    (
-      soft-top _ _ _ _ _ _ c.where_aimed.ensures.0 c.where_aimed-2.ensures.0,
-      omega (arith, weights-small c.args.roles c.args.permissions (search rules) (search rules)),
-    )
+returns c = (
+  soft-top _ _ _ _ _ _ c.where_aimed.ensures.0 c.where_aimed-2.ensures.0,
+  omega (arith, weights-small c.args.roles c.args.permissions (search rules) (search rules)),
+)

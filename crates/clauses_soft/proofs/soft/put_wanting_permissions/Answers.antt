@@ -1,10 +1,4 @@
 use borrow.Author.Rules.{rules}
-use mathlib.Core.Path.{◌≡◌}
-use Prim.Native.Nat.{◌+◌, ◌-◌, ◌≤◌}
-use lib.ListN.{length}
-use Rattle.model.specs.Clauses.{list_to, wanting}
-use Rattle.model.specs.Dimacs.{clauses_text}
-use Rattle.clauses_bytes.specs.Putting.{Puts}
 use Rattle.clauses_soft.specs.Soft.{wanting_permissions}
 use Rattle.clauses_lines.proofs.LineLaws.{softs_none, softs_next, softs_done}
 use Rattle.clauses_soft.proofs.WantLaws.{wanted_put}

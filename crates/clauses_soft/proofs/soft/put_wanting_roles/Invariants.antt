@@ -1,15 +1,11 @@
 -- `clauses_soft::soft::put_wanting_roles` meets its contract: what is put is the list up to the next number.
 -- Assumes nothing.
-use borrow.Author.Rules.{rules}
 use mathlib.Core.Path.{◌≡◌}
 use Prim.Native.Nat.{◌+◌, ◌-◌, ◌≤◌}
 use lib.ListN.{length}
 use Rattle.model.specs.Clauses.{list_to, wanting}
 use Rattle.model.specs.Dimacs.{clauses_text}
 use Rattle.clauses_bytes.specs.Putting.{Puts}
-use Rattle.clauses_soft.specs.Soft.{wanting_roles}
-use Rattle.clauses_lines.proofs.LineLaws.{softs_none, softs_next, softs_done}
-use Rattle.clauses_soft.proofs.WantLaws.{wanted_put}
 use Rattle.clauses_soft.proofs.soft.put_wanting_roles.Given as goal
 
 abbrev pub invariant-loop-r : goal.invariant-loop-r

@@ -15,6 +15,7 @@ loop-k-init c = (omega arith, closure_none _)
 pub through_first-requires : goal.through_first-requires
 through_first-requires c =
     (omega arith, c.requires.1, ap length c.loop-k.invariant.1 ∙ length_closure _ _ ∙ c.requires.2, rw c.loop-k.invariant.1 (empty_closure _ _ _ c.requires.3))
+
 -- FIX: took also ['κs']
 
 pub loop-k-preserved : goal.loop-k-preserved

@@ -1,6 +1,6 @@
 -- `image_usual::usual::member` meets its contract.
 -- Assumes nothing.
-use Rattle.std.proofs.Common.{◌<◌, sym, refl, ◌∙◌, arith}
+use Rattle.std.proofs.Common.{◌<◌, arith}
 use Rattle.image_usual.proofs.Joining.{joins}
 use Rattle.image_usual.proofs.usual.member.Goals as goal
 

@@ -1,7 +1,6 @@
 -- `image_usual::usual::spell` meets its contract.
 -- Assumes nothing.
 use Rattle.std.proofs.Common.{refl, arith}
-use Rattle.image_usual.proofs.Runs.{filled_none}
 use Rattle.image_usual.proofs.usual.spell.Goals as goal
 
 pub returns : goal.returns

@@ -22,6 +22,7 @@ overflow_cast-result c = search rules
 pub exclusion_word-requires : goal.exclusion_word-requires
 unfolding decode Small pick
 exclusion_word-requires c = search rules
+
 -- FIX: took also ['κs']
 
 pub overflow_cast-result-in-7 : goal.overflow_cast-result-in-7

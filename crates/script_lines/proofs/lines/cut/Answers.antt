@@ -1,10 +1,6 @@
 use borrow.Author.Rules.{rules}
 use mathlib.Core.Path.{◌≡◌, refl}
-use Prim.Native.Nat.{ℕ, ◌≤◌, ◌<◌, ◌-◌}
 use native.Mathlib.Omega.{arith}
-use lib.ListN.{length, drop}
-use Rattle.model_script.specs.Script.{words}
-use Rattle.script_lines.specs.Cutting.{WordAt}
 use Rattle.script_lines.proofs.CutLaws.{cut_ends, cut_goes_on, cut_stored, more_words}
 use Rattle.script_lines.proofs.lines.cut.Goals as goal
 
@@ -20,15 +16,14 @@ returns-then-line-to c =
     }
 
 pub loop-k-preserved : goal.loop-k-preserved
-loop-k-preserved c =
-    (
-      search rules,
-      search rules,
-      search rules,
-      search rules,
-      cut_goes_on c.args.line.now c.loop-k.k _ _ c.loop-k.invariant.4 c.word_end-to.ensures c.if-line-to.false,
-      cut_stored c.args.line.now c.loop-k.k _ _ c.loop-k.invariant.4 c.word_end-to.ensures _ _ c.loop-k.invariant.2 c.loop-k.invariant.3 (search rules) c.loop-k.invariant.5,
-    )
+loop-k-preserved c = (
+  search rules,
+  search rules,
+  search rules,
+  search rules,
+  cut_goes_on c.args.line.now c.loop-k.k _ _ c.loop-k.invariant.4 c.word_end-to.ensures c.if-line-to.false,
+  cut_stored c.args.line.now c.loop-k.k _ _ c.loop-k.invariant.4 c.word_end-to.ensures _ _ c.loop-k.invariant.2 c.loop-k.invariant.3 (search rules) c.loop-k.invariant.5,
+)
 
 pub returns : goal.returns
 returns c =

@@ -1,13 +1,10 @@
 -- Word after word: what is left of the words is those of what is left of the line.
 -- Assumes nothing.
-use borrow.Author.Rules.{rules}
-use mathlib.Core.Path.{◌≡◌, refl}
+use mathlib.Core.Path.{◌≡◌}
 use Prim.Native.Nat.{ℕ, ◌≤◌, ◌<◌, ◌-◌}
-use native.Mathlib.Omega.{arith}
 use lib.ListN.{length, drop}
 use Rattle.model_script.specs.Script.{words}
 use Rattle.script_lines.specs.Cutting.{WordAt}
-use Rattle.script_lines.proofs.CutLaws.{cut_ends, cut_goes_on, cut_stored, more_words}
 use Rattle.script_lines.proofs.lines.cut.Given as goal
 
 abbrev pub invariant-loop-k : goal.invariant-loop-k

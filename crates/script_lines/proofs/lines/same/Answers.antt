@@ -1,8 +1,5 @@
 use borrow.Author.Rules.{rules}
-use mathlib.Core.Path.{◌≡◌, ◌∙◌}
-use Prim.Native.Nat.{◌≤◌, ◌-◌}
-use lib.ListN.{length, drop}
-use Rattle.model.specs.Tests.{same_list}
+use mathlib.Core.Path.{◌∙◌}
 use Rattle.script_lines.proofs.SameLaws.{same_long, same_stops, same_goes_on, same_ends}
 use Rattle.script_lines.proofs.lines.same.Goals as goal
 

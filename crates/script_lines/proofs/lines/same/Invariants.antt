@@ -1,11 +1,9 @@
 -- The bytes passed are the same, so the words are if the rest is.
 -- Assumes nothing.
-use borrow.Author.Rules.{rules}
-use mathlib.Core.Path.{◌≡◌, ◌∙◌}
+use mathlib.Core.Path.{◌≡◌}
 use Prim.Native.Nat.{◌≤◌, ◌-◌}
 use lib.ListN.{length, drop}
 use Rattle.model.specs.Tests.{same_list}
-use Rattle.script_lines.proofs.SameLaws.{same_long, same_stops, same_goes_on, same_ends}
 use Rattle.script_lines.proofs.lines.same.Given as goal
 
 abbrev pub invariant-loop-i : goal.invariant-loop-i

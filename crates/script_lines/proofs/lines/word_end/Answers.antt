@@ -1,10 +1,7 @@
 use borrow.Author.Rules.{rules}
 use mathlib.Core.Path.{◌≡◌, ◌∙◌}
-use Prim.Native.Nat.{◌≤◌, ◌-◌}
-use lib.ListN.{length, drop}
-use Rattle.model_script.specs.Script.{words}
-use Rattle.script_lines.specs.Cutting.{part}
-use Rattle.script_lines.proofs.WordLaws.{joined, search_begins, search_ends, search_goes_on, search_at_end}
+use lib.ListN.{length}
+use Rattle.script_lines.proofs.WordLaws.{search_begins, search_ends, search_goes_on, search_at_end}
 use Rattle.script_lines.proofs.lines.word_end.Goals as goal
 
 pub loop-i-init : goal.loop-i-init
@@ -19,13 +16,12 @@ returns-then-line-i-eq32 c =
     }
 
 pub loop-i-preserved : goal.loop-i-preserved
-loop-i-preserved c =
-    (
-      search rules,
-      search rules,
-      search rules,
-      c.loop-i.invariant.3 ∙ search_goes_on _ _ _ c.loop-i.invariant.0 (search rules) c.if-line-i-eq32.false,
-    )
+loop-i-preserved c = (
+  search rules,
+  search rules,
+  search rules,
+  c.loop-i.invariant.3 ∙ search_goes_on _ _ _ c.loop-i.invariant.0 (search rules) c.if-line-i-eq32.false,
+)
 
 pub returns : goal.returns
 returns c =

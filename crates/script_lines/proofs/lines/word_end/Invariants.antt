@@ -1,12 +1,11 @@
 -- The search for a word's end: the bytes passed belong to the word.
 -- Assumes nothing.
-use borrow.Author.Rules.{rules}
-use mathlib.Core.Path.{◌≡◌, ◌∙◌}
+use mathlib.Core.Path.{◌≡◌}
 use Prim.Native.Nat.{◌≤◌, ◌-◌}
 use lib.ListN.{length, drop}
 use Rattle.model_script.specs.Script.{words}
 use Rattle.script_lines.specs.Cutting.{part}
-use Rattle.script_lines.proofs.WordLaws.{joined, search_begins, search_ends, search_goes_on, search_at_end}
+use Rattle.script_lines.proofs.WordLaws.{joined}
 use Rattle.script_lines.proofs.lines.word_end.Given as goal
 
 abbrev pub invariant-loop-i : goal.invariant-loop-i

@@ -1,12 +1,10 @@
 -- The bytes passed are digits, so all are if those that are left are.
 -- Assumes nothing.
-use borrow.Author.Rules.{rules}
-use mathlib.Core.Path.{◌≡◌, ◌∙◌}
+use mathlib.Core.Path.{◌≡◌}
 use Prim.Native.Nat.{◌≤◌, ◌-◌}
 use lib.ListN.{length, drop}
 use Rattle.model.specs.Tests.{all}
 use Rattle.model_script.specs.Script.{is_digit}
-use Rattle.script_numerals.proofs.NumeralLaws.{digits-stop, digits_go_on, digits_end}
 use Rattle.script_numerals.proofs.numerals.all_digits.Given as goal
 
 abbrev pub invariant-loop-i : goal.invariant-loop-i

@@ -1,15 +1,12 @@
 -- The bytes from the last digits on.
 -- Assumes nothing.
-use borrow.Author.Rules.{rules}
-use mathlib.Core.Path.{◌≡◌, ap, ◌∙◌}
+use mathlib.Core.Path.{◌≡◌}
 use mathlib.Core.Bool.{true}
 use Prim.Native.Nat.{◌+◌, ◌*◌, ◌≤◌}
 use lib.ListN.{length, take}
-use lib.Seq.{take-length}
 use Rattle.model.specs.Tests.{all}
 use Rattle.model_script.specs.Script.{is_digit, value}
-use Rattle.script_numerals.proofs.NumeralLaws.{value_none, before_pair}
-use Rattle.script_numerals.proofs.FillLaws.{Filling, fill_begins, fill_goes_on, fill_ends}
+use Rattle.script_numerals.proofs.FillLaws.{Filling}
 use Rattle.script_numerals.proofs.numerals.bound_bytes.Given as goal
 
 abbrev pub invariant-loop-m : goal.invariant-loop-m

@@ -1,12 +1,12 @@
 -- A word that is a numeral has its number.
 -- Assumes nothing.
-use borrow.Author.Rules.{rules}
 use mathlib.Core.Path.{sym, ◌∙◌}
 use Rattle.script_numerals.proofs.NumeralLaws.{numeral_short, number_right, number_wrong}
 use Rattle.script_numerals.proofs.numerals.decimal.Goals as goal
 
 pub value_of-requires : goal.value_of-requires
 value_of-requires c = numeral_short 10 9 _ (sym c.is_numeral.ensures ∙ c.if-is_numeral.true)
+
 -- FIX: took also ['κs']
 
 pub returns-then-is_numeral : goal.returns-then-is_numeral

@@ -1,6 +1,5 @@
 -- A word that is a numeral has its bytes.
 -- Assumes nothing.
-use borrow.Author.Rules.{rules}
 use mathlib.Core.Path.{sym, ◌∙◌}
 use Rattle.script_numerals.proofs.NumeralLaws.{numeral_short, numeral_digits, bound_right, bound_wrong}
 use Rattle.script_numerals.proofs.numerals.hexadecimal.Goals as goal
@@ -8,6 +7,7 @@ use Rattle.script_numerals.proofs.numerals.hexadecimal.Goals as goal
 pub bound_bytes-requires : goal.bound_bytes-requires
 bound_bytes-requires c =
     let e = sym c.is_numeral.ensures ∙ c.if-is_numeral.true in (numeral_short 16 64 _ e, numeral_digits 16 64 _ e)
+
 -- FIX: took also ['κs']
 
 pub returns-then-is_numeral : goal.returns-then-is_numeral

@@ -4,7 +4,6 @@ use borrow.Author.Rules.{rules}
 use mathlib.Core.Path.{◌∙◌}
 use Prim.Native.Nat.{◌-◌}
 use native.Mathlib.Omega.{arith}
-use Rattle.model_script.specs.Script.{digit}
 use Rattle.script_numerals.proofs.NumeralLaws.{digit-of-all, pair_of_one, pair_of_two}
 use Rattle.script_numerals.proofs.numerals.last_pair.Goals as goal
 

@@ -1,9 +1,8 @@
 use borrow.Author.Rules.{rules}
 use mathlib.Core.Path.{◌≡◌, ◌∙◌}
-use Prim.Native.Nat.{◌+◌, ◌*◌, ◌^◌, ◌≤◌, ◌-◌}
 use native.Mathlib.Omega.{arith}
-use lib.ListN.{length, get_or, drop}
-use Rattle.model_script.specs.Script.{digit, value_from, value}
+use lib.ListN.{get_or}
+use Rattle.model_script.specs.Script.{digit, value}
 use Rattle.script_numerals.proofs.NumeralLaws.{digit≤16, grows, few, value_goes_on, value_end}
 use Rattle.script_numerals.proofs.numerals.value_of.Goals as goal
 

@@ -1,12 +1,9 @@
 -- The number of the digits passed, and that it stays small.
 -- Assumes nothing.
-use borrow.Author.Rules.{rules}
-use mathlib.Core.Path.{◌≡◌, ◌∙◌}
+use mathlib.Core.Path.{◌≡◌}
 use Prim.Native.Nat.{◌+◌, ◌*◌, ◌^◌, ◌≤◌, ◌-◌}
-use native.Mathlib.Omega.{arith}
-use lib.ListN.{length, get_or, drop}
-use Rattle.model_script.specs.Script.{digit, value_from, value}
-use Rattle.script_numerals.proofs.NumeralLaws.{digit≤16, grows, few, value_goes_on, value_end}
+use lib.ListN.{length, drop}
+use Rattle.model_script.specs.Script.{value_from, value}
 use Rattle.script_numerals.proofs.numerals.value_of.Given as goal
 
 abbrev pub invariant-loop-i : goal.invariant-loop-i
