@@ -1,6 +1,5 @@
 -- `tidy::whole::tidy` meets its contract.
 -- Assumes nothing.
-use borrow.Author.Rules.{rules}
 use Rattle.tidy.proofs.Calls.{writes_19, writes-done}
 use Rattle.tidy.proofs.whole.tidy.Goals as goal
 
