@@ -1,6 +1,5 @@
 -- `clauses::whole::needed` meets its contract.
 -- Assumes nothing.
-use borrow.Author.Rules.{rules}
 use native.Mathlib.Omega.{arith}
 use Rattle.clauses.proofs.WrittenLaws.{size_told, needs_none, needs_size}
 use Rattle.clauses.proofs.whole.needed.Goals as goal

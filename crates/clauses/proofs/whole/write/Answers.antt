@@ -1,6 +1,5 @@
 -- `clauses::whole::write` meets its contract.
 -- Assumes nothing.
-use borrow.Author.Rules.{rules}
 use native.Mathlib.Omega.{arith}
 use Rattle.clauses.proofs.WrittenLaws.{written, unwritten}
 use Rattle.clauses.proofs.whole.write.Goals as goal
