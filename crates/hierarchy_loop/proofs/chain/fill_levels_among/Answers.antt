@@ -1,13 +1,10 @@
 use mathlib.Core.Path.{◌≡◌, refl, sym, ap, ◌∙◌}
-use Prim.Native.Nat.{ℕ, ◌+◌, ◌≤◌, ◌-◌}
+use Prim.Native.Nat.{ℕ, ◌+◌}
 use native.Mathlib.Omega.{arith}
 use native.Mathlib.Nat.{le_antisymm}
-use lib.ListN.{length}
 use borrow.Author.Rules.{rules}
-use Rattle.model.specs.Tests.{lowest}
 use Rattle.model.specs.Sets.{has}
-use Rattle.model.specs.Loop.{level, loop_length}
-use Rattle.hierarchy_loop.specs.Chained.{Levels}
+use Rattle.model.specs.Loop.{loop_length}
 use Rattle.hierarchy_judged.proofs.Lowest.{lowest_passes, lowest_goes, lowest_ends}
 use Rattle.hierarchy_loop.proofs.Looping.{level_none, level-next, levels_next}
 use Rattle.hierarchy_loop.proofs.chain.fill_levels_among.Goals as goal
