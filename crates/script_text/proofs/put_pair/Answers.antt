@@ -1,6 +1,5 @@
 -- Two bytes, one behind the other.
 -- Assumes nothing.
-use borrow.Author.Rules.{rules}
 use mathlib.Core.Path.{◌≡◌}
 use mathlib.Core.List.{[], ◌∷◌}
 use Rattle.script_text.specs.Writing.{pair_of}
