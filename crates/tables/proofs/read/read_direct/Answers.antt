@@ -11,8 +11,10 @@ pub returns-then-settled : goal.returns-then-settled
 returns-then-settled c =
     let fit = words_fit _ _ c.gather-all.ensures.0 _ _ (λ h e. ((c.gather-all.ensures.1 h e).assigned_is, (c.gather-all.ensures.1 h e).juniors_is)) in
     let k = c.settled.ensures c.if-settled.true in (
-      read_judged _ _ c.gather-all.ensures.0 _ _ (λ h e. ((c.gather-all.ensures.1 h e).assigned_is, (c.gather-all.ensures.1 h e).juniors_is)) _ _ _ (λ p q. k p _ fit q),
-      direct_judged _ _ c.gather-all.ensures.0 _ _ (λ h e. ((c.gather-all.ensures.1 h e).assigned_is, (c.gather-all.ensures.1 h e).juniors_is)) _ _ _ (λ p q. k p _ fit q) _ _ _ _ c.gather-all.ensures.1,
+      read_judged _ _ c.gather-all.ensures.0 _ _ (λ h e. ((c.gather-all.ensures.1 h e).assigned_is, (c.gather-all.ensures.1 h e).juniors_is)) _ _ _
+          (λ p q. k p _ fit q),
+      direct_judged _ _ c.gather-all.ensures.0 _ _ (λ h e. ((c.gather-all.ensures.1 h e).assigned_is, (c.gather-all.ensures.1 h e).juniors_is)) _ _ _
+          (λ p q. k p _ fit q) _ _ _ _ c.gather-all.ensures.1,
     )
 
 pub judged-checked-requires : goal.judged-checked-requires
@@ -21,6 +23,8 @@ judged-checked-requires c =
 
 pub returns : goal.returns
 returns c = (
-  read_judged _ _ c.gather-all.ensures.0 _ _ (λ h e. ((c.gather-all.ensures.1 h e).assigned_is, (c.gather-all.ensures.1 h e).juniors_is)) _ _ _ c.judged-checked.ensures,
-  direct_judged _ _ c.gather-all.ensures.0 _ _ (λ h e. ((c.gather-all.ensures.1 h e).assigned_is, (c.gather-all.ensures.1 h e).juniors_is)) _ _ _ c.judged-checked.ensures _ _ _ _ c.gather-all.ensures.1,
+  read_judged _ _ c.gather-all.ensures.0 _ _ (λ h e. ((c.gather-all.ensures.1 h e).assigned_is, (c.gather-all.ensures.1 h e).juniors_is)) _ _ _
+      c.judged-checked.ensures,
+  direct_judged _ _ c.gather-all.ensures.0 _ _ (λ h e. ((c.gather-all.ensures.1 h e).assigned_is, (c.gather-all.ensures.1 h e).juniors_is)) _ _ _
+      c.judged-checked.ensures _ _ _ _ c.gather-all.ensures.1,
 )

@@ -22,7 +22,8 @@ pub loop-at-init : goal.loop-at-init
 unfolding start
 loop-at-init c =
     let none = none_noted 32 (length c.args.image.now / 4) (omega (arith, c.requires.1)) in
-    (omega arith, omega (arith, c.requires.1), rw c.fresh-t.ensures, rw c.fresh-t.ensures (omega arith), refl, none, refl, refl, refl, refl, rw c.fresh-t.ensures)
+    (omega arith, omega (arith, c.requires.1), rw c.fresh-t.ensures, rw c.fresh-t.ensures (omega arith), refl, none, refl, refl, refl, refl,
+        rw c.fresh-t.ensures)
 
 pub pass-here-requires : goal.pass-here-requires
 pass-here-requires c =
@@ -87,15 +88,21 @@ loop-at-preserved c =
     let few : c.members-joined.result.scan.exclusions ≤ 32 = rw c.members-joined.ensures.exclusions_same c.loop-at.invariant.3 in (
       omega (arith, c.pass-here.ensures.passed.onward, c.members-joined.ensures.onward),
       omega (arith, c.if-words-here.false),
-      goes _ _ _ _ _ _ _ _ _ _ lt c.word_at-w.ensures c.decode-word.ensures.0 (before_last _ _ _ _ _ _ _ c.if-words-here.false c.step-number.ensures.faulty) _ c.if-number-ne0.false _ _ _ (c.step-number.ensures.assigned_is c.if-number-ne0.false) c.next-t.ensures
-          c.wrapping_add_u32.ensures.value (c.pass-here.ensures.passed.scanned c.members-joined.result.scan refl ∙ c.members-joined.ensures.scanned _ _ refl ∙ c.loop-at.invariant.2),
+      goes _ _ _ _ _ _ _ _ _ _ lt c.word_at-w.ensures c.decode-word.ensures.0 (before_last _ _ _ _ _ _ _ c.if-words-here.false c.step-number.ensures.faulty) _
+          c.if-number-ne0.false _ _ _ (c.step-number.ensures.assigned_is c.if-number-ne0.false) c.next-t.ensures
+          c.wrapping_add_u32.ensures.value
+              (c.pass-here.ensures.passed.scanned c.members-joined.result.scan refl ∙ c.members-joined.ensures.scanned _ _ refl ∙ c.loop-at.invariant.2),
       subst (λ (x : Scan). x.exclusions ≤ 32) (sym c.next-t.ensures) (next_few c.members-joined.result.scan _ due few),
       ap length noted ∙ length-noted _ _ _ _ ∙ c.loop-at.invariant.4,
       λ i. subst (λ (v : List ℕ). get_or v i 0 < length c.args.image.now / 4) (sym noted) (noted_below _ _ _ _ _ lt c.loop-at.invariant.5 i),
-      fold_next _ _ _ _ _ _ _ _ _ lt c.word_at-w.ensures c.decode-word.ensures.0 (c.step-number.ensures.assigned_is c.if-number-ne0.false) (c.pass-here.ensures.passed.assigned_is ∙ c.members-joined.ensures.folded assigning (λ x y. refl) _ ∙ c.loop-at.invariant.6),
-      fold_next _ _ _ _ _ _ _ _ _ lt c.word_at-w.ensures c.decode-word.ensures.0 (c.step-number.ensures.granted_is c.if-number-ne0.false) (c.pass-here.ensures.granted_is ∙ c.members-joined.ensures.folded granting (λ x y. refl) _ ∙ c.loop-at.invariant.7),
-      fold_next _ _ _ _ _ _ _ _ _ lt c.word_at-w.ensures c.decode-word.ensures.0 (c.step-number.ensures.juniors_is c.if-number-ne0.false) (c.pass-here.ensures.passed.juniors_is ∙ c.members-joined.ensures.folded ordering (λ x y. refl) _ ∙ c.loop-at.invariant.8),
-      fold_next _ _ _ _ _ _ _ _ _ lt c.word_at-w.ensures c.decode-word.ensures.0 (c.step-number.ensures.limits_is c.if-number-ne0.false) (c.pass-here.ensures.limits_is _ ∙ c.members-joined.ensures.folded limiting (λ x y. refl) _ ∙ c.loop-at.invariant.9),
+      fold_next _ _ _ _ _ _ _ _ _ lt c.word_at-w.ensures c.decode-word.ensures.0 (c.step-number.ensures.assigned_is c.if-number-ne0.false)
+          (c.pass-here.ensures.passed.assigned_is ∙ c.members-joined.ensures.folded assigning (λ x y. refl) _ ∙ c.loop-at.invariant.6),
+      fold_next _ _ _ _ _ _ _ _ _ lt c.word_at-w.ensures c.decode-word.ensures.0 (c.step-number.ensures.granted_is c.if-number-ne0.false)
+          (c.pass-here.ensures.granted_is ∙ c.members-joined.ensures.folded granting (λ x y. refl) _ ∙ c.loop-at.invariant.7),
+      fold_next _ _ _ _ _ _ _ _ _ lt c.word_at-w.ensures c.decode-word.ensures.0 (c.step-number.ensures.juniors_is c.if-number-ne0.false)
+          (c.pass-here.ensures.passed.juniors_is ∙ c.members-joined.ensures.folded ordering (λ x y. refl) _ ∙ c.loop-at.invariant.8),
+      fold_next _ _ _ _ _ _ _ _ _ lt c.word_at-w.ensures c.decode-word.ensures.0 (c.step-number.ensures.limits_is c.if-number-ne0.false)
+          (c.pass-here.ensures.limits_is _ ∙ c.members-joined.ensures.folded limiting (λ x y. refl) _ ∙ c.loop-at.invariant.9),
       places_next _ _ _ _ _ _ _ _ _ lt c.loop-at.invariant.4 c.word_at-w.ensures c.decode-word.ensures.0 due c.next-t.ensures noted
           ∙ (rw (c.members-joined.ensures.exclusions_same, c.pass-here.ensures.places_are, c.members-joined.ensures.places_are) c.loop-at.invariant.10),
     )
@@ -124,7 +131,8 @@ returns c =
         limits_is = fold_last _ _ _ p ee limiting _ _ refl c.loop-at.invariant.9;
         exclusions_are =
             c.exclusions_at.ensures.0
-            ∙ ap (map (exclusion_at c.args.image.now (length c.args.image.now / 4))) (places_last _ _ _ p ee c.loop-at.t c.loop-at.places c.loop-at.invariant.4 ∙ c.loop-at.invariant.10)
+            ∙ ap (map (exclusion_at c.args.image.now (length c.args.image.now / 4)))
+                (places_last _ _ _ p ee c.loop-at.t c.loop-at.places c.loop-at.invariant.4 ∙ c.loop-at.invariant.10)
             ∙ sym (exclusions_placed c.args.image.now (length c.args.image.now / 4) (length c.args.image.now / 4 - 1) 1 (omega (arith, c.requires.1)));
         few = c.loop-at.invariant.3;
         full = c.exclusions_at.ensures.1;
