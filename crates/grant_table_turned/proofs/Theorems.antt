@@ -6,11 +6,6 @@ use mathlib.Core.List.{List}
 use Prim.Native.Nat.{ℕ, ◌*◌}
 use lib.Pow.{are_bytes}
 use lib.ListN.{length}
-use Rattle.model.specs.declared.Head.{Head}
-use Rattle.model.specs.declared.Checked.TheVariants.{Accepted}
-use Rattle.model.specs.Judgement.{judge}
-use Rattle.model.specs.Policy.{policy_of}
-use Rattle.model_laws.proofs.Judgements.{accepted_in_range}
 use Rattle.grant_table_turned.specs.Turned.{turned, unturned, Turns}
 use Rattle.grant_table_turned.specs.Calls.{turn_call, unturn_call, RoundTrips, TurnRefuses}
 use Rattle.grant_table_turned.proofs.TurnProof as TurnProof

@@ -83,3 +83,7 @@ module _ (s : List ℕ) where
         most = λ z. omega arith;
         scanned = λ z. sym (right_head e l g w);
       }
+
+  -- the front of an image that is too short
+  pub short_front : length s % 4 ≡ 0 → length s < 8 → Front s 1
+  short_front e l = front_refused 1 (λ z. omega arith) (short_length e l)

@@ -5,6 +5,7 @@ use image_words::word::head_right;
 use model::{layout, refusals};
 
 // 1 for a wrong length, 2 for a wrong head, or 0.
+#[tactic(auto, using(crate::proofs::Judged::short_front))]
 pub fn front_fault(image: &[u8]) -> u8
     ensures { Front image.now result }
 {

@@ -1,5 +1,4 @@
 -- The laws that the proofs of the reader's code use, and what a walk over the exclusions reads.
 pub mod PlaceLaws
-pub mod Reading
 pub mod ExclusionLaws
 pub mod Walk

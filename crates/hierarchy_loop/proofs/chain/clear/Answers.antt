@@ -1,9 +1,6 @@
-use mathlib.Core.Path.{◌≡◌}
-use Prim.Native.Nat.{◌≤◌, ◌-◌}
 use native.Mathlib.Omega.{arith}
-use lib.ListN.{length}
 use borrow.Author.Rules.{rules}
-use Rattle.hierarchy.proofs.Filling.{Zeros, zeros_next, zeros_all}
+use Rattle.hierarchy.proofs.Filling.{zeros_next, zeros_all}
 use Rattle.hierarchy_loop.proofs.chain.clear.Goals as goal
 
 pub loop-i-init : goal.loop-i-init

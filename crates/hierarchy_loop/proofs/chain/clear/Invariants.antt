@@ -2,10 +2,8 @@
 -- Assumes nothing.
 use mathlib.Core.Path.{◌≡◌}
 use Prim.Native.Nat.{◌≤◌, ◌-◌}
-use native.Mathlib.Omega.{arith}
 use lib.ListN.{length}
-use borrow.Author.Rules.{rules}
-use Rattle.hierarchy.proofs.Filling.{Zeros, zeros_next, zeros_all}
+use Rattle.hierarchy.proofs.Filling.{Zeros}
 use Rattle.hierarchy_loop.proofs.chain.clear.Given as goal
 
 abbrev pub invariant-loop-i : goal.invariant-loop-i

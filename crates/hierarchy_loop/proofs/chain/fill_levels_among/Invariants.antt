@@ -1,18 +1,13 @@
 -- `hierarchy_loop::chain::fill_levels_among` meets its contract. The invariant: the levels so far are stored, and the
 -- role is in none of them but the first.
 -- Assumes nothing.
-use mathlib.Core.Path.{◌≡◌, refl, sym, ap, ◌∙◌}
-use Prim.Native.Nat.{ℕ, ◌+◌, ◌≤◌, ◌-◌}
-use native.Mathlib.Omega.{arith}
-use native.Mathlib.Nat.{le_antisymm}
+use mathlib.Core.Path.{◌≡◌}
+use Prim.Native.Nat.{◌+◌, ◌≤◌, ◌-◌}
 use lib.ListN.{length}
-use borrow.Author.Rules.{rules}
 use Rattle.model.specs.Tests.{lowest}
 use Rattle.model.specs.Sets.{has}
-use Rattle.model.specs.Loop.{level, loop_length}
+use Rattle.model.specs.Loop.{level}
 use Rattle.hierarchy_loop.specs.Chained.{Levels}
-use Rattle.hierarchy_judged.proofs.Lowest.{lowest_passes, lowest_goes, lowest_ends}
-use Rattle.hierarchy_loop.proofs.Looping.{level_none, level-next, levels_next}
 use Rattle.hierarchy_loop.proofs.chain.fill_levels_among.Given as goal
 
 abbrev pub invariant-loop-k : goal.invariant-loop-k

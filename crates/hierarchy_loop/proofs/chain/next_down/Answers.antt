@@ -6,7 +6,6 @@ use native.Mathlib.Omega.{arith}
 use native.Mathlib.Nat.{lt_of_le_of_lt}
 use lib.Bits.{bit_and, and_le_r}
 use lib.Count.{trailing_le}
-use borrow.Author.Rules.{rules}
 use Rattle.model.specs.Tests.{lowest}
 use Rattle.model.specs.Sets.{has, inter}
 use Rattle.hierarchy_loop.proofs.Looping.{lowest_trailing}

@@ -1,9 +1,8 @@
 use mathlib.Core.Path.{sym, ap, ◌∙◌}
-use Prim.Native.Nat.{◌≤◌, ◌-◌}
 use native.Mathlib.Omega.{arith}
 use lib.ListN.{length}
 use borrow.Author.Rules.{rules}
-use Rattle.hierarchy_loop.proofs.Looping.{Down, down_none, down_next, down_end}
+use Rattle.hierarchy_loop.proofs.Looping.{down_none, down_next, down_end}
 use Rattle.hierarchy_loop.proofs.chain.put_chain.Goals as goal
 
 pub loop-i-init : goal.loop-i-init

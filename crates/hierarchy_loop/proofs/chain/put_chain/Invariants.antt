@@ -1,12 +1,8 @@
 -- `hierarchy_loop::chain::put_chain` meets its contract. The invariant: so many bytes of the chain are written, and
 -- zeros stand behind.
 -- Assumes nothing.
-use mathlib.Core.Path.{sym, ap, ◌∙◌}
 use Prim.Native.Nat.{◌≤◌, ◌-◌}
-use native.Mathlib.Omega.{arith}
-use lib.ListN.{length}
-use borrow.Author.Rules.{rules}
-use Rattle.hierarchy_loop.proofs.Looping.{Down, down_none, down_next, down_end}
+use Rattle.hierarchy_loop.proofs.Looping.{Down}
 use Rattle.hierarchy_loop.proofs.chain.put_chain.Given as goal
 
 abbrev pub invariant-loop-i : goal.invariant-loop-i

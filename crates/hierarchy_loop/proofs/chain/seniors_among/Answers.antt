@@ -1,9 +1,6 @@
-use mathlib.Core.Path.{◌≡◌, sym, ◌∙◌}
-use Prim.Native.Nat.{◌≤◌, ◌-◌}
+use mathlib.Core.Path.{sym, ◌∙◌}
 use native.Mathlib.Omega.{arith}
-use lib.ListN.{get_or}
-use borrow.Author.Rules.{rules}
-use Rattle.model.specs.Sets.{meets, set_of}
+use Rattle.model.specs.Sets.{meets}
 use Rattle.model.specs.Loop.{seniors_of}
 use Rattle.hierarchy.proofs.Joining.{set_of_none, set_of-next, set_of-all, set_of_rest}
 use Rattle.hierarchy_loop.proofs.chain.seniors_among.Goals as goal

@@ -1,14 +1,10 @@
 -- `hierarchy_loop::chain::seniors_among` meets its contract. The invariant: the set so far is made by the test of the
 -- roles so far.
 -- Assumes nothing.
-use mathlib.Core.Path.{◌≡◌, sym, ◌∙◌}
+use mathlib.Core.Path.{◌≡◌}
 use Prim.Native.Nat.{◌≤◌, ◌-◌}
-use native.Mathlib.Omega.{arith}
 use lib.ListN.{get_or}
-use borrow.Author.Rules.{rules}
 use Rattle.model.specs.Sets.{meets, set_of}
-use Rattle.model.specs.Loop.{seniors_of}
-use Rattle.hierarchy.proofs.Joining.{set_of_none, set_of-next, set_of-all, set_of_rest}
 use Rattle.hierarchy_loop.proofs.chain.seniors_among.Given as goal
 
 abbrev pub invariant-loop-a : goal.invariant-loop-a

@@ -4,7 +4,6 @@ use mathlib.Core.Path.{ap, subst, sym, ◌∙◌}
 use Prim.Native.Nat.{ℕ, ◌≤◌}
 use native.Mathlib.Omega.{arith}
 use lib.ListN.{length}
-use borrow.Author.Rules.{rules}
 use Rattle.hierarchy.proofs.Closing.{length_closure}
 use Rattle.hierarchy_loop.proofs.Showing.{empty_above, shows_19, shows_20, chain_fits, shows-chain}
 use Rattle.hierarchy_loop.proofs.chain.show_loop.Goals as goal
@@ -16,17 +15,18 @@ pub close_first-requires : goal.close_first-requires
 close_first-requires c =
     (c.requires.0, c.requires.0, c.requires.1, empty_above c.requires.2)
 
--- FIX: took also ['κs']
-
 pub returns-then-roles-r : goal.returns-then-roles-r
 returns-then-roles-r c =
     λ p range ej en. shows_20 p _ _ _ _ _ c.if-chain-ne64.false ej en c.close_first.ensures c.lowest_on_loop-r.ensures c.if-roles-r.true
 
 pub fill_levels_among-n-requires : goal.fill_levels_among-n-requires
-fill_levels_among-n-requires c =
-    (omega (arith, c.if-roles-r.false, c.requires.0), ap length c.close_first.ensures ∙ length_closure _ _ ∙ c.requires.1, c.requires.0, empty_above c.requires.2)
-
--- FIX: took also ['κs']
+fill_levels_among-n-requires c = (
+  omega (arith, c.if-roles-r.false, c.requires.0),
+  ap length c.close_first.ensures ∙ length_closure _ _ ∙ c.requires.1,
+  c.requires.0,
+  empty_above
+      c.requires.2,
+)
 
 pub put_chain-requires : goal.put_chain-requires
 put_chain-requires c =
@@ -34,8 +34,6 @@ put_chain-requires c =
     c.lowest_on_loop-r.ensures c.requires.2.range c.if-roles-r.false).1 in
     let n : c.fill_levels_among-n.result ≤ 64 = subst (λ (x : ℕ). x ≤ 64) (sym c.fill_levels_among-n.ensures.0) h in
     (n, c.requires.1, c.fill_levels_among-n.ensures.2, c.clear.ensures, c.fill_levels_among-n.ensures.1 n)
-
--- FIX: took also ['κs']
 
 pub returns : goal.returns
 returns c =

@@ -1,0 +1,11 @@
+-- `image_reader::entry_after` meets its contract: what stands at the place after is what stands one further.
+-- Assumes nothing.
+use Rattle.std.proofs.Common.{ap, ◌∙◌}
+use Rattle.image_reader.specs.Places.{found_at}
+use Rattle.image_reader.specs.declared.Reader.{Reader}
+use Rattle.image_reader.proofs.PlaceLaws.{found_after}
+use Rattle.image_reader.proofs.entry_after.Goals as goal
+
+pub returns : goal.returns
+returns c =
+    c.next.ensures ∙ ap (λ (r : Reader). found_at r.image.now r.at) c.moved.ensures ∙ found_after c.args.image.now c.args.place
