@@ -22,7 +22,8 @@ put_zeros-requires c =
 
 pub returns-then-len-size : goal.returns-then-len-size
 returns-then-len-size c =
-    longer_put _ c.args.user _ _ _ _ c.line_size-size.ensures _ (at_room _ _ c.line_size-size.ensures c.requires) c.if-len-size.true c.put.ensures c.put_zeros.ensures
+    longer_put _ c.args.user _ _ _ _ c.line_size-size.ensures _ (at_room _ _ c.line_size-size.ensures c.requires) c.if-len-size.true c.put.ensures
+    c.put_zeros.ensures
 
 pub put-requires-2 : goal.put-requires-2
 put-requires-2 c =
