@@ -9,19 +9,18 @@ use native.Mathlib.Omega.{arith}
 use lib.Dec.{eqb, ltb}
 use lib.ListN.{length, take}
 use borrow.Table.Steps.{cases}
-use borrow.Author.Tests.{not-true, not-false, le-leb, lt-leb, leb-false, lt-ltb, le-ltb, ltb-false, eq-eqb, ne_eqb, eqb-true}
+use borrow.Author.Tests.{not-true, not-false, lt-ltb, le-ltb, ltb-false, eq-eqb, ne_eqb, eqb-true}
 use Rattle.model.specs.declared.Head.{Head}
 use Rattle.model.specs.declared.Exclusions.{Exclusions}
-use Rattle.model.specs.declared.Line.{Line}
 use Rattle.model.specs.Tests.{pick}
 use Rattle.model.specs.Sets.{within}
 use Rattle.model.specs.Bytes.{number}
 use Rattle.model.specs.Policy.{Policy}
-use Rattle.model.specs.Line.{line_size, is_open}
+use Rattle.model.specs.Line.{line_size}
 use Rattle.model.specs.Session.{is_ask}
 use Rattle.model.specs.Run.{Call, line_of, told}
 use Rattle.model_laws.proofs.Reaches.{authorized_alone}
-use Rattle.model_laws.proofs.Bools.{and_l, and_r, or_l, or_r, not_both}
+use Rattle.model_laws.proofs.Bools.{or_l, or_r, not_both}
 use Rattle.sessions.specs.Calls.{Known, first_refusal, session_refusal}
 use Rattle.limits_lines.specs.Lines.{others_refusal}
 use Rattle.asks_request.specs.Refusals.{or_else, bounds_refusal, sizes, Bounded, query_refusal, ask_refusal, limited_refusal}

@@ -1,7 +1,7 @@
 -- Clause texts as a host sees them: the number that the call returns, and its buffer after it. The texts are those of a
 -- small program written from docs/CLAUSES.md alone.
 -- Assumes nothing.
-use Rattle.std.specs.Prelude.{Bool, ◌&&◌, List, [], ◌∷◌, ◌++◌, map, ℕ, ◌+◌, ◌*◌, ◌-◌, ◌^◌, eqb, length, drop, replicate}
+use Rattle.std.specs.Prelude.{Bool, ◌&&◌, List, [], ◌∷◌, ◌++◌, map, ℕ, ◌*◌, ◌^◌, eqb, length, drop, replicate}
 use Prim.Native.String.{String}
 use Rattle.model.specs.Dimacs.{ascii}
 use Rattle.model.specs.Run.{Call, clauses_by, step, returned, written}

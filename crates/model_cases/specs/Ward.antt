@@ -2,7 +2,7 @@
 -- cases, `settled` further ones on what 01 says in words, `fewer`, which are among these, those on exclusions with n
 -- below m, `carded` those on limits.
 -- Assumes nothing.
-use Rattle.std.specs.Prelude.{Bool, true, false, ◌&&◌, List, [], ◌∷◌, ◌++◌, map, ℕ, ◌+◌, ◌-◌, ◌*◌, ◌^◌, eqb, replicate, take, drop}
+use Rattle.std.specs.Prelude.{Bool, List, [], ◌∷◌, ◌++◌, map, ℕ, ◌+◌, ◌-◌, ◌*◌, ◌^◌, replicate, take, drop}
 use Rattle.model.specs.Tests.{same_lists}
 use Rattle.model.specs.Bytes.{number, bytes_of}
 use Rattle.model.specs.Words.{head_word, assign_word, grant_word, senior_word, exclusion_word, member_word, limit_word, image_bytes, ended}

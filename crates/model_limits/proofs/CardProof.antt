@@ -19,11 +19,11 @@ use Rattle.model.specs.declared.Checked.TheVariants.{Accepted}
 use Rattle.model.specs.Tests.{pick, first}
 use Rattle.model.specs.Sets.{has, sum_to}
 use Rattle.model.specs.Judgement.{judge}
-use Rattle.model.specs.Policy.{Policy, policy_of, limited, has_limits, Meaning, meaning, authorized}
+use Rattle.model.specs.Policy.{Policy, policy_of, limited, has_limits, Meaning, meaning}
 use Rattle.model.specs.Line.{line_size, read_line, session_at, holding, sound}
 use Rattle.model.specs.Limits.{Others}
 use Rattle.model.specs.Session.{Operation, open_session, close_session, ask, short_ask, show, explain, obstacle, clauses, session_of, query_of, is_ask, puts_in, refuse, Result, Refusal, bad_other, bad_line, can_give, applies, perform, unless, rule}
-use Rattle.model.specs.Run.{Call, Event, line_at, line_of, holding_of, held_by_others, others_of, told, ruled, step_on, step, run}
+use Rattle.model.specs.Run.{Call, Event, line_at, line_of, holding_of, held_by_others, others_of, told, step_on, step, run}
 use Rattle.model.specs.Ranges.{Each, InRange}
 use Rattle.model.specs.Kept.{Antitone}
 use Rattle.model_limits.specs.Card.{holding_all, WithinLimit, WithinLimits, active_at, LimitsKept}

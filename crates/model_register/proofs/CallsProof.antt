@@ -48,7 +48,7 @@ use Rattle.model_laws.proofs.Judgements as J
 use Rattle.model_laws.proofs.Theorems as T
 use Rattle.model_limits.specs.Eleven as E
 use Rattle.model_limits.proofs.ElevenProof.{Lowest, lowest-of, answer}
-use Rattle.model_register.specs.Calls.{Case, case, refusal, Answers, WrongSize, TooHigh, NotWithin, WrongAim, short_query, unaimed, LowestUnsound, own, after, unchanged, shown, Unsound, own_line as unsound-own, some_line, line_case, Closed, AllOpen, Allowed, InTheWay, text, named, bounded, answering, naming, cases, Opens, Carried, Chooses, Shows, Tells, Names, Does, cases_for, Register, by_words, by_loop, by_reach, by_call, StepIs}
+use Rattle.model_register.specs.Calls.{Case, case, refusal, Answers, WrongSize, TooHigh, NotWithin, WrongAim, short_query, unaimed, LowestUnsound, after, unchanged, shown, Unsound, own_line as unsound-own, some_line, line_case, Closed, AllOpen, Allowed, InTheWay, text, named, bounded, answering, naming, cases, Opens, Carried, Chooses, Shows, Tells, Names, Does, cases_for, Register, by_words, by_loop, by_reach, by_call, StepIs}
 use Rattle.model_register.proofs.Decided.{Decides, always, not_decides, equal_decides, below_decides, not_below_decides, most_decides}
 use Rattle.model_register.proofs.AnswerLaws.{One, NoneOf, one_event, zeros}
 use Rattle.model_register.proofs.CaseLaws.{size_decides, high_bounds, within_decides, aim_decides, full_decides, open_before}

@@ -1,25 +1,22 @@
 -- The sessions that hold a role, counted over all users.
 -- Assumes nothing.
 use mathlib.Core.Path.{◌≡◌, refl, sym, ap, ap₂, ◌∙◌, subst}
-use mathlib.Core.Logic.{◌⊎◌, inl, inr, ◌↔◌}
-use mathlib.Core.Bool.{Bool, true, false, ◌&&◌, and-false}
+use mathlib.Core.Logic.{inl, inr, ◌↔◌}
+use mathlib.Core.Bool.{Bool, true, false, ◌&&◌}
 use mathlib.Core.List.{List, [], ◌∷◌}
-use Prim.Native.Nat.{ℕ, zero, suc, ◌+◌, ◌-◌, ◌*◌, ◌≤◌, ◌<◌}
+use Prim.Native.Nat.{ℕ, zero, suc, ◌+◌, ◌-◌, ◌*◌, ◌<◌}
 use native.Mathlib.Nat.{add-zero, add-suc, mul-zero, mul-suc, mul-le-mul_left}
 use native.Mathlib.Decide.{dec_lt}
 use native.Mathlib.Omega.{arith}
 use lib.Dec.{eqb, leb}
 use lib.ListN.{length, get_or, drop}
-use borrow.Author.Tests.{eqb-true, eqb-false, eq-eqb, ne_eqb, lt-leb, le-leb}
+use borrow.Author.Tests.{eqb-true, eqb-false, eq-eqb, lt-leb, le-leb}
 use Rattle.model.specs.declared.Session.{Session}
-use Rattle.model.specs.declared.Line.{Line}
 use Rattle.model.specs.Tests.{pick}
 use Rattle.model.specs.Sets.{has, one, count_to, sum_to}
 use Rattle.model.specs.Policy.{Policy, limited, meaning}
 use Rattle.model.specs.Line.{line_size, empty_session, session_at, read_line, holding, put_in}
-use Rattle.model.specs.Conditions.{Card}
 use Rattle.model.specs.Run.{line_at, line_of, holding_of, held_by_others, others_of}
-use Rattle.model_laws.proofs.Bools.{and_l, and_r, both}
 use Rattle.model_laws.proofs.SetLaws.{count_cong}
 use Rattle.model_laws.proofs.UnionLaws.{below_or_last}
 use Rattle.model_laws.proofs.LineLaws.{length-read_sessions}

@@ -1,9 +1,9 @@
 -- The loop call answers as the register says: its laws are the model's, and one shortest loop is the lowest.
 -- Assumes nothing.
 use mathlib.Core.Path.{◌≡◌, refl, sym, ap, ◌∙◌, subst}
-use mathlib.Core.Logic.{◌⊎◌, inl, inr}
-use mathlib.Core.List.{List, [], ◌++◌}
-use Prim.Native.Nat.{ℕ, zero, suc, ◌-◌, ◌≤◌, ◌<◌}
+use mathlib.Core.Logic.{inl, inr}
+use mathlib.Core.List.{List, ◌++◌}
+use Prim.Native.Nat.{ℕ, zero, suc, ◌-◌, ◌<◌}
 use native.Mathlib.Decide.{dec_lt, ℕ_discrete}
 use native.Mathlib.Omega.{arith}
 use lib.ListN.{length, get_or, replicate}
@@ -17,10 +17,9 @@ use Rattle.model.specs.Session.{Reply, refuse}
 use Rattle.model.specs.Loop.{loop_call}
 use Rattle.model.specs.Run.{filled_with, answered}
 use Rattle.model.specs.Chains.{roles_of, LowestOnLoop}
-use Rattle.model.specs.Ordered.{Loopless, NotAbove, ShortestLoop}
+use Rattle.model.specs.Ordered.{NotAbove, ShortestLoop}
 use Rattle.model_laws.proofs.UnionLaws.{below_or_last}
 use Rattle.model_laws.proofs.OrderedProof.{loop-call, shown_or_none}
-use Rattle.model_register.specs.AsCheck.{WordsRight}
 use Rattle.model_register.specs.Loops.{without, LoopAnswers, by_words, by_room, by_none, shows, LoopIs}
 use Rattle.model_register.proofs.FaultsProof.{register_is}
 use Rattle.model_register.proofs.AsCheckProof.{words_right}

@@ -1,10 +1,10 @@
 -- A move answers as the register says: the lines are looked at from user 0 on, and the first that cannot go decides.
 -- Assumes nothing.
 use mathlib.Core.Path.{◌≡◌, refl, sym, ap, ◌∙◌, subst}
-use mathlib.Core.Logic.{◌⊎◌, inl, inr, ◌↔◌}
+use mathlib.Core.Logic.{inl, inr, ◌↔◌}
 use mathlib.Core.Bool.{Bool, true, false, not, true≢false}
 use mathlib.Core.List.{List, [], ◌∷◌}
-use Prim.Native.Nat.{ℕ, zero, suc, ◌+◌, ◌*◌, ◌^◌, ◌≤◌, ◌<◌}
+use Prim.Native.Nat.{ℕ, zero, suc, ◌+◌, ◌*◌, ◌^◌, ◌<◌}
 use native.Mathlib.Decide.{dec_lt}
 use native.Mathlib.Omega.{arith}
 use lib.Dec.{eqb, ltb}
@@ -14,7 +14,6 @@ use Rattle.model.specs.declared.Head.{Head}
 use Rattle.model.specs.declared.Checked.{Checked}
 use Rattle.model.specs.declared.Checked.TheVariants.{Accepted, Refused}
 use Rattle.model.specs.Tests.{pick}
-use Rattle.model.specs.Sets.{has}
 use Rattle.model.specs.Judgement.{judge}
 use Rattle.model.specs.Policy.{Policy, policy_of, meaning}
 use Rattle.model.specs.Line.{line_size, read_line, sound}
@@ -26,7 +25,6 @@ use Rattle.model_laws.proofs.LineLaws.{length-read_sessions}
 use Rattle.model_laws.proofs.Judgements.{judge_is, Verdict, words, loops, reaches, passes, verdict}
 use Rattle.model_register.specs.Sound.{Sound}
 use Rattle.model_register.specs.Calls.{refusal, Answers}
-use Rattle.model_register.specs.AsCheck.{Passes}
 use Rattle.model_register.specs.Moves.{OpenBeyond, Goes, Reached, move_cases, Moves, MoveAnswers, by_words, by_loop, by_reach, by_move, MovesAre}
 use Rattle.model_register.proofs.Decided.{Decides, decides_as}
 use Rattle.model_register.proofs.AnswerLaws.{One, one_event, zeros}

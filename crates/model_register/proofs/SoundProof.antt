@@ -1,15 +1,15 @@
 -- The test of a line's soundness, by the members of its sets.
 -- Assumes nothing.
-use mathlib.Core.Path.{◌≡◌, refl, sym, ◌∙◌, subst}
-use mathlib.Core.Logic.{◌⊎◌, inl, inr, ◌↔◌}
+use mathlib.Core.Path.{◌≡◌, refl, sym, subst}
+use mathlib.Core.Logic.{◌↔◌}
 use mathlib.Core.Bool.{Bool, true, false, ◌&&◌, ◌||◌, true≢false}
-use mathlib.Core.List.{List, [], ◌∷◌, Memᴰ}
+use mathlib.Core.List.{List, Memᴰ}
 use Prim.Native.Nat.{ℕ, ◌≤◌, ◌<◌}
 use native.Mathlib.Decide.{dec_lt}
 use native.Mathlib.Omega.{arith}
-use lib.Dec.{eqb, leb}
+use lib.Dec.{eqb}
 use lib.ListN.{length, get_or-eq_default}
-use borrow.Author.Tests.{eqb-true, eq-eqb, lt-leb, leb-false}
+use borrow.Author.Tests.{eqb-true, eq-eqb}
 use Rattle.model.specs.declared.Head.{Head}
 use Rattle.model.specs.declared.Kind.{Kind}
 use Rattle.model.specs.declared.Kind.TheVariants.{SsDmer, MsDmer, SsHmer, MsHmer}
@@ -19,10 +19,9 @@ use Rattle.model.specs.declared.Checked.TheVariants.{Accepted}
 use Rattle.model.specs.Sets.{has, inter, count}
 use Rattle.model.specs.Judgement.{judge}
 use Rattle.model.specs.Policy.{Policy, policy_of, meaning, authorized}
-use Rattle.model.specs.Ranges.{Each, ExclusionInRange, InRange}
+use Rattle.model.specs.Ranges.{ExclusionInRange, InRange}
 use Rattle.model.specs.Line.{empty_session, session_at, is_open, counted, sound}
 use Rattle.model_laws.proofs.Bools.{and_l, and_r, both, or_l, or_r}
-use Rattle.model_laws.proofs.SetLaws.{has-inter}
 use Rattle.model_laws.proofs.UnionLaws.{has_below}
 use Rattle.model_laws.proofs.AnyWidth.{within_iff, members_below_lem}
 use Rattle.model_laws.proofs.Actives.{active_at_lem, at_active}

@@ -1,7 +1,7 @@
 -- The register at a move of a ledger from F sessions a user to W, which names no user: as a check, then 9, 19, and the
 -- first user whose line cannot go, by 11 or 24.
 -- Assumes nothing.
-use Rattle.std.specs.Prelude.{◌≡◌, ◌↔◌, true, false, List, [], ◌∷◌, ℕ, ◌*◌, ◌≤◌, ◌<◌, length}
+use Rattle.std.specs.Prelude.{◌≡◌, ◌↔◌, true, List, [], ◌∷◌, ℕ, ◌*◌, ◌≤◌, ◌<◌, length}
 use Rattle.model.specs.Sets.{has}
 use Rattle.model.specs.Policy.{Policy, policy_of}
 use Rattle.model.specs.Chains.{LowestOnLoop}

@@ -18,7 +18,7 @@ use Rattle.model.specs.declared.Entry.TheVariants.{Assignment, Grant, Senior, En
 use Rattle.model.specs.declared.Checked.TheVariants.{Accepted}
 use Rattle.model.specs.Tests.{any, between}
 use Rattle.model.specs.Sets.{has}
-use Rattle.model.specs.Image.{word_at, behind_head, user, role, permission, says, repeats, head_of, head_right, length_right, empty_rows, start, assigning}
+use Rattle.model.specs.Image.{word_at, behind_head, user, role, permission, repeats, head_of, head_right, length_right, empty_rows, start, assigning}
 use Rattle.model.specs.Words.{head_word, assign_word, grant_word, senior_word, sum_of, end_word, ended, image_bytes, limit_word}
 use Rattle.model.specs.Policy.{Policy, granting, ordering, fold, entries_of, exclusions_of, policy_of, same_exclusion, excludes, limited, limiting, sorted}
 use Rattle.model.specs.Judgement.{judge}

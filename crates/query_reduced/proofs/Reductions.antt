@@ -40,7 +40,8 @@ use Rattle.query_reduced.proofs.MetLaws.{below_at, at_below}
 pub active_emptied : (ss : List Session) (k : ℕ) → k < length ss → active_in (set ss k empty_session) ≡ active_in (others k ss)
 unfolding empty_session others
 active_emptied ss k h =
-    ap active_in (set_split ss k empty_session h) ∙ active_middle (take k ss) empty_session (drop (suc k) ss) ∙ or_zero_l (active_in (take k ss ++ drop (suc k) ss))
+    ap active_in (set_split ss k empty_session h) ∙ active_middle (take k ss) empty_session (drop (suc k) ss) ∙ or_zero_l
+    (active_in (take k ss ++ drop (suc k) ss))
 
 -- ---- one exclusion: the members in base or in s are those in base, and of the others those in s
 module _ (m b s : ℕ) where

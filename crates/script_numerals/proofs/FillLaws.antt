@@ -29,7 +29,8 @@ fill_goes_on v out j x h f =
           drop-set-lt (j + 1) out j (x % 256) (omega arith) ∙ sym (drop-drop 1 j out) ∙ ap (drop 1) f.zeros ∙ ap (λ n. drop 1 (replicate n 0)) s;
       bytes_are =
           f.bytes_are ∙ ap (λ n. take j out ++ bytes_of n x) s ∙ sym (append_snoc (take j out) (x % 256) (bytes_of (32 - (j + 1)) (x / 256)))
-          ∙ ap (λ ys. ys ++ bytes_of (32 - (j + 1)) (x / 256)) (sym (take-suc-set out j (x % 256) l) ∙ ap (λ n. take n (set out j (x % 256))) (sym (add-one j)));
+          ∙ ap (λ ys. ys ++ bytes_of (32 - (j + 1)) (x / 256)) (sym (take-suc-set out j (x % 256) l) ∙ ap (λ n. take n (set out j (x % 256)))
+          (sym (add-one j)));
     }
 
 no_bytes : (n : ℕ) → bytes_of n 0 ≡ replicate n 0

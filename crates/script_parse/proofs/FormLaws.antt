@@ -28,7 +28,8 @@ abbrev pub is_bound : List (List ℕ) → ℕ → Bool
 is_bound ws k = is_numeral 16 64 (get_or ws k [])
 
 pub call_of_two :
-    (ws : List (List ℕ)) → length ws ≡ 2 → call_of ws ≡ pick (same_list (get_or ws 0 []) (ascii "open") && is_number ws 1) (some (open_by (number_at ws 1))) none
+    (ws : List (List ℕ)) → length ws ≡ 2 → call_of ws ≡ pick (same_list (get_or ws 0 []) (ascii "open") && is_number ws 1)
+    (some (open_by (number_at ws 1))) none
 unfolding call_of suits matches open_form close_form show_form short_ask_form ask_form pick
 call_of_two [] n = absurd (omega arith)
 call_of_two (a ∷ []) n = absurd (omega arith)

@@ -36,6 +36,7 @@ fn ahead(
 }
 
 // The run of usual words from where `at` is, where so many members are due. The last word of the image is in no run.
+#[tactic(auto, using(image_usual::proofs::Runs::filled_none))]
 pub fn pass(
     image: &[u8],
     words: usize,

@@ -11,7 +11,8 @@ use Rattle.limits_held.proofs.add_sessions.Given as goal
 abbrev pub invariant-loop-k : goal.invariant-loop-k
 invariant-loop-k l =
     (l.k ≤ SESSIONS)
-    × ((r : ℕ) → (count_at l.all r + holding r (drop l.k l.sessions) ≡ count_at l.initial.all r + holding r l.sessions) × (count_at l.all r ≤ count_at l.initial.all r + l.k))
+    × ((r : ℕ) → (count_at l.all r + holding r (drop l.k l.sessions) ≡ count_at l.initial.all r + holding r l.sessions) ×
+    (count_at l.all r ≤ count_at l.initial.all r + l.k))
 
 abbrev pub decreases-loop-k : goal.decreases-loop-k
 decreases-loop-k l = SESSIONS - l.k

@@ -24,4 +24,5 @@ loop-r-preserved c = (
 pub returns : goal.returns
 returns c =
     c.loop-r.invariant.1
-    ∙ ap (set_of (λ (i : ℕ). stays c.args.own (get_or c.args.limits.now i 0) (count_at c.args.counts i) i)) (le_antisymm c.loop-r.invariant.0 c.loop-r-test.false)
+    ∙ ap (set_of (λ (i : ℕ). stays c.args.own (get_or c.args.limits.now i 0) (count_at c.args.counts i) i))
+    (le_antisymm c.loop-r.invariant.0 c.loop-r-test.false)

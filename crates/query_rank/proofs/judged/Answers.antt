@@ -9,10 +9,12 @@ use Rattle.std.proofs.lemmas.Bool.{not_from_false}
 use Rattle.query_rank.proofs.judged.Goals as goal
 
 pub returns-then-not-perm_within : goal.returns-then-not-perm_within
-returns-then-not-perm_within c = judged_short c.args.job c.args.chosen (value c.args.carried) c.args.best _ c.perm_within.ensures (not-true _ (not_from_false _ c.if-not-perm_within.true))
+returns-then-not-perm_within c = judged_short c.args.job c.args.chosen (value c.args.carried) c.args.best _ c.perm_within.ensures
+    (not-true _ (not_from_false _ c.if-not-perm_within.true))
 
 pub returns-then-no_worse : goal.returns-then-no_worse
 returns-then-no_worse c = search (rules, judged_worse)
 
 pub returns : goal.returns
-returns c = judged-best c.args.job c.args.chosen (value c.args.carried) c.args.best _ _ c.key_of-key.ensures c.no_worse.ensures c.if-no_worse.false _ c.perm_within.ensures (not-false _ (not_from_true _ c.if-not-perm_within.false))
+returns c = judged-best c.args.job c.args.chosen (value c.args.carried) c.args.best _ _ c.key_of-key.ensures c.no_worse.ensures c.if-no_worse.false _
+    c.perm_within.ensures (not-false _ (not_from_true _ c.if-not-perm_within.false))

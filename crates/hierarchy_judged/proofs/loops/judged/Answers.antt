@@ -27,9 +27,11 @@ authorize-u-requires c =
 pub returns-then-u-users : goal.returns-then-u-users
 returns-then-u-users c =
     λ p q.
-    judged_reach p _ _ _ _ (q _ c.in-Accepted.is) c.close.ensures _ c.in-Accepted.is _ c.lowest_on_loop-r.ensures c.if-r-roles.false _ _ c.authorize-u.ensures c.if-u-users.true
+    judged_reach p _ _ _ _ (q _ c.in-Accepted.is) c.close.ensures _ c.in-Accepted.is _ c.lowest_on_loop-r.ensures c.if-r-roles.false _ _
+    c.authorize-u.ensures c.if-u-users.true
 
 pub returns : goal.returns
 returns c =
     λ p q.
-    judged_ordered p _ _ _ _ (q _ c.in-Accepted.is) c.close.ensures _ c.in-Accepted.is _ c.lowest_on_loop-r.ensures c.if-r-roles.false _ _ c.authorize-u.ensures c.if-u-users.false
+    judged_ordered p _ _ _ _ (q _ c.in-Accepted.is) c.close.ensures _ c.in-Accepted.is _ c.lowest_on_loop-r.ensures c.if-r-roles.false _ _
+    c.authorize-u.ensures c.if-u-users.false

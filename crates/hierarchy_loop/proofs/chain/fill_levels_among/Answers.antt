@@ -17,7 +17,8 @@ unfolding loop_length
 returns-then-has c =
     let e = level-next c.args.juniors.now c.args.r.0 c.loop-k.k _ _ c.loop-k.invariant.2 c.seniors_among-next.ensures in (
       lowest_passes _ 65 (c.loop-k.k + 1) (omega arith) (ap (λ (x : ℕ). has x c.args.r.0) (sym e) ∙ sym c.has.ensures ∙ c.if-has.true) ∙ c.loop-k.invariant.4,
-      λ m. levels_next c.args.juniors.now c.args.r.0 c.loop-k.levels c.loop-k.k _ (omega (arith, c.loop-k.invariant.1, c.loop-k-test.true)) c.loop-k.invariant.2 c.loop-k.invariant.3,
+      λ m. levels_next c.args.juniors.now c.args.r.0 c.loop-k.levels c.loop-k.k _ (omega (arith, c.loop-k.invariant.1, c.loop-k-test.true))
+          c.loop-k.invariant.2 c.loop-k.invariant.3,
       search rules,
       omega arith,
     )
@@ -28,7 +29,8 @@ loop-k-preserved c =
       omega arith,
       search rules,
       e,
-      levels_next c.args.juniors.now c.args.r.0 c.loop-k.levels c.loop-k.k _ (omega (arith, c.loop-k.invariant.1, c.loop-k-test.true)) c.loop-k.invariant.2 c.loop-k.invariant.3,
+      levels_next c.args.juniors.now c.args.r.0 c.loop-k.levels c.loop-k.k _ (omega (arith, c.loop-k.invariant.1, c.loop-k-test.true)) c.loop-k.invariant.2
+          c.loop-k.invariant.3,
       lowest_goes _ 65 (c.loop-k.k + 1) (omega arith) (ap (λ (x : ℕ). has x c.args.r.0) (sym e) ∙ sym c.has.ensures ∙ c.if-has.false) ∙ c.loop-k.invariant.4,
     )
 

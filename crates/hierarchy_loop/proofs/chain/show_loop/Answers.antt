@@ -20,8 +20,13 @@ returns-then-roles-r c =
     λ p range ej en. shows_20 p _ _ _ _ _ c.if-chain-ne64.false ej en c.close_first.ensures c.lowest_on_loop-r.ensures c.if-roles-r.true
 
 pub fill_levels_among-n-requires : goal.fill_levels_among-n-requires
-fill_levels_among-n-requires c =
-    (omega (arith, c.if-roles-r.false, c.requires.0), ap length c.close_first.ensures ∙ length_closure _ _ ∙ c.requires.1, c.requires.0, empty_above c.requires.2)
+fill_levels_among-n-requires c = (
+  omega (arith, c.if-roles-r.false, c.requires.0),
+  ap length c.close_first.ensures ∙ length_closure _ _ ∙ c.requires.1,
+  c.requires.0,
+  empty_above
+      c.requires.2,
+)
 
 pub put_chain-requires : goal.put_chain-requires
 put_chain-requires c =

@@ -18,8 +18,14 @@ pub loop-at-smaller-then-end-here : goal.loop-at-smaller-then-end-here
 loop-at-smaller-then-end-here c = omega (arith, c.if-end-here.true, c.loop-at-test.true)
 
 pub loop-at-preserved-then-end-here : goal.loop-at-preserved-then-end-here
-loop-at-preserved-then-end-here c =
-    (omega (arith, c.pass-here.ensures.onward), c.pass-here.ensures.inside _ (omega arith) c.loop-at.invariant.1, c.pass-here.ensures.scanned _ refl ∙ c.loop-at.invariant.2, c.pass-here.ensures.assigned_is ∙ c.loop-at.invariant.3, c.pass-here.ensures.juniors_is ∙ c.loop-at.invariant.4)
+loop-at-preserved-then-end-here c = (
+  omega (arith, c.pass-here.ensures.onward),
+  c.pass-here.ensures.inside _ (omega arith) c.loop-at.invariant.1,
+  c.pass-here.ensures.scanned _ refl ∙
+      c.loop-at.invariant.2,
+  c.pass-here.ensures.assigned_is ∙ c.loop-at.invariant.3,
+  c.pass-here.ensures.juniors_is ∙ c.loop-at.invariant.4,
+)
 
 pub word_at-w-requires : goal.word_at-w-requires
 word_at-w-requires c =
@@ -59,10 +65,13 @@ loop-at-preserved c =
       omega (arith, c.pass-here.ensures.onward, c.members-joined.ensures.onward),
       c.members-joined.ensures.inside _ (omega arith) (omega (arith, c.if-end-here.false)),
       c.members-joined.ensures.scanned _ _ refl
-          ∙ goes _ _ _ _ _ _ _ _ _ _ lt c.word_at-w.ensures refl f _ c.if-step-ne0.false _ _ _ (c.take-step.ensures.0.assigned_is c.if-step-ne0.false) (c.take-step.ensures.1 c.if-step-ne0.false) c.wrapping_add_u32.ensures.value
+          ∙ goes _ _ _ _ _ _ _ _ _ _ lt c.word_at-w.ensures refl f _ c.if-step-ne0.false _ _ _ (c.take-step.ensures.0.assigned_is c.if-step-ne0.false)
+          (c.take-step.ensures.1 c.if-step-ne0.false) c.wrapping_add_u32.ensures.value
           (c.pass-here.ensures.scanned _ refl ∙ c.loop-at.invariant.2),
-      c.members-joined.ensures.folded assigning (λ x y. refl) _ ∙ fold_next _ _ _ _ _ _ _ _ _ lt c.word_at-w.ensures refl (c.take-step.ensures.0.assigned_is c.if-step-ne0.false) (c.pass-here.ensures.assigned_is ∙ c.loop-at.invariant.3),
-      c.members-joined.ensures.folded ordering (λ x y. refl) _ ∙ fold_next _ _ _ _ _ _ _ _ _ lt c.word_at-w.ensures refl (c.take-step.ensures.0.juniors_is c.if-step-ne0.false) (c.pass-here.ensures.juniors_is ∙ c.loop-at.invariant.4),
+      c.members-joined.ensures.folded assigning (λ x y. refl) _ ∙ fold_next _ _ _ _ _ _ _ _ _ lt c.word_at-w.ensures refl
+          (c.take-step.ensures.0.assigned_is c.if-step-ne0.false) (c.pass-here.ensures.assigned_is ∙ c.loop-at.invariant.3),
+      c.members-joined.ensures.folded ordering (λ x y. refl) _ ∙ fold_next _ _ _ _ _ _ _ _ _ lt c.word_at-w.ensures refl
+          (c.take-step.ensures.0.juniors_is c.if-step-ne0.false) (c.pass-here.ensures.juniors_is ∙ c.loop-at.invariant.4),
     )
 
 pub closing-requires : goal.closing-requires

@@ -15,7 +15,8 @@ returns-then-roles-r c = c.loop-place.invariant.1
 pub loop-place-preserved : goal.loop-place-preserved
 loop-place-preserved c = (
   omega (arith, c.loop-place-test.true),
-  gathers_on c.word_at-w.result c.loop-place.invariant.1 (omega arith) (omega (arith, c.loop-place-test.true)) c.word_at-w.ensures (omega arith) c.if-x-key.false
+  gathers_on c.word_at-w.result c.loop-place.invariant.1 (omega arith) (omega (arith, c.loop-place-test.true)) c.word_at-w.ensures (omega arith)
+      c.if-x-key.false
       (omega (arith, c.if-roles-r.false)) c.with-row.ensures c.wrapping_add_u32-total.ensures.value,
 )
 

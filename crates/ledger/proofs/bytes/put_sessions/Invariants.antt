@@ -10,7 +10,8 @@ use Rattle.ledger.proofs.bytes.put_sessions.Given as goal
 
 abbrev pub invariant-loop-k : goal.invariant-loop-k
 invariant-loop-k l =
-    (l.k ≤ SESSIONS) × (l.s ≡ splice l.initial.s l.at (write_sessions (take l.k l.sessions))) × (length l.s ≡ length l.initial.s) × (length l.sessions ≡ SESSIONS)
+    (l.k ≤ SESSIONS) × (l.s ≡ splice l.initial.s l.at (write_sessions (take l.k l.sessions))) × (length l.s ≡ length l.initial.s) ×
+    (length l.sessions ≡ SESSIONS)
 
 abbrev pub decreases-loop-k : goal.decreases-loop-k
 decreases-loop-k l = SESSIONS - l.k

@@ -13,7 +13,8 @@ loop-k-init c = (omega arith, refl, refl)
 
 pub loop-k-preserved : goal.loop-k-preserved
 loop-k-preserved c =
-    let h = read_next c.args.s.now c.args.at c.loop-k.k c.loop-k.sessions c.session_at-next.result c.loop-k.invariant.2 (omega arith) c.session_at-next.ensures in
+    let h = read_next c.args.s.now c.args.at c.loop-k.k c.loop-k.sessions c.session_at-next.result c.loop-k.invariant.2 (omega arith)
+    c.session_at-next.ensures in
     (omega arith, simp length-set c.loop-k.invariant.1, h)
 
 pub returns : goal.returns

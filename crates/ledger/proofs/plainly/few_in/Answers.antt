@@ -17,7 +17,8 @@ loop-i-init c = (omega arith, length-map c.args.xs.now exclusion_of ∙ c.requir
 pub returns-then-not-fewer : goal.returns-then-not-fewer
 returns-then-not-fewer c =
     let at = c.exclusion_of-x.ensures ∙ sym (row_at c.args.xs.now c.loop-i.i) in
-    listed_stop _ (exclusion_of []) (map exclusion_of c.args.xs.now) c.args.count c.loop-i.i (omega arith) (omega arith) at c.fewer.ensures (not_from_false _ c.if-not-fewer.true)
+    listed_stop _ (exclusion_of []) (map exclusion_of c.args.xs.now) c.args.count c.loop-i.i (omega arith) (omega arith) at c.fewer.ensures
+    (not_from_false _ c.if-not-fewer.true)
     ∙ c.loop-i.invariant.2
 
 pub loop-i-preserved : goal.loop-i-preserved
@@ -25,7 +26,8 @@ loop-i-preserved c =
     let at = c.exclusion_of-x.ensures ∙ sym (row_at c.args.xs.now c.loop-i.i) in (
       omega arith,
       c.loop-i.invariant.1,
-      listed_next _ (exclusion_of []) (map exclusion_of c.args.xs.now) c.args.count c.loop-i.i (omega arith) (omega arith) at c.fewer.ensures (not_from_true _ c.if-not-fewer.false)
+      listed_next _ (exclusion_of []) (map exclusion_of c.args.xs.now) c.args.count c.loop-i.i (omega arith) (omega arith) at c.fewer.ensures
+          (not_from_true _ c.if-not-fewer.false)
           ∙ c.loop-i.invariant.2,
     )
 

@@ -30,5 +30,7 @@ returns-then-not-sessions_sound_in c t m h = not_both false t refl
 
 pub returns : goal.returns
 returns c t m h =
-    plain-line c.args.sessions c.args.roles c.args.authorized (exclusions_in c.args.xs.now c.args.count) c.args.bytes.now c.get_u64-opened.ensures c.get_u64-history.ensures
-    c.below.ensures c.below-2.ensures (not_from_true _ c.if-not-formed.false) c.sessions_sound_in.ensures (not_from_true _ c.if-not-sessions_sound_in.false) c.few_in.ensures t m h
+    plain-line c.args.sessions c.args.roles c.args.authorized (exclusions_in c.args.xs.now c.args.count) c.args.bytes.now c.get_u64-opened.ensures
+    c.get_u64-history.ensures
+    c.below.ensures c.below-2.ensures (not_from_true _ c.if-not-formed.false) c.sessions_sound_in.ensures
+    (not_from_true _ c.if-not-sessions_sound_in.false) c.few_in.ensures t m h

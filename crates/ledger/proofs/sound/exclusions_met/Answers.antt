@@ -31,7 +31,8 @@ pub loop-i-preserved : goal.loop-i-preserved
 loop-i-preserved c =
     let xs = map exclusion_of c.args.xs.now in
     let at = c.exclusion_of-x.ensures ∙ sym (row_at c.args.xs.now c.loop-i.i) in
-    let e = listed_next (met_at c.args.l) (exclusion_of []) xs c.args.count c.loop-i.i (omega arith) (omega arith) at c.met_by_all.ensures (not_from_true _ c.if-not-met_by_all.false) in
+    let e = listed_next (met_at c.args.l) (exclusion_of []) xs c.args.count c.loop-i.i (omega arith) (omega arith) at c.met_by_all.ensures
+    (not_from_true _ c.if-not-met_by_all.false) in
     (omega arith, c.loop-i.invariant.1, c.loop-i.invariant.2, λ m h. e ∙ c.loop-i.invariant.3 m h)
 
 pub returns : goal.returns

@@ -13,7 +13,8 @@ loop-k-init c =
 pub returns-then-not-session_sound : goal.returns-then-not-session_sound
 unfolding empty_session
 returns-then-not-session_sound c m e =
-    sound_stop m _ empty_session _ c.loop-k.k (omega arith) (c.session_sound.ensures m _ e refl refl) (not_from_false _ c.if-not-session_sound.true) ∙ c.loop-k.invariant.2 m e
+    sound_stop m _ empty_session _ c.loop-k.k (omega arith) (c.session_sound.ensures m _ e refl refl) (not_from_false _ c.if-not-session_sound.true) ∙
+    c.loop-k.invariant.2 m e
 
 pub loop-k-preserved : goal.loop-k-preserved
 unfolding empty_session
@@ -21,7 +22,8 @@ loop-k-preserved c = (
   omega arith,
   c.loop-k.invariant.1,
   λ m e.
-      sound-next m _ empty_session _ c.loop-k.k (omega arith) (c.session_sound.ensures m _ e refl refl) (not_from_true _ c.if-not-session_sound.false) ∙ c.loop-k.invariant.2 m e,
+      sound-next m _ empty_session _ c.loop-k.k (omega arith) (c.session_sound.ensures m _ e refl refl) (not_from_true _ c.if-not-session_sound.false) ∙
+      c.loop-k.invariant.2 m e,
 )
 
 pub returns : goal.returns

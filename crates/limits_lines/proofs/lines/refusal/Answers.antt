@@ -26,5 +26,6 @@ lines_refusal-requires c = search rules
 pub returns : goal.returns
 unfolding line_size
 returns c p h l =
-    lines_looked SESSIONS p _ _ _ l c.has_limits.ensures (not_from_true _ c.if-not-has_limits.false) (ap (λ (x : Head). x.users) h.head_is) c.if-ledger-users.false
+    lines_looked SESSIONS p _ _ _ l c.has_limits.ensures (not_from_true _ c.if-not-has_limits.false) (ap (λ (x : Head). x.users) h.head_is)
+    c.if-ledger-users.false
     c.if-users-user.false (c.lines_refusal.ensures p h)

@@ -10,7 +10,8 @@ loop-k-init c = (search rules, search rules, search rules, search rules, refl, �
 pub returns-then-line-to : goal.returns-then-line-to
 returns-then-line-to c =
     record {
-      each = λ j h m. cut_stored c.args.line.now c.loop-k.k _ _ c.loop-k.invariant.4 c.word_end-to.ensures _ _ c.loop-k.invariant.2 c.loop-k.invariant.3 (search rules) c.loop-k.invariant.5 j m;
+      each = λ j h m. cut_stored c.args.line.now c.loop-k.k _ _ c.loop-k.invariant.4 c.word_end-to.ensures _ _ c.loop-k.invariant.2 c.loop-k.invariant.3
+          (search rules) c.loop-k.invariant.5 j m;
       few = λ h. cut_ends c.args.line.now c.loop-k.k _ _ c.loop-k.invariant.4 c.word_end-to.ensures c.if-line-to.true;
       many = λ h. absurd (omega arith);
     }
@@ -22,7 +23,8 @@ loop-k-preserved c = (
   search rules,
   search rules,
   cut_goes_on c.args.line.now c.loop-k.k _ _ c.loop-k.invariant.4 c.word_end-to.ensures c.if-line-to.false,
-  cut_stored c.args.line.now c.loop-k.k _ _ c.loop-k.invariant.4 c.word_end-to.ensures _ _ c.loop-k.invariant.2 c.loop-k.invariant.3 (search rules) c.loop-k.invariant.5,
+  cut_stored c.args.line.now c.loop-k.k _ _ c.loop-k.invariant.4 c.word_end-to.ensures _ _ c.loop-k.invariant.2 c.loop-k.invariant.3 (search rules)
+      c.loop-k.invariant.5,
 )
 
 pub returns : goal.returns
