@@ -96,5 +96,6 @@ column_line w R row t q g columns =
     ∙ lines-one w (carried_one R row q)
 
 pub column_put : {l a : List ℕ} {at r : ℕ} (w R : ℕ) (row : ℕ → ℕ) (t : List ℕ) (q : ℕ)
-    → Puts l at (line_of w (fails (R + q + 1) ∷ roles_in R (get_or t q 0))) a r → Columns R row t → q < 256 → Puts l at (lines_of w (carried_one R row q ∷ [])) a r
+    → Puts l at (line_of w (fails (R + q + 1) ∷ roles_in R (get_or t q 0))) a r
+    → Columns R row t → q < 256 → Puts l at (lines_of w (carried_one R row q ∷ [])) a r
 column_put w R row t q p columns g = puts_as (column_line w R row t q g columns) p

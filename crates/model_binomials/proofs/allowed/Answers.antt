@@ -1,7 +1,5 @@
-use mathlib.Core.Path.{◌≡◌}
-use Prim.Native.Nat.{◌≤◌, ◌-◌}
 use borrow.Author.Rules.{rules}
-use Rattle.model_binomials.specs.Binomial.{binomial, sum_below}
+use Rattle.model_binomials.specs.Binomial.{sum_below}
 use Rattle.model_binomials.proofs.Sums.{turn-next, turn-fits, turn_last}
 use Rattle.model_binomials.proofs.allowed.Goals as goal
 

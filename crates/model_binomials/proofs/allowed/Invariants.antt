@@ -3,9 +3,7 @@
 -- Assumes nothing.
 use mathlib.Core.Path.{◌≡◌}
 use Prim.Native.Nat.{◌≤◌, ◌-◌}
-use borrow.Author.Rules.{rules}
 use Rattle.model_binomials.specs.Binomial.{binomial, sum_below}
-use Rattle.model_binomials.proofs.Sums.{turn-next, turn-fits, turn_last}
 use Rattle.model_binomials.proofs.allowed.Given as goal
 
 abbrev pub invariant-loop-k : goal.invariant-loop-k

@@ -11,7 +11,8 @@ use Rattle.clauses_counter.proofs.counter.put_adding.Given as goal
 
 abbrev pub invariant-loop-j : goal.invariant-loop-j
 invariant-loop-j l =
-    (l.j ≤ l.n - 1) × (length l.out ≡ length l.initial.out) × Puts l.initial.out l.at (lines_of l.w (list_to l.j (λ k. give l.x (l.a + k + 1) (l.a + l.n + k + 2) ∷ []))) l.out l.next
+    (l.j ≤ l.n - 1) × (length l.out ≡ length l.initial.out)
+    × Puts l.initial.out l.at (lines_of l.w (list_to l.j (λ k. give l.x (l.a + k + 1) (l.a + l.n + k + 2) ∷ []))) l.out l.next
 
 abbrev pub decreases-loop-j : goal.decreases-loop-j
 decreases-loop-j l = l.n - 1 - l.j

@@ -12,7 +12,8 @@ use Rattle.clauses_counter.proofs.counter.put_counters.Given as goal
 abbrev pub invariant-loop-i : goal.invariant-loop-i
 invariant-loop-i l =
     (l.i ≤ l.count) × (l.behind ≤ l.a + 274877906880 * l.i) × (length l.out ≡ length l.initial.out)
-    × Along l.initial.out l.at (lines_of l.w (counters l.masks l.ns l.count 0 l.a)) (lines_of l.w (counters l.masks l.ns (l.count - l.i) l.i l.behind)) l.out l.next
+    × Along l.initial.out l.at (lines_of l.w (counters l.masks l.ns l.count 0 l.a))
+    (lines_of l.w (counters l.masks l.ns (l.count - l.i) l.i l.behind)) l.out l.next
 
 abbrev pub decreases-loop-i : goal.decreases-loop-i
 decreases-loop-i l = l.count - l.i

@@ -11,7 +11,8 @@ use Rattle.clauses_counter.proofs.counter.put_keeping.Given as goal
 
 abbrev pub invariant-loop-j : goal.invariant-loop-j
 invariant-loop-j l =
-    (l.j ≤ l.n) × (length l.out ≡ length l.initial.out) × Puts l.initial.out l.at (lines_of l.w (list_to l.j (λ k. gives (l.a + k + 1) (l.a + l.n + k + 1) ∷ []))) l.out l.next
+    (l.j ≤ l.n) × (length l.out ≡ length l.initial.out)
+    × Puts l.initial.out l.at (lines_of l.w (list_to l.j (λ k. gives (l.a + k + 1) (l.a + l.n + k + 1) ∷ []))) l.out l.next
 
 abbrev pub decreases-loop-j : goal.decreases-loop-j
 decreases-loop-j l = l.n - l.j

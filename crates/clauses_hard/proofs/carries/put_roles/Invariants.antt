@@ -12,7 +12,8 @@ use Rattle.clauses_hard.proofs.carries.put_roles.Given as goal
 
 abbrev pub invariant-loop-left : goal.invariant-loop-left
 invariant-loop-left l =
-    (l.left < 2 ^ l.roles) × (length l.out ≡ length l.initial.out) × Along l.initial.out l.at (literals_text (roles_in l.roles l.set)) (literals_text (roles_in l.roles l.left)) l.out l.next
+    (l.left < 2 ^ l.roles) × (length l.out ≡ length l.initial.out)
+    × Along l.initial.out l.at (literals_text (roles_in l.roles l.set)) (literals_text (roles_in l.roles l.left)) l.out l.next
 
 abbrev pub decreases-loop-left : goal.decreases-loop-left
 decreases-loop-left l = count l.roles l.left

@@ -10,7 +10,8 @@ use Rattle.clauses_soft.proofs.soft.put_wanting_permissions.Given as goal
 
 abbrev pub invariant-loop-q : goal.invariant-loop-q
 invariant-loop-q l =
-    (l.q ≤ l.permissions) × (length l.out ≡ length l.initial.out) × Puts l.initial.out l.at (clauses_text (list_to l.q (λ k. wanting l.aim (l.roles + 1) (l.roles + k + 1)))) l.out l.next
+    (l.q ≤ l.permissions) × (length l.out ≡ length l.initial.out)
+    × Puts l.initial.out l.at (clauses_text (list_to l.q (λ k. wanting l.aim (l.roles + 1) (l.roles + k + 1)))) l.out l.next
 
 abbrev pub decreases-loop-q : goal.decreases-loop-q
 decreases-loop-q l = l.permissions - l.q

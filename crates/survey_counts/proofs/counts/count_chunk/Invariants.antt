@@ -1,0 +1,23 @@
+-- Line after line is answered and counted, and the counts in the end stay the same.
+-- Assumes nothing.
+use borrow.Author.Rules.{rules}
+use mathlib.Core.Path.{◌≡◌, refl, ap, ◌∙◌}
+use mathlib.Core.List.{List, ◌++◌}
+use Prim.Native.Nat.{ℕ, ◌+◌, ◌-◌, ◌≤◌, ◌<◌}
+use native.Mathlib.Omega.{arith}
+use lib.ListN.{length, take, drop}
+use Rattle.script_input.specs.Kept.{lines_from}
+use Rattle.script_input.proofs.Steps.{counts as counts-are}
+use Rattle.survey_counts.specs.Counting.{tally, Most}
+use Rattle.survey_counts.proofs.CountLaws.{is_counted, behind_chunk}
+use Rattle.survey_counts.proofs.counts.count_chunk.Given as goal
+
+abbrev pub invariant-loop-next : goal.invariant-loop-next
+invariant-loop-next l =
+    (l.next ≤ length l.chunk) × (l.kept ≤ 174) × (l.calls ≤ l.calls-2 + l.next) × (length l.line ≡ 174) × (length l.line ≡ length l.initial.line)
+    × (length l.ledger ≡ length l.initial.ledger) × (length l.counts ≡ 256) × Most l.counts l.calls
+    × ((more : List ℕ) → tally l.image l.initial.ledger l.initial.counts (lines_from (take l.kept-2 l.initial.line) (l.chunk ++ more))
+    ≡ tally l.image l.ledger l.counts (lines_from (take l.kept l.line) (drop l.next l.chunk ++ more)))
+
+abbrev pub decreases-loop-next : goal.decreases-loop-next
+decreases-loop-next l = length l.chunk - l.next
