@@ -10,7 +10,7 @@ use Rattle.model.specs.declared.Head.{Head}
 use Rattle.model.specs.declared.Exclusions.{Exclusions}
 use Rattle.model.specs.declared.Line.{Line}
 use Rattle.model.specs.Bytes.{bytes_of}
-use Rattle.model.specs.Policy.{Policy, authorized, meaning}
+use Rattle.model.specs.Policy.{Policy, meaning}
 use Rattle.model.specs.Line.{SESSIONS, exclusions_met}
 use Rattle.model.specs.Limits.{Others}
 use Rattle.model.specs.Obstacle.{Obstacle, obstacle_of}
