@@ -139,7 +139,8 @@ module _ (j m : ℕ) (right : marks j m ≡ true) where
     pub row_low : has m k ≡ true → low_row j m (get_or a k 0) (get_or a (k + j) 0) ≡ exchanged j m a k
     unfolding low_row exchanged
     row_low e =
-        set_of_same (λ c. pick (has m c) (has (get_or a k 0) c) (has (get_or a (k + j) 0) (c - j))) (λ c. bit_at a (source j m (record { row = k; bit = c }))) 64
+        set_of_same (λ c. pick (has m c) (has (get_or a k 0) c) (has (get_or a (k + j) 0) (c - j))) (λ c. bit_at a
+        (source j m (record { row = k; bit = c }))) 64
         (λ c h. go c (has m c) refl)
       where
         go : (c : ℕ) (b : Bool) → has m c ≡ b
@@ -150,7 +151,8 @@ module _ (j m : ℕ) (right : marks j m ≡ true) where
     pub row_high : has m k ≡ false → high_row j m (get_or a k 0) (get_or a (k - j) 0) ≡ exchanged j m a k
     unfolding high_row exchanged
     row_high e =
-        set_of_same (λ c. pick (has m c) (has (get_or a (k - j) 0) (c + j)) (has (get_or a k 0) c)) (λ c. bit_at a (source j m (record { row = k; bit = c }))) 64
+        set_of_same (λ c. pick (has m c) (has (get_or a (k - j) 0) (c + j)) (has (get_or a k 0) c)) (λ c. bit_at a
+        (source j m (record { row = k; bit = c }))) 64
         (λ c h. go c (has m c) refl)
       where
         go : (c : ℕ) (b : Bool) → has m c ≡ b

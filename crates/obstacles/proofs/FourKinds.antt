@@ -89,7 +89,8 @@ module _ (p : Policy) (u : ℕ) (x : Others) (l : Line) (k : ℕ) (granted below
     -- ---- what code tells of the kinds 1 to 3
     module _ (f : Found) (q : (p : Policy) (u : ℕ) (x : Others) (l : Line) (k : ℕ) → granted ≡ p.granted → below ≡ below_table p
         → (meaning p u).authorized ≡ own → (unbarred (meaning p u) x l k).authorized ≡ free → Carry (meaning p u) own (rows_of rows)
-        → found_of f ≡ or_else (own_lacks (meaning p u) lower) (or_else (upper_lacks (meaning p u) lower upper) (limit_lacks (meaning p u) x l k lower upper))) where
+        → found_of f ≡ or_else (own_lacks (meaning p u) lower) (or_else (upper_lacks (meaning p u) lower upper)
+        (limit_lacks (meaning p u) x l k lower upper))) where
       three_is : found_of f ≡ three
       three_is = q p u x l k g.granted_is g.below_is own_are g.free_is carry
 

@@ -18,4 +18,5 @@ pub record Blocks (p : Policy) (u : ℕ) (x : Others) (l : Line) (k lower upper 
 -- the mask of row j has the members of its exclusion that do not stay counted for session k
 abbrev pub ReducedAt : List (List ℕ) → List ℕ → Line → ℕ → ℕ → Type 0
 ReducedAt rows masks l k j =
-    get_or masks j 0 ≡ mask_of (get_or (map exclusion_of rows) j (exclusion_of [])).members (stays l k (get_or (map exclusion_of rows) j (exclusion_of [])).kind)
+    get_or masks j 0 ≡ mask_of (get_or (map exclusion_of rows) j (exclusion_of [])).members (stays l k
+    (get_or (map exclusion_of rows) j (exclusion_of [])).kind)

@@ -116,7 +116,8 @@ members-next d (suc e) s t h =
     ∙ append_assoc (members_to d s) (map (λ j. d + j) (members_to e t)) (pick (has t e) ((d + e) ∷ []) [])
     ∙ ap (λ (l : List ℕ). members_to d s ++ l) (last (has t e) ∙ sym (map-append (λ j. d + j) (members_to e t) (pick (has t e) (e ∷ []) [])))
   where
-    last : (b : Bool) → map (λ j. d + j) (members_to e t) ++ pick b ((d + e) ∷ []) [] ≡ map (λ j. d + j) (members_to e t) ++ map (λ j. d + j) (pick b (e ∷ []) [])
+    last : (b : Bool) → map (λ j. d + j) (members_to e t) ++ pick b ((d + e) ∷ []) [] ≡ map (λ j. d + j) (members_to e t) ++ map (λ j. d + j)
+        (pick b (e ∷ []) [])
     last true = unfold pick in refl
     last false = unfold pick in refl
 

@@ -65,7 +65,8 @@ pair_next kind rows i h = record {
 
 -- the words of the grants of role r, and those of the roles behind it
 pub grants-next : (rows : List (List ℕ)) (r : ℕ) → r < length (values rows)
-    → Begins (table_words grant_word 256 (values rows) r) (row_words grant_word 256 r (value (get_or rows r []))) (table_words grant_word 256 (values rows) (r + 1))
+    → Begins (table_words grant_word 256 (values rows) r) (row_words grant_word 256 r (value (get_or rows r [])))
+    (table_words grant_word 256 (values rows) (r + 1))
 grants-next rows r h = record {
   is =
       table_next grant_word 256 (values rows) r h

@@ -20,8 +20,10 @@ use Rattle.asks_obstacle.proofs.ask_obstacle.Goals as goal
 
 pub returns-then-n-ne0 : goal.returns-then-n-ne0
 returns-then-n-ne0 c p lower upper h g j l e =
-    let unaimed : (p : Policy) → Known c.args.request.sizes.head c.args.authorized.now (exclusions_in c.args.xs.now c.args.request.sizes.count) p → p.limits ≡ c.args.limits.now
-    → c.limited_refusal-n.result ≡ limited_refusal SESSIONS p c.args.ledger.now c.args.request.who.user c.args.request.who.session c.args.request.bounds.sized (value c.args.request.bounds.lower)
+    let unaimed : (p : Policy) → Known c.args.request.sizes.head c.args.authorized.now (exclusions_in c.args.xs.now c.args.request.sizes.count) p →
+    p.limits ≡ c.args.limits.now
+    → c.limited_refusal-n.result ≡ limited_refusal SESSIONS p c.args.ledger.now c.args.request.who.user c.args.request.who.session
+    c.args.request.bounds.sized (value c.args.request.bounds.lower)
     (value c.args.request.bounds.upper) 0 0 40 =
     (λ p h l. rw (c.requires.4, c.requires.5) at (c.limited_refusal-n.ensures p h l)) in
     obstacle_refused _ _ _ _ _ lower upper _ _ _ (unaimed p h l ∙ limited-of _ _ _ _ _ e _ _ _ _ _ _ _ _) c.if-n-ne0.true
@@ -29,58 +31,73 @@ returns-then-n-ne0 c p lower upper h g j l e =
 pub returns-then-roles-ne16 : goal.returns-then-roles-ne16
 unfolding is_ask
 returns-then-roles-ne16 c p lower upper h g j l e =
-    let unaimed : (p : Policy) → Known c.args.request.sizes.head c.args.authorized.now (exclusions_in c.args.xs.now c.args.request.sizes.count) p → p.limits ≡ c.args.limits.now
-    → c.limited_refusal-n.result ≡ limited_refusal SESSIONS p c.args.ledger.now c.args.request.who.user c.args.request.who.session c.args.request.bounds.sized (value c.args.request.bounds.lower)
+    let unaimed : (p : Policy) → Known c.args.request.sizes.head c.args.authorized.now (exclusions_in c.args.xs.now c.args.request.sizes.count) p →
+    p.limits ≡ c.args.limits.now
+    → c.limited_refusal-n.result ≡ limited_refusal SESSIONS p c.args.ledger.now c.args.request.who.user c.args.request.who.session
+    c.args.request.bounds.sized (value c.args.request.bounds.lower)
     (value c.args.request.bounds.upper) 0 0 40 =
     (λ p h l. rw (c.requires.4, c.requires.5) at (c.limited_refusal-n.ensures p h l)) in
     let w : Passed SESSIONS c.args.request.sizes.head c.args.authorized.now (exclusions_in c.args.xs.now c.args.request.sizes.count) c.args.limits.now
-    c.args.ledger.now c.args.request.who.user c.args.request.who.session c.args.request.bounds.sized (value c.args.request.bounds.lower) (value c.args.request.bounds.upper) 0 0 40 =
+    c.args.ledger.now c.args.request.who.user c.args.request.who.session c.args.request.bounds.sized (value c.args.request.bounds.lower)
+    (value c.args.request.bounds.upper) 0 0 40 =
     passes _ _ _ _ _ _ _ _ _ _ _ _ _ _ _ unaimed c.if-n-ne0.false in
     let k = call SESSIONS p c.args.ledger.now c.args.request.who.user c.args.request.who.session lower upper (length c.args.roles.now) in
     obstacle_room SESSIONS p _ _ _ _ _ _ (w.ready p h l lower upper e) (w.quiet p h l k refl refl) c.if-roles-ne16.true _
 
 pub roles_left-free-requires : goal.roles_left-free-requires
 roles_left-free-requires c =
-    let unaimed : (p : Policy) → Known c.args.request.sizes.head c.args.authorized.now (exclusions_in c.args.xs.now c.args.request.sizes.count) p → p.limits ≡ c.args.limits.now
-    → c.limited_refusal-n.result ≡ limited_refusal SESSIONS p c.args.ledger.now c.args.request.who.user c.args.request.who.session c.args.request.bounds.sized (value c.args.request.bounds.lower)
+    let unaimed : (p : Policy) → Known c.args.request.sizes.head c.args.authorized.now (exclusions_in c.args.xs.now c.args.request.sizes.count) p →
+    p.limits ≡ c.args.limits.now
+    → c.limited_refusal-n.result ≡ limited_refusal SESSIONS p c.args.ledger.now c.args.request.who.user c.args.request.who.session
+    c.args.request.bounds.sized (value c.args.request.bounds.lower)
     (value c.args.request.bounds.upper) 0 0 40 =
     (λ p h l. rw (c.requires.4, c.requires.5) at (c.limited_refusal-n.ensures p h l)) in
     let w : Passed SESSIONS c.args.request.sizes.head c.args.authorized.now (exclusions_in c.args.xs.now c.args.request.sizes.count) c.args.limits.now
-    c.args.ledger.now c.args.request.who.user c.args.request.who.session c.args.request.bounds.sized (value c.args.request.bounds.lower) (value c.args.request.bounds.upper) 0 0 40 =
+    c.args.ledger.now c.args.request.who.user c.args.request.who.session c.args.request.bounds.sized (value c.args.request.bounds.lower)
+    (value c.args.request.bounds.upper) 0 0 40 =
     passes _ _ _ _ _ _ _ _ _ _ _ _ _ _ _ unaimed c.if-n-ne0.false in
     search rules
 
 pub roles_of-own-requires : goal.roles_of-own-requires
 roles_of-own-requires c =
-    let unaimed : (p : Policy) → Known c.args.request.sizes.head c.args.authorized.now (exclusions_in c.args.xs.now c.args.request.sizes.count) p → p.limits ≡ c.args.limits.now
-    → c.limited_refusal-n.result ≡ limited_refusal SESSIONS p c.args.ledger.now c.args.request.who.user c.args.request.who.session c.args.request.bounds.sized (value c.args.request.bounds.lower)
+    let unaimed : (p : Policy) → Known c.args.request.sizes.head c.args.authorized.now (exclusions_in c.args.xs.now c.args.request.sizes.count) p →
+    p.limits ≡ c.args.limits.now
+    → c.limited_refusal-n.result ≡ limited_refusal SESSIONS p c.args.ledger.now c.args.request.who.user c.args.request.who.session
+    c.args.request.bounds.sized (value c.args.request.bounds.lower)
     (value c.args.request.bounds.upper) 0 0 40 =
     (λ p h l. rw (c.requires.4, c.requires.5) at (c.limited_refusal-n.ensures p h l)) in
     let w : Passed SESSIONS c.args.request.sizes.head c.args.authorized.now (exclusions_in c.args.xs.now c.args.request.sizes.count) c.args.limits.now
-    c.args.ledger.now c.args.request.who.user c.args.request.who.session c.args.request.bounds.sized (value c.args.request.bounds.lower) (value c.args.request.bounds.upper) 0 0 40 =
+    c.args.ledger.now c.args.request.who.user c.args.request.who.session c.args.request.bounds.sized (value c.args.request.bounds.lower)
+    (value c.args.request.bounds.upper) 0 0 40 =
     passes _ _ _ _ _ _ _ _ _ _ _ _ _ _ _ unaimed c.if-n-ne0.false in
     search rules
 
 pub found_for-requires : goal.found_for-requires
 found_for-requires c =
-    let unaimed : (p : Policy) → Known c.args.request.sizes.head c.args.authorized.now (exclusions_in c.args.xs.now c.args.request.sizes.count) p → p.limits ≡ c.args.limits.now
-    → c.limited_refusal-n.result ≡ limited_refusal SESSIONS p c.args.ledger.now c.args.request.who.user c.args.request.who.session c.args.request.bounds.sized (value c.args.request.bounds.lower)
+    let unaimed : (p : Policy) → Known c.args.request.sizes.head c.args.authorized.now (exclusions_in c.args.xs.now c.args.request.sizes.count) p →
+    p.limits ≡ c.args.limits.now
+    → c.limited_refusal-n.result ≡ limited_refusal SESSIONS p c.args.ledger.now c.args.request.who.user c.args.request.who.session
+    c.args.request.bounds.sized (value c.args.request.bounds.lower)
     (value c.args.request.bounds.upper) 0 0 40 =
     (λ p h l. rw (c.requires.4, c.requires.5) at (c.limited_refusal-n.ensures p h l)) in
     let w : Passed SESSIONS c.args.request.sizes.head c.args.authorized.now (exclusions_in c.args.xs.now c.args.request.sizes.count) c.args.limits.now
-    c.args.ledger.now c.args.request.who.user c.args.request.who.session c.args.request.bounds.sized (value c.args.request.bounds.lower) (value c.args.request.bounds.upper) 0 0 40 =
+    c.args.ledger.now c.args.request.who.user c.args.request.who.session c.args.request.bounds.sized (value c.args.request.bounds.lower)
+    (value c.args.request.bounds.upper) 0 0 40 =
     passes _ _ _ _ _ _ _ _ _ _ _ _ _ _ _ unaimed c.if-n-ne0.false in
     search rules
 
 pub returns : goal.returns
 unfolding is_ask
 returns c p lower upper h g j l e =
-    let unaimed : (p : Policy) → Known c.args.request.sizes.head c.args.authorized.now (exclusions_in c.args.xs.now c.args.request.sizes.count) p → p.limits ≡ c.args.limits.now
-    → c.limited_refusal-n.result ≡ limited_refusal SESSIONS p c.args.ledger.now c.args.request.who.user c.args.request.who.session c.args.request.bounds.sized (value c.args.request.bounds.lower)
+    let unaimed : (p : Policy) → Known c.args.request.sizes.head c.args.authorized.now (exclusions_in c.args.xs.now c.args.request.sizes.count) p →
+    p.limits ≡ c.args.limits.now
+    → c.limited_refusal-n.result ≡ limited_refusal SESSIONS p c.args.ledger.now c.args.request.who.user c.args.request.who.session
+    c.args.request.bounds.sized (value c.args.request.bounds.lower)
     (value c.args.request.bounds.upper) 0 0 40 =
     (λ p h l. rw (c.requires.4, c.requires.5) at (c.limited_refusal-n.ensures p h l)) in
     let w : Passed SESSIONS c.args.request.sizes.head c.args.authorized.now (exclusions_in c.args.xs.now c.args.request.sizes.count) c.args.limits.now
-    c.args.ledger.now c.args.request.who.user c.args.request.who.session c.args.request.bounds.sized (value c.args.request.bounds.lower) (value c.args.request.bounds.upper) 0 0 40 =
+    c.args.ledger.now c.args.request.who.user c.args.request.who.session c.args.request.bounds.sized (value c.args.request.bounds.lower)
+    (value c.args.request.bounds.upper) 0 0 40 =
     passes _ _ _ _ _ _ _ _ _ _ _ _ _ _ _ unaimed c.if-n-ne0.false in
     let k = call SESSIONS p c.args.ledger.now c.args.request.who.user c.args.request.who.session lower upper (length c.args.roles.now) in
     let y = w.ready p h l lower upper e in

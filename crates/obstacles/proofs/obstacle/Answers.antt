@@ -9,5 +9,6 @@ returns-in_default c p u x g =
 
 pub returns : goal.returns
 returns c p u x g =
-    told_fourth p u x _ _ _ _ _ _ _ _ g c.lacked_by_any-found.ensures.0 c.fill_carried.ensures _ _ _ c.lacked_by_any-found.ensures.2 c.in-Nothing.is c.lacked_by_any-found.ensures.1 _
+    told_fourth p u x _ _ _ _ _ _ _ _ g c.lacked_by_any-found.ensures.0 c.fill_carried.ensures _ _ _ c.lacked_by_any-found.ensures.2 c.in-Nothing.is
+    c.lacked_by_any-found.ensures.1 _
     (c.blocked.ensures p u x (asked p u x _ _ _ _ _ _ _ _ g c.lacked_by_any-found.ensures.0 c.fill_carried.ensures))

@@ -31,11 +31,13 @@ pub returns-then-count-eq1 : goal.returns-then-count-eq1
 unfolding exclusions_in
 returns-then-count-eq1 c p u x g e =
     let n : length c.args.l.sessions ≡ 8 = omega arith in
-    let all = found_all p u x c.args.l c.args.k _ _ _ c.args.xs.now _ _ _ c.args.count _ g c.reduce-reduced.ensures.1 (omega arith) (omega (arith, c.requires.2)) c.ranges.authorized.fits
+    let all = found_all p u x c.args.l c.args.k _ _ _ c.args.xs.now _ _ _ c.args.count _ g c.reduce-reduced.ensures.1 (omega arith)
+    (omega (arith, c.requires.2)) c.ranges.authorized.fits
     c.usable-free.ensures _ _ c.left_with.ensures c.if-left_with.false in
     c.told_at.ensures _ _ (c.reduce-reduced.ensures.1.members (exclusion_of []) 0 (omega arith))
     ∙ ap (blocks _ _)
-    (found_only p u x c.args.l c.args.k _ _ _ c.args.xs.now _ _ _ c.args.count _ g c.reduce-reduced.ensures.1 (omega arith) (omega (arith, c.requires.2)) c.ranges.authorized.fits
+    (found_only p u x c.args.l c.args.k _ _ _ c.args.xs.now _ _ _ c.args.count _ g c.reduce-reduced.ensures.1 (omega arith) (omega (arith, c.requires.2))
+    c.ranges.authorized.fits
     c.usable-free.ensures (omega arith) e all)
 
 pub first_blocking-requires : goal.first_blocking-requires
@@ -46,9 +48,11 @@ pub returns : goal.returns
 returns c p u x g e =
     let n : length c.args.l.sessions ≡ 8 = omega arith in
     blocks_ordered p u x _ _ _ _ _
-    (c.first_blocking.ensures (ordered p) u x _ _ c.ranges.authorized.fits (asked_ordered p u x c.args.l c.args.k 0 0 _ c.args.xs.now _ c.args.count _ _ c.sort-n.ensures.0 g)
+    (c.first_blocking.ensures (ordered p) u x _ _ c.ranges.authorized.fits (asked_ordered p u x c.args.l c.args.k 0 0 _ c.args.xs.now _ c.args.count _ _
+    c.sort-n.ensures.0 g)
     c.usable-free.ensures (none_ordered p u x _ _ _ _ e)
     (all_ordered p u x _ _ _ _ false
     (leaves_sorted p u x _ _ _ _ false
-    (found_all p u x c.args.l c.args.k _ _ _ c.args.xs.now _ _ _ c.args.count _ g c.reduce-reduced.ensures.1 (omega arith) (omega (arith, c.requires.2)) c.ranges.authorized.fits
+    (found_all p u x c.args.l c.args.k _ _ _ c.args.xs.now _ _ _ c.args.count _ g c.reduce-reduced.ensures.1 (omega arith) (omega (arith, c.requires.2))
+    c.ranges.authorized.fits
     c.usable-free.ensures _ _ c.left_with.ensures c.if-left_with.false))))

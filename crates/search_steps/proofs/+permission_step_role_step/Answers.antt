@@ -30,7 +30,8 @@ role_step-loop-left-smaller-then-not-reduced_met t c =
 
 pub role_step-loop-left-preserved-then-not-reduced_met : goal.role_step-loop-left-preserved-then-not-reduced_met
 role_step-loop-left-preserved-then-not-reduced_met t c =
-    trying_off (task_of c.args.rows.now c.args.masks.now c.args.ns.now c.args.job) (met_less c.args.masks.now c.args.ns.now c.args.job.count) _ _ _ _ c.loop-left.left _ _ c.loop-left.invariant _ _ _ _ _
+    trying_off (task_of c.args.rows.now c.args.masks.now c.args.ns.now c.args.job) (met_less c.args.masks.now c.args.ns.now c.args.job.count) _ _ _ _
+    c.loop-left.left _ _ c.loop-left.invariant _ _ _ _ _
     c.lowest-role.ensures.member c.without-rest.ensures c.without-less.ensures c.with-more.ensures c.reduced_met.ensures
     c.if-not-reduced_met.true
 
@@ -40,7 +41,8 @@ role_step-loop-left-smaller-then-no_worse t c =
 
 pub role_step-loop-left-preserved-then-no_worse : goal.role_step-loop-left-preserved-then-no_worse
 role_step-loop-left-preserved-then-no_worse t c =
-    trying_on (task_of c.args.rows.now c.args.masks.now c.args.ns.now c.args.job) (met_less c.args.masks.now c.args.ns.now c.args.job.count) _ _ _ _ c.loop-left.left _ _ c.loop-left.invariant _ _ _ _ _
+    trying_on (task_of c.args.rows.now c.args.masks.now c.args.ns.now c.args.job) (met_less c.args.masks.now c.args.ns.now c.args.job.count) _ _ _ _
+    c.loop-left.left _ _ c.loop-left.invariant _ _ _ _ _
     c.lowest-role.ensures.member c.without-rest.ensures c.without-less.ensures c.with-more.ensures c.reduced_met.ensures _
     (gives_up (task_of c.args.rows.now c.args.masks.now c.args.ns.now c.args.job) _ _ _ _ _ _
     (ready_more (task_of c.args.rows.now c.args.masks.now c.args.ns.now c.args.job) _ _ _ _ c.requires.0 _ _ _ _ c.lowest-role.ensures.small c.with-more.ensures
@@ -53,7 +55,8 @@ role_step-loop-left-smaller-then-perm_within t c =
 
 pub role_step-loop-left-preserved-then-perm_within : goal.role_step-loop-left-preserved-then-perm_within
 role_step-loop-left-preserved-then-perm_within t c =
-    trying_on (task_of c.args.rows.now c.args.masks.now c.args.ns.now c.args.job) (met_less c.args.masks.now c.args.ns.now c.args.job.count) _ _ _ _ c.loop-left.left _ _ c.loop-left.invariant _ _ _ _ _
+    trying_on (task_of c.args.rows.now c.args.masks.now c.args.ns.now c.args.job) (met_less c.args.masks.now c.args.ns.now c.args.job.count) _ _ _ _
+    c.loop-left.left _ _ c.loop-left.invariant _ _ _ _ _
     c.lowest-role.ensures.member c.without-rest.ensures c.without-less.ensures c.with-more.ensures c.reduced_met.ensures _
     (reaches (task_of c.args.rows.now c.args.masks.now c.args.ns.now c.args.job) _ _ _ _ _ _
     (ready_more (task_of c.args.rows.now c.args.masks.now c.args.ns.now c.args.job) _ _ _ _ c.requires.0 _ _ _ _ c.lowest-role.ensures.small c.with-more.ensures
@@ -73,7 +76,8 @@ role_step-permission_step-next-requires t c =
         wanted_less (value c.args.job.lower) (value c.args.node.carried) _ (value c.perm_union-sum.result) c.perm_union-sum.ensures,
       ),
       (
-        (ready_more (task_of c.args.rows.now c.args.masks.now c.args.ns.now c.args.job) _ _ _ _ c.requires.0 _ _ _ _ c.lowest-role.ensures.small c.with-more.ensures
+        (ready_more (task_of c.args.rows.now c.args.masks.now c.args.ns.now c.args.job) _ _ _ _ c.requires.0 _ _ _ _ c.lowest-role.ensures.small
+            c.with-more.ensures
             c.perm_union-sum.ensures refl c.reduced_met.ensures c.if-not-reduced_met.false),
         c.requires.1,
         turned_sub (rows_of c.args.rows.now) c.args.turned.now (value c.args.job.lower) c.args.node.free _ c.requires.3
@@ -87,7 +91,8 @@ role_step-loop-left-smaller t c =
 
 pub role_step-loop-left-preserved : goal.role_step-loop-left-preserved
 role_step-loop-left-preserved t c =
-    trying_on (task_of c.args.rows.now c.args.masks.now c.args.ns.now c.args.job) (met_less c.args.masks.now c.args.ns.now c.args.job.count) _ _ _ _ c.loop-left.left _ _ c.loop-left.invariant _ _ _ _ _
+    trying_on (task_of c.args.rows.now c.args.masks.now c.args.ns.now c.args.job) (met_less c.args.masks.now c.args.ns.now c.args.job.count) _ _ _ _
+    c.loop-left.left _ _ c.loop-left.invariant _ _ _ _ _
     c.lowest-role.ensures.member c.without-rest.ensures c.without-less.ensures c.with-more.ensures c.reduced_met.ensures _
     (c.permission_step-next.ensures (sym c.perm_within.ensures ∙ c.if-perm_within.false))
 

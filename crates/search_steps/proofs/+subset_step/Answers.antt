@@ -38,7 +38,8 @@ subset_step-next-requires t c =
             c.without-less.ensures,
       ),
       (
-        ready_more (task_of c.args.rows.now c.args.masks.now c.args.ns.now c.args.job) _ _ _ _ c.requires.0 _ _ _ _ low.small c.with-wider.ensures c.perm_union-sum.ensures refl
+        ready_more (task_of c.args.rows.now c.args.masks.now c.args.ns.now c.args.job) _ _ _ _ c.requires.0 _ _ _ _ low.small c.with-wider.ensures
+            c.perm_union-sum.ensures refl
             c.reduced_met.ensures c.if-not-reduced_met.false,
         reaches_sub _ _ c.args.node.free _
             (less_free c.args.node.free c.loop-left.left c.lowest-role.result.0 _ inside low.member c.without-less.ensures) c.requires.1,

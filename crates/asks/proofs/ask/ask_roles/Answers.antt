@@ -41,7 +41,8 @@ returns c p lower upper h g j l e =
     (value c.args.request.bounds.upper) c.args.request.first c.args.request.second (length c.args.answer.now) =
     passes _ _ _ _ _ _ _ _ _ _ _ _ _ _ _ c.limited_refusal-n.ensures c.if-n-ne0.false in
     let r = w.ready p h l lower upper e in
-    let k = call SESSIONS p c.args.ledger.now c.args.request.who.user c.args.request.who.session lower upper c.args.request.first c.args.request.second (length c.args.answer.now) in
+    let k = call SESSIONS p c.args.ledger.now c.args.request.who.user c.args.request.who.session lower upper c.args.request.first c.args.request.second
+    (length c.args.answer.now) in
     answers_searched p _ _ _ _ _ _ _ _ _ _ _ _ _ _ r (w.quiet p h l k refl refl) (e.lower-is w.lengths) (e.upper_is w.lengths)
     (c.put_best-reply.ensures p (told SESSIONS p c.args.ledger.now k)
     (searched_of p _ _ _ _ _ _ _ _ k refl h g j (c.roles_left-own.ensures p _ h l) r.first))

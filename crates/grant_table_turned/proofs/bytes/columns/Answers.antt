@@ -7,7 +7,13 @@ use Rattle.octets.specs.Splice.{number_at}
 use Rattle.grant_table_turned.proofs.bytes.columns.Goals as goal
 
 pub loop-r-init : goal.loop-r-init
-loop-r-init c = (search rules, (search rules, λ i h. absurd (omega arith)), (search rules, λ i h. absurd (omega arith)), (search rules, λ i h. absurd (omega arith)), (search rules, λ i h. absurd (omega arith)))
+loop-r-init c = (
+  search rules,
+  (search rules, λ i h. absurd (omega arith)),
+  (search rules, λ i h. absurd (omega arith)),
+  (search rules, λ i h. absurd (omega arith)),
+  (search rules, λ i h. absurd (omega arith)),
+)
 
 pub loop-r-preserved : goal.loop-r-preserved
 loop-r-preserved c =
@@ -32,4 +38,11 @@ loop-r-preserved c =
     )
 
 pub returns : goal.returns
-returns c = (are_bytes_lem c.args.source.now (λ i h. omega (arith, c.type_inv.source i)), λ r h. c.loop-r.invariant.1.1 r (omega arith), λ r h. c.loop-r.invariant.2.1 r (omega arith), λ r h. c.loop-r.invariant.3.1 r (omega arith), λ r h. c.loop-r.invariant.4.1 r (omega arith))
+returns c = (
+  are_bytes_lem c.args.source.now (λ i h. omega (arith, c.type_inv.source i)),
+  λ r h. c.loop-r.invariant.1.1 r (omega arith),
+  λ r h.
+      c.loop-r.invariant.2.1 r (omega arith),
+  λ r h. c.loop-r.invariant.3.1 r (omega arith),
+  λ r h. c.loop-r.invariant.4.1 r (omega arith),
+)

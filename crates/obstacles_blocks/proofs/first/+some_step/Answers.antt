@@ -43,7 +43,8 @@ some_step-requires t c =
         fewer_free c.args.free c.loop-left.still c.lowest-role.result.0 _ c.ranges.free.fits inv.fewer low.small on c.without-less.ensures,
       ),
       (
-        ready_more (task_of c.args.rows.now c.args.masks.now c.args.ns.now c.args.job) _ _ _ _ c.requires.0 _ _ _ _ low.small c.with-more.ensures c.perm_union-sum.ensures refl
+        ready_more (task_of c.args.rows.now c.args.masks.now c.args.ns.now c.args.job) _ _ _ _ c.requires.0 _ _ _ _ low.small c.with-more.ensures
+            c.perm_union-sum.ensures refl
             c.reduced_met.ensures c.if-not-reduced_met.false,
         turned_sub (rows_of c.args.rows.now) c.args.turned.now (value c.args.job.lower) c.args.free _ c.requires.1
             (less_free c.args.free c.loop-left.still c.lowest-role.result.0 _ inv.fewer on c.without-less.ensures),

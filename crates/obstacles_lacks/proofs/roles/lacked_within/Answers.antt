@@ -10,5 +10,7 @@ returns-in_default c m x l k o f h =
 
 pub returns : goal.returns
 returns c m x l k o f h =
-    or_clear _ _ _ _ c.in-Nothing.is (upper-lacks m x l k _ _ c.args.rows.now _ _ o f c.ranges.own.fits c.ranges.free.fits h _ c.usable-fit.ensures _ (c.lacked-found.ensures m))
-    (limit_lacks_lem m x l k _ _ c.args.rows.now _ _ o f c.ranges.own.fits c.ranges.free.fits h _ c.usable-fit.ensures _ c.usable-left.ensures _ (c.lacked.ensures m))
+    or_clear _ _ _ _ c.in-Nothing.is (upper-lacks m x l k _ _ c.args.rows.now _ _ o f c.ranges.own.fits c.ranges.free.fits h _ c.usable-fit.ensures _
+    (c.lacked-found.ensures m))
+    (limit_lacks_lem m x l k _ _ c.args.rows.now _ _ o f c.ranges.own.fits c.ranges.free.fits h _ c.usable-fit.ensures _ c.usable-left.ensures _
+    (c.lacked.ensures m))

@@ -23,7 +23,8 @@ count_line-requires c =
 
 pub returns : goal.returns
 returns c = (
-  last_counted c.args.image.now c.args.ledger.now c.args.counts.now c.args.line.now c.args.kept _ c.requires.0 c.requires.1 (search rules) c.count_line.ensures.1,
+  last_counted c.args.image.now c.args.ledger.now c.args.counts.now c.args.line.now c.args.kept _ c.requires.0 c.requires.1 (search rules)
+      c.count_line.ensures.1,
   c.count_line.ensures.4,
   c.count_line.ensures.3,
   omega (arith, c.count_line.ensures.0),

@@ -23,5 +23,8 @@ loop-n-preserved c = (
 )
 
 pub returns : goal.returns
-returns c =
-    (puts_as (counts_all (λ k. get_or c.args.counts.now k 0) c.loop-n.n 256 (search rules) (search rules)) c.loop-n.invariant.4, omega (arith, c.loop-n.invariant.1, c.loop-n.invariant.0))
+returns c = (
+  puts_as (counts_all (λ k. get_or c.args.counts.now k 0) c.loop-n.n 256 (search rules) (search rules)) c.loop-n.invariant.4,
+  omega
+      (arith, c.loop-n.invariant.1, c.loop-n.invariant.0),
+)

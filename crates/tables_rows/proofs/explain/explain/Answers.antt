@@ -15,4 +15,5 @@ pub returns : goal.returns
 returns c =
     c.first_carrier.ensures
     ∙ ap (λ (x : ℕ). told (explanation (granter_by (with_selves c.args.below.now) (has x)) c.args.set)) c.holders.ensures
-    ∙ ap (λ (name : ℕ → Option ℕ). told (explanation name c.args.set)) (λ i r. granter_same (with_selves c.args.below.now) (values c.args.granted.now) c.args.p.0 r i)
+    ∙ ap (λ (name : ℕ → Option ℕ). told (explanation name c.args.set)) (λ i r. granter_same (with_selves c.args.below.now) (values c.args.granted.now)
+    c.args.p.0 r i)

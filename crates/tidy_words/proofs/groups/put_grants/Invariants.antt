@@ -11,7 +11,8 @@ use Rattle.tidy_words.proofs.groups.put_grants.Given as goal
 
 abbrev pub invariant-loop-r : goal.invariant-loop-r
 invariant-loop-r l =
-    (l.r ≤ l.n) × Rests (buffer l.initial.out l.initial.c) (table_words grant_word 256 (values l.granted) 0) (buffer l.out l.c) (table_words grant_word 256 (values l.granted) l.r)
+    (l.r ≤ l.n) × Rests (buffer l.initial.out l.initial.c) (table_words grant_word 256 (values l.granted) 0) (buffer l.out l.c)
+    (table_words grant_word 256 (values l.granted) l.r)
 
 abbrev pub decreases-loop-r : goal.decreases-loop-r
 decreases-loop-r l = l.n - l.r

@@ -9,7 +9,8 @@ use Rattle.tidy_words.proofs.groups.put_table.Given as goal
 
 abbrev pub invariant-loop-i : goal.invariant-loop-i
 invariant-loop-i l =
-    (l.i ≤ l.n) × Rests (buffer l.initial.out l.initial.c) (table_words (pair_word l.kind) 64 l.table 0) (buffer l.out l.c) (table_words (pair_word l.kind) 64 l.table l.i)
+    (l.i ≤ l.n) × Rests (buffer l.initial.out l.initial.c) (table_words (pair_word l.kind) 64 l.table 0) (buffer l.out l.c)
+    (table_words (pair_word l.kind) 64 l.table l.i)
 
 abbrev pub decreases-loop-i : goal.decreases-loop-i
 decreases-loop-i l = l.n - l.i
