@@ -21,5 +21,5 @@ show_loop-requires c =
 pub returns : goal.returns
 returns c =
     loop-by _ c.check-c.ensures.0 c.in-Accepted.is
-        (c.show_loop.ensures _ (loop-range _ c.check-c.ensures.0 c.in-Accepted.is) (c.check-c.ensures.1 _ c.in-Accepted.is).1
-        (loop-roles _ c.check-c.ensures.0 c.in-Accepted.is))
+    (c.show_loop.ensures _ (loop-range _ c.check-c.ensures.0 c.in-Accepted.is) (c.check-c.ensures.1 _ c.in-Accepted.is).1
+    (loop-roles _ c.check-c.ensures.0 c.in-Accepted.is))

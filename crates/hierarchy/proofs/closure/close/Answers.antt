@@ -1,11 +1,8 @@
 -- `hierarchy::closure::close` meets its contract.
 -- Assumes nothing.
 use native.Mathlib.Omega.{arith}
-use borrow.Author.Rules.{rules}
 use Rattle.hierarchy.proofs.Closing.{empty_behind}
 use Rattle.hierarchy.proofs.closure.close.Goals as goal
 
 pub close_first-requires : goal.close_first-requires
 close_first-requires c = (c.requires.0, omega arith, c.requires.1, empty_behind 64 c.args.rows.now c.requires.1)
-
--- FIX: took also ['κs']

@@ -1,14 +1,8 @@
 -- `hierarchy::closure::close_first` meets its contract.
 -- Assumes nothing.
 use mathlib.Core.Path.{◌≡◌}
-use Prim.Native.Nat.{ℕ, ◌≤◌, ◌-◌}
-use native.Mathlib.Omega.{arith}
-use mathlib.Core.Path.{ap, ◌∙◌}
-use lib.ListN.{length}
-use native.Mathlib.Nat.{le_antisymm}
+use Prim.Native.Nat.{◌≤◌, ◌-◌}
 use Rattle.model.specs.Policy.{closure_by}
-use Rattle.hierarchy.proofs.Closing.{closure_none, length_closure, empty_closure, closure_next}
-use borrow.Author.Rules.{rules}
 use Rattle.hierarchy.proofs.closure.close_first.Given as goal
 
 abbrev pub invariant-loop-k : goal.invariant-loop-k

@@ -3,7 +3,6 @@
 use Rattle.model.specs.Tests.{pick}
 use Rattle.model.specs.Policy.{taking}
 use mathlib.Core.Path.{sym, ◌∙◌}
-use borrow.Author.Rules.{rules}
 use Rattle.hierarchy.proofs.closure.take_in.Goals as goal
 
 pub returns-then-has : goal.returns-then-has

@@ -1,8 +1,6 @@
-use mathlib.Core.Path.{◌≡◌, refl}
-use Prim.Native.Nat.{◌≤◌, ◌-◌}
+use mathlib.Core.Path.{refl}
 use native.Mathlib.Omega.{arith}
-use Rattle.model.specs.Policy.{taking}
-use Rattle.hierarchy.proofs.Closing.{map_to, map_to_none, row_taken, all_taken, passed_over}
+use Rattle.hierarchy.proofs.Closing.{map_to_none, row_taken, all_taken, passed_over}
 use borrow.Author.Rules.{rules}
 use Rattle.hierarchy.proofs.closure.through_first.Goals as goal
 

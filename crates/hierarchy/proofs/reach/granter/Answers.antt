@@ -2,7 +2,6 @@
 -- Assumes nothing.
 use mathlib.Core.Path.{ap, ◌∙◌}
 use Prim.Native.Nat.{ℕ}
-use borrow.Author.Rules.{rules}
 use Rattle.model.specs.Sets.{inter}
 use Rattle.hierarchy.specs.Names.{name_of}
 use Rattle.hierarchy.proofs.Naming.{granter_by_lem, granter-nobody}

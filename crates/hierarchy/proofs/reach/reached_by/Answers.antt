@@ -1,9 +1,7 @@
 use mathlib.Core.Path.{refl, ap, ◌∙◌}
-use lib.ListN.{get_or}
 use borrow.Author.Rules.{rules}
-use Rattle.model.specs.Sets.{union, count, union_at}
-use Rattle.model.specs.Policy.{with_selves}
-use Rattle.sets.proofs.Unions.{Joins, joins_start, joins_next, joins_less, joins_end}
+use Rattle.model.specs.Sets.{union, union_at}
+use Rattle.sets.proofs.Unions.{joins_start, joins_next, joins_less, joins_end}
 use Rattle.hierarchy.proofs.reach.reached_by.Goals as goal
 
 pub loop-left-init : goal.loop-left-init

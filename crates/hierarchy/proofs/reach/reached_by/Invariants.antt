@@ -1,12 +1,10 @@
 -- `hierarchy::reach::reached_by` meets its contract. The loop's invariant: the roles so far are joined, those of the
 -- members to come are not.
 -- Assumes nothing.
-use mathlib.Core.Path.{refl, ap, ◌∙◌}
 use lib.ListN.{get_or}
-use borrow.Author.Rules.{rules}
-use Rattle.model.specs.Sets.{union, count, union_at}
+use Rattle.model.specs.Sets.{count}
 use Rattle.model.specs.Policy.{with_selves}
-use Rattle.sets.proofs.Unions.{Joins, joins_start, joins_next, joins_less, joins_end}
+use Rattle.sets.proofs.Unions.{Joins}
 use Rattle.hierarchy.proofs.reach.reached_by.Given as goal
 
 abbrev pub invariant-loop-left : goal.invariant-loop-left

@@ -1,6 +1,5 @@
 -- `sessions_change::close::close_session` meets its contract: each return names the tests that led there.
 -- Assumes nothing.
--- where the line is sound
 use mathlib.Core.Path.{refl, sym, ◌∙◌}
 use Rattle.model.specs.Line.{SESSIONS}
 use Rattle.model.specs.Session.{is_ask, can_give, session_of}

@@ -1,6 +1,5 @@
 -- `sessions_change::open::open_session` meets its contract: each return names the tests that led there.
 -- Assumes nothing.
--- where the line is sound
 use mathlib.Core.Path.{refl}
 use Prim.Native.Nat.{◌^◌, ◌<◌}
 use native.Mathlib.Omega.{arith}
@@ -21,7 +20,7 @@ line_of-l-requires c =
     let a = c.args in
     let pd : Passed SESSIONS a.sizes.head a.authorized.now (exclusions_in a.xs.now a.sizes.count) a.ledger.now a.user = passes _ _ _ _ _ _ _
     c.first_refusal-n.ensures c.if-n-ne0.false in
-    pd.line
+    omega (arith, pd.line)
 
 pub returns-then-size : goal.returns-then-size
 unfolding line_of

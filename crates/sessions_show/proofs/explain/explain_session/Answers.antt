@@ -18,14 +18,16 @@ returns-then-n-ne0 c p h eg ej = returns-refusal _ _ _ (stopped_first _ p _ _ re
 pub line_of-l-requires : goal.line_of-l-requires
 line_of-l-requires c =
     let a = c.args in
-    let pd : Passed SESSIONS a.sizes.head a.authorized.now (exclusions_in a.xs.now a.sizes.count) a.ledger.now a.who.user = passes _ _ _ _ _ _ _ c.first_refusal-n.ensures c.if-n-ne0.false in
+    let pd : Passed SESSIONS a.sizes.head a.authorized.now (exclusions_in a.xs.now a.sizes.count) a.ledger.now a.who.user = passes _ _ _ _ _ _ _
+    c.first_refusal-n.ensures c.if-n-ne0.false in
     pd.line
 
 pub returns-then-m-ne0 : goal.returns-then-m-ne0
 unfolding explain_by can_give session_of line_of
 returns-then-m-ne0 c p h eg ej =
     let a = c.args in
-    let pd : Passed SESSIONS a.sizes.head a.authorized.now (exclusions_in a.xs.now a.sizes.count) a.ledger.now a.who.user = passes _ _ _ _ _ _ _ c.first_refusal-n.ensures c.if-n-ne0.false in
+    let pd : Passed SESSIONS a.sizes.head a.authorized.now (exclusions_in a.xs.now a.sizes.count) a.ledger.now a.who.user = passes _ _ _ _ _ _ _
+    c.first_refusal-n.ensures c.if-n-ne0.false in
     returns-refusal _ _ _
     (session_stopped _ p _ _ (pd.ready p h) _ refl _ c.line_of-l.ensures _ c.session_refusal-m.ensures c.if-m-ne0.true)
 
@@ -33,7 +35,8 @@ pub returns-then-sizes-permission : goal.returns-then-sizes-permission
 unfolding line_of
 returns-then-sizes-permission c p h eg ej =
     let a = c.args in
-    let pd : Passed SESSIONS a.sizes.head a.authorized.now (exclusions_in a.xs.now a.sizes.count) a.ledger.now a.who.user = passes _ _ _ _ _ _ _ c.first_refusal-n.ensures c.if-n-ne0.false in
+    let pd : Passed SESSIONS a.sizes.head a.authorized.now (exclusions_in a.xs.now a.sizes.count) a.ledger.now a.who.user = passes _ _ _ _ _ _ _
+    c.first_refusal-n.ensures c.if-n-ne0.false in
     let o : Session SESSIONS c.line_of-l.result c.args.who.session = session_open _ _ _ (sym c.if-m-ne0.false ∙ c.session_refusal-m.ensures) in
     explain16 _ p _ _ _ _ (pd.ready p h) o.below (rw (← c.line_of-l.ensures) o.opened) (rw h.head_is c.if-sizes-permission.true)
 
@@ -51,7 +54,8 @@ pub returns : goal.returns
 unfolding line_of session_at empty_session
 returns c p h eg ej =
     let a = c.args in
-    let pd : Passed SESSIONS a.sizes.head a.authorized.now (exclusions_in a.xs.now a.sizes.count) a.ledger.now a.who.user = passes _ _ _ _ _ _ _ c.first_refusal-n.ensures c.if-n-ne0.false in
+    let pd : Passed SESSIONS a.sizes.head a.authorized.now (exclusions_in a.xs.now a.sizes.count) a.ledger.now a.who.user = passes _ _ _ _ _ _ _
+    c.first_refusal-n.ensures c.if-n-ne0.false in
     let o : Session SESSIONS c.line_of-l.result c.args.who.session = session_open _ _ _ (sym c.if-m-ne0.false ∙ c.session_refusal-m.ensures) in
     explain0 _ p _ _ _ _ (pd.ready p h) o.below (rw (← c.line_of-l.ensures) o.opened)
     (rw h.head_is c.if-sizes-permission.false) _ _ _ _ c.line_of-l.ensures eg ej c.explain.ensures

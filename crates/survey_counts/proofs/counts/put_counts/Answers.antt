@@ -14,14 +14,13 @@ loop-n-init c =
     (search rules, search rules, search rules, search rules, counts_begin (λ k. get_or c.args.counts.now k 0) c.args.out.now c.args.at)
 
 pub loop-n-preserved : goal.loop-n-preserved
-loop-n-preserved c =
-    (
-      search rules,
-      omega (arith, c.put_count-next.ensures.1, c.loop-n.invariant.1),
-      omega (arith, c.put_count-next.auto.out, c.loop-n.invariant.2),
-      omega (arith, c.put_count-next.auto.out, c.loop-n.invariant.3),
-      puts_as (counts-next (λ k. get_or c.args.counts.now k 0) c.loop-n.n) (puts-joined c.loop-n.invariant.4 c.put_count-next.ensures.0),
-    )
+loop-n-preserved c = (
+  search rules,
+  omega (arith, c.put_count-next.ensures.1, c.loop-n.invariant.1),
+  omega (arith, c.put_count-next.auto.out, c.loop-n.invariant.2),
+  omega (arith, c.put_count-next.auto.out, c.loop-n.invariant.3),
+  puts_as (counts-next (λ k. get_or c.args.counts.now k 0) c.loop-n.n) (puts-joined c.loop-n.invariant.4 c.put_count-next.ensures.0),
+)
 
 pub returns : goal.returns
 returns c =

@@ -15,7 +15,7 @@ settled-requires c = λ h e. (words_fit _ _ c.check-c.ensures.0 _ _ c.check-c.en
 pub returns-then-settled : goal.returns-then-settled
 returns-then-settled c =
     read_judged _ _ c.check-c.ensures.0 _ _ c.check-c.ensures.1 _ _ _
-        (λ p q. c.settled.ensures c.if-settled.true p _ (words_fit _ _ c.check-c.ensures.0 _ _ c.check-c.ensures.1) q)
+    (λ p q. c.settled.ensures c.if-settled.true p _ (words_fit _ _ c.check-c.ensures.0 _ _ c.check-c.ensures.1) q)
 
 pub judged-requires : goal.judged-requires
 judged-requires c = words_fit _ _ c.check-c.ensures.0 _ _ c.check-c.ensures.1

@@ -13,9 +13,12 @@ pub word_at-w-requires : goal.word_at-w-requires
 word_at-w-requires c = omega (arith, c.front_fault-number.ensures.whole, c.front_fault-number.ensures.least c.if-number-ne0.false)
 
 pub read_words-requires : goal.read_words-requires
-read_words-requires c =
-    (c.front_fault-number.ensures.whole, c.front_fault-number.ensures.least c.if-number-ne0.false, c.front_fault-number.ensures.most c.if-number-ne0.false,
-        c.requires.1)
+read_words-requires c = (
+  c.front_fault-number.ensures.whole,
+  c.front_fault-number.ensures.least c.if-number-ne0.false,
+  c.front_fault-number.ensures.most c.if-number-ne0.false,
+  c.requires.1,
+)
 
 pub returns : goal.returns
 returns c = (

@@ -21,9 +21,19 @@ last_place n p a b c = omega arith
 pub loop-at-init : goal.loop-at-init
 unfolding start
 loop-at-init c =
-    let none = none_noted 32 (length c.args.image.now / 4) (omega (arith, c.requires.1)) in
-    (omega arith, omega (arith, c.requires.1), rw c.fresh-t.ensures, rw c.fresh-t.ensures (omega arith), refl, none, refl, refl, refl, refl,
-        rw c.fresh-t.ensures)
+    let none = none_noted 32 (length c.args.image.now / 4) (omega (arith, c.requires.1)) in (
+      omega arith,
+      omega (arith, c.requires.1),
+      rw c.fresh-t.ensures,
+      rw c.fresh-t.ensures (omega arith),
+      refl,
+      none,
+      refl,
+      refl,
+      refl,
+      refl,
+      rw c.fresh-t.ensures,
+    )
 
 pub pass-here-requires : goal.pass-here-requires
 pass-here-requires c =
@@ -91,7 +101,7 @@ loop-at-preserved c =
       goes _ _ _ _ _ _ _ _ _ _ lt c.word_at-w.ensures c.decode-word.ensures.0 (before_last _ _ _ _ _ _ _ c.if-words-here.false c.step-number.ensures.faulty) _
           c.if-number-ne0.false _ _ _ (c.step-number.ensures.assigned_is c.if-number-ne0.false) c.next-t.ensures
           c.wrapping_add_u32.ensures.value
-              (c.pass-here.ensures.passed.scanned c.members-joined.result.scan refl ∙ c.members-joined.ensures.scanned _ _ refl ∙ c.loop-at.invariant.2),
+          (c.pass-here.ensures.passed.scanned c.members-joined.result.scan refl ∙ c.members-joined.ensures.scanned _ _ refl ∙ c.loop-at.invariant.2),
       subst (λ (x : Scan). x.exclusions ≤ 32) (sym c.next-t.ensures) (next_few c.members-joined.result.scan _ due few),
       ap length noted ∙ length-noted _ _ _ _ ∙ c.loop-at.invariant.4,
       λ i. subst (λ (v : List ℕ). get_or v i 0 < length c.args.image.now / 4) (sym noted) (noted_below _ _ _ _ _ lt c.loop-at.invariant.5 i),
@@ -132,7 +142,7 @@ returns c =
         exclusions_are =
             c.exclusions_at.ensures.0
             ∙ ap (map (exclusion_at c.args.image.now (length c.args.image.now / 4)))
-                (places_last _ _ _ p ee c.loop-at.t c.loop-at.places c.loop-at.invariant.4 ∙ c.loop-at.invariant.10)
+            (places_last _ _ _ p ee c.loop-at.t c.loop-at.places c.loop-at.invariant.4 ∙ c.loop-at.invariant.10)
             ∙ sym (exclusions_placed c.args.image.now (length c.args.image.now / 4) (length c.args.image.now / 4 - 1) 1 (omega (arith, c.requires.1)));
         few = c.loop-at.invariant.3;
         full = c.exclusions_at.ensures.1;

@@ -1,0 +1,26 @@
+-- `calls_stopped::tell` meets its contract: each return names the tests that led there.
+-- Assumes nothing.
+use mathlib.Core.Path.{ap}
+use borrow.Author.Rules.{rules}
+use Rattle.model.specs.declared.Head.{Head}
+use Rattle.model.specs.Line.{SESSIONS, line_size}
+use Rattle.calls_stopped.proofs.Telling.{no_fit, no_room, tells}
+use Rattle.calls_stopped.proofs.tell.Goals as goal
+
+pub returns-then-ledger-lines : goal.returns-then-ledger-lines
+unfolding line_size
+returns-then-ledger-lines c p h = no_fit SESSIONS p _ _ (ap (λ (x : Head). x.users) h.head_is) c.if-ledger-lines.true
+
+pub returns-then-users-ne8 : goal.returns-then-users-ne8
+unfolding line_size
+returns-then-users-ne8 c p h = no_room SESSIONS p _ _ (ap (λ (x : Head). x.users) h.head_is) c.if-ledger-lines.false c.if-users-ne8.true
+
+pub stopped_set-set-requires : goal.stopped_set-set-requires
+unfolding line_size
+stopped_set-set-requires c = search rules
+
+pub returns : goal.returns
+unfolding line_size
+returns c p h =
+    tells SESSIONS p _ _ (ap (λ (x : Head). x.users) h.head_is) c.if-ledger-lines.false c.if-users-ne8.false _ _ _ (c.stopped_set-set.ensures p h)
+    c.size.ensures c.put_u64.ensures
