@@ -7,13 +7,12 @@ use Rattle.survey_counts.proofs.CountLaws.{last_nothing, last_counted}
 use Rattle.survey_counts.proofs.counts.count_last.Goals as goal
 
 pub returns-then-kept-lt1 : goal.returns-then-kept-lt1
-returns-then-kept-lt1 c =
-    (
-      last_nothing c.args.image.now c.args.ledger.now c.args.counts.now c.args.line.now c.args.kept (search rules),
-      c.requires.2,
-      c.requires.3,
-      omega arith,
-    )
+returns-then-kept-lt1 c = (
+  last_nothing c.args.image.now c.args.ledger.now c.args.counts.now c.args.line.now c.args.kept (search rules),
+  c.requires.2,
+  c.requires.3,
+  omega arith,
+)
 
 pub slice_bounds-count_line-end : goal.slice_bounds-count_line-end
 slice_bounds-count_line-end c = counts-are c.args.kept c.args.line.now (search rules)
@@ -23,10 +22,10 @@ count_line-requires c =
     (c.requires.2, c.requires.3, c.requires.4)
 
 pub returns : goal.returns
-returns c =
-    (
-      last_counted c.args.image.now c.args.ledger.now c.args.counts.now c.args.line.now c.args.kept _ c.requires.0 c.requires.1 (search rules) c.count_line.ensures.1,
-      c.count_line.ensures.4,
-      c.count_line.ensures.3,
-      omega (arith, c.count_line.ensures.0),
-    )
+returns c = (
+  last_counted c.args.image.now c.args.ledger.now c.args.counts.now c.args.line.now c.args.kept _ c.requires.0 c.requires.1 (search rules)
+      c.count_line.ensures.1,
+  c.count_line.ensures.4,
+  c.count_line.ensures.3,
+  omega (arith, c.count_line.ensures.0),
+)

@@ -1,6 +1,5 @@
 -- One count more.
 -- Assumes nothing.
-use borrow.Author.Rules.{rules}
 use mathlib.Core.Path.{refl}
 use native.Mathlib.Omega.{arith}
 use Rattle.survey_counts.proofs.CountLaws.{noted_is, noted-most, noted_size}
@@ -11,11 +10,10 @@ overflow_add-counts c =
     omega (arith, c.requires.1 c.answer-n.result)
 
 pub returns : goal.returns
-returns c =
-    (
-      refl,
-      noted_is c.args.counts.now c.answer-n.result _ c.answer-n.ensures.0,
-      c.answer-n.ensures.2,
-      noted-most c.args.counts.now c.answer-n.result c.args.calls c.requires.0 (omega (arith, c.answer-n.ensures.1)) c.requires.1,
-      noted_size c.args.counts.now _ _ c.requires.0,
-    )
+returns c = (
+  refl,
+  noted_is c.args.counts.now c.answer-n.result _ c.answer-n.ensures.0,
+  c.answer-n.ensures.2,
+  noted-most c.args.counts.now c.answer-n.result c.args.calls c.requires.0 (omega (arith, c.answer-n.ensures.1)) c.requires.1,
+  noted_size c.args.counts.now _ _ c.requires.0,
+)
