@@ -22,7 +22,8 @@ use Rattle.model.specs.Ranges.{Each}
 use Rattle.model_tidy.specs.Groups.{words_behind, entry_of, member_role, Group, spread, leads, due_behind, Whole, Parted, RightMember, RightGroup, Acceptable}
 use Rattle.model_tidy.specs.Same.{SamePolicy}
 use Rattle.model_tidy.specs.Order.{Rearranged, none_moved, one_kept, two_swapped, moved_twice, Permuted, SameGroup, Reordered, end_of, OrderFree, Covered}
-use Rattle.model_tidy.specs.Unmoved.{moved_length, moved_each, sum_kept, whole_moved}
+use Rattle.model_tidy.specs.Unmoved.{moved_length, moved_each, sum_kept}
+use Rattle.model_tidy.proofs.Exclusions.{whole_moved}
 use Rattle.model_tidy.specs.Tidy.{tidy_of}
 use Rattle.model_limits.proofs.LimitTable.{limits_matched}
 use Rattle.model_laws.proofs.Eachs.{each_by}

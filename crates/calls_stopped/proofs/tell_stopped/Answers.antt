@@ -12,7 +12,5 @@ returns-in_default c = search (rules, stopped_refused)
 pub tell-requires : goal.tell-requires
 tell-requires c = search (rules, held)
 
--- FIX: took also ['κs']
-
 pub returns : goal.returns
 returns c = search (rules, held, stopped_by_lem, c.tell.ensures)

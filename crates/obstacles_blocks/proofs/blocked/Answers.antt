@@ -15,7 +15,7 @@ use Rattle.obstacles_blocks.proofs.blocked.Goals as goal
 
 pub left_with-requires : goal.left_with-requires
 left_with-requires c =
-    (c.requires.0, c.join_carriers.ensures.0)
+    (omega arith, c.join_carriers.ensures.0)
 
 pub returns-then-left_with : goal.returns-then-left_with
 unfolding found_of blocks exclusions_in

@@ -11,8 +11,6 @@ use Rattle.clauses_hard.proofs.sizes.counter_size.Goals as goal
 pub tally-requires : goal.tally-requires
 tally-requires c = (omega (arith, c.size.ensures, count-le c.args.members), search rules)
 
--- FIX: took also ['κs']
-
 pub returns : goal.returns
 unfolding counter_size
 returns c =

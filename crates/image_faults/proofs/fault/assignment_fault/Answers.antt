@@ -31,8 +31,6 @@ pub has-requires : goal.has-requires
 unfolding entry_fault in_range repeats crowds pick
 has-requires c = search rules
 
--- FIX: took also ['κs']
-
 pub returns-then-has : goal.returns-then-has
 unfolding entry_fault in_range repeats crowds pick
 returns-then-has c = search (rules, lt-ltb, sym c.has.ensures ∙ c.if-has.true)
@@ -40,8 +38,6 @@ returns-then-has c = search (rules, lt-ltb, sym c.has.ensures ∙ c.if-has.true)
 pub size-requires : goal.size-requires
 unfolding entry_fault in_range repeats crowds pick
 size-requires c = search rules
-
--- FIX: took also ['κs']
 
 pub returns-then-size-lt16 : goal.returns-then-size-lt16
 unfolding entry_fault in_range repeats crowds pick

@@ -15,8 +15,6 @@ pub has-requires : goal.has-requires
 unfolding entry_fault in_range repeats crowds pick
 has-requires c = search rules
 
--- FIX: took also ['κs']
-
 pub returns-then-has : goal.returns-then-has
 unfolding entry_fault in_range repeats crowds pick
 returns-then-has c = search (rules, lt-ltb, sym c.has.ensures ∙ c.if-has.true)

@@ -23,8 +23,6 @@ pub exclusion_word-requires : goal.exclusion_word-requires
 unfolding decode Small pick
 exclusion_word-requires c = search rules
 
--- FIX: took also ['κs']
-
 pub overflow_cast-result-in-7 : goal.overflow_cast-result-in-7
 unfolding decode Small pick
 overflow_cast-result-in-7 c = search rules

@@ -1,6 +1,6 @@
 -- `obstacles_blocks::first::some_step` meets its contract.
 -- Assumes nothing.
-use Rattle.std.proofs.Common.{arith, refl}
+use Rattle.std.proofs.Common.{rules, arith, refl}
 use Rattle.sets.specs.Words.{value}
 use Rattle.query.specs.Carry.{rows_of}
 use Rattle.search_steps.specs.Search.{task_of}
@@ -64,7 +64,7 @@ loop-left-smaller t c =
 pub loop-left-preserved : goal.loop-left-preserved
 loop-left-preserved t c =
     passing_on (task_of c.args.rows.now c.args.masks.now c.args.ns.now c.args.job) _ _ c.loop-left.left _ c.loop-left.invariant _ _ _ _
-    c.lowest-role.ensures.member c.without-rest.ensures c.without-less.ensures c.with-more.ensures _ c.some_step.ensures c.if-some_step.false
+    c.lowest-role.ensures.member c.without-rest.ensures c.without-less.ensures c.with-more.ensures _ c.some_step.ensures (search rules)
 
 pub returns : goal.returns
 returns t c = passing_end _ _ _ _ _ c.loop-left.invariant c.loop-left-test.false

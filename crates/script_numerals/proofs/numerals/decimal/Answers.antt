@@ -7,8 +7,6 @@ use Rattle.script_numerals.proofs.numerals.decimal.Goals as goal
 pub value_of-requires : goal.value_of-requires
 value_of-requires c = numeral_short 10 9 _ (sym c.is_numeral.ensures ∙ c.if-is_numeral.true)
 
--- FIX: took also ['κs']
-
 pub returns-then-is_numeral : goal.returns-then-is_numeral
 returns-then-is_numeral c = number_right _ _ (sym c.is_numeral.ensures ∙ c.if-is_numeral.true) c.value_of.ensures
 

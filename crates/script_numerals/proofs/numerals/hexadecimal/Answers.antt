@@ -8,8 +8,6 @@ pub bound_bytes-requires : goal.bound_bytes-requires
 bound_bytes-requires c =
     let e = sym c.is_numeral.ensures ∙ c.if-is_numeral.true in (numeral_short 16 64 _ e, numeral_digits 16 64 _ e)
 
--- FIX: took also ['κs']
-
 pub returns-then-is_numeral : goal.returns-then-is_numeral
 returns-then-is_numeral c = bound_right _ _ (sym c.is_numeral.ensures ∙ c.if-is_numeral.true) c.bound_bytes.ensures
 
