@@ -21,19 +21,18 @@ returns-then-c-eq10 c =
     }
 
 pub loop-i-preserved : goal.loop-i-preserved
-loop-i-preserved c =
-    (
-      search rules,
-      search rules,
-      search rules,
-      c.keep-kept.ensures.0,
-      search rules,
-      search rules,
-      λ more.
-          c.loop-i.invariant.6 more
-          ∙ goes_on c.args.chunk.now c.loop-i.i c.loop-i.line c.loop-i.kept c.keep-kept.new.line c.keep-kept.result (search rules)
-          c.if-c-eq10.false c.keep-kept.ensures.1 more,
-    )
+loop-i-preserved c = (
+  search rules,
+  search rules,
+  search rules,
+  c.keep-kept.ensures.0,
+  search rules,
+  search rules,
+  λ more.
+      c.loop-i.invariant.6 more
+      ∙ goes_on c.args.chunk.now c.loop-i.i c.loop-i.line c.loop-i.kept c.keep-kept.new.line c.keep-kept.result (search rules)
+      c.if-c-eq10.false c.keep-kept.ensures.1 more,
+)
 
 pub returns : goal.returns
 returns c =
