@@ -28,6 +28,12 @@ returns c =
     let w : b < 256 = omega (arith, c.shared_slice_known-2-1.given (c.highest-k.result - 1)) in (
       puts_as (numeral_some c.args.bytes.now c.highest-k.result c.highest-k.ensures (λ i. omega (arith, c.shared_slice_known-2-1.given i)) (search rules))
           (puts-joined c.put_byte-next.ensures c.put_pairs.ensures),
-      omega
-          (arith, c.put_byte-next.ensures.next-is, c.put_pairs.ensures.next-is, byte_length b w, length_pairs c.args.bytes.now (c.highest-k.result - 1), c.highest-k.ensures.inside),
+      omega (
+        arith,
+        c.put_byte-next.ensures.next-is,
+        c.put_pairs.ensures.next-is,
+        byte_length b w,
+        length_pairs c.args.bytes.now (c.highest-k.result - 1),
+        c.highest-k.ensures.inside,
+      ),
     )

@@ -1,12 +1,11 @@
 use borrow.Author.Rules.{rules}
-use mathlib.Core.Path.{◌≡◌, refl, ap, ◌∙◌}
-use mathlib.Core.List.{List, ◌++◌}
-use Prim.Native.Nat.{ℕ, ◌+◌, ◌-◌, ◌≤◌, ◌<◌}
+use mathlib.Core.Path.{refl, ap, ◌∙◌}
+use Prim.Native.Nat.{◌<◌}
 use native.Mathlib.Omega.{arith}
-use lib.ListN.{length, take, drop}
+use lib.ListN.{length, take}
 use Rattle.script_input.specs.Kept.{lines_from}
 use Rattle.script_input.proofs.Steps.{counts as counts-are}
-use Rattle.survey_counts.specs.Counting.{tally, Most}
+use Rattle.survey_counts.specs.Counting.{tally}
 use Rattle.survey_counts.proofs.CountLaws.{is_counted, behind_chunk}
 use Rattle.survey_counts.proofs.counts.count_chunk.Goals as goal
 
@@ -24,7 +23,8 @@ returns-then-chunk-begun c =
       same =
           λ more. c.loop-next.invariant.8 more
           ∙ ap (tally c.args.image.now c.loop-next.ledger c.loop-next.counts)
-          (c.gather-begun.ensures.same more ∙ ap (lines_from (take c.gather-begun.result.kept c.gather-begun.new.line)) (behind_chunk c.args.chunk.now c.gather-begun.result.next more (search rules) c.gather-begun.ensures.inside));
+          (c.gather-begun.ensures.same more ∙ ap (lines_from (take c.gather-begun.result.kept c.gather-begun.new.line))
+          (behind_chunk c.args.chunk.now c.gather-begun.result.next more (search rules) c.gather-begun.ensures.inside));
     }
 
 pub slice_bounds-count_line-end : goal.slice_bounds-count_line-end
@@ -36,8 +36,17 @@ slice_bounds-count_line-end-in-loop-next c =
     counts-are c.gather-begun.result.kept c.gather-begun.new.line (omega (arith, c.gather-begun.ensures.few, c.gather-begun.auto, c.loop-next.invariant))
 
 pub count_line-calls-requires : goal.count_line-calls-requires
-count_line-calls-requires c =
-    (c.loop-next.invariant.6, c.loop-next.invariant.7, omega (arith, c.loop-next.invariant.2, c.gather-begun.ensures.onward, c.if-chunk-begun.false, c.requires.4))
+count_line-calls-requires c = (
+  c.loop-next.invariant.6,
+  c.loop-next.invariant.7,
+  omega (
+    arith,
+    c.loop-next.invariant.2,
+    c.gather-begun.ensures.onward,
+    c.if-chunk-begun.false,
+    c.requires.4,
+  ),
+)
 
 pub loop-next-smaller : goal.loop-next-smaller
 loop-next-smaller c =
@@ -56,7 +65,8 @@ loop-next-preserved c =
       c.count_line-calls.ensures.3,
       λ more. c.loop-next.invariant.8 more
           ∙ ap (tally c.args.image.now c.loop-next.ledger c.loop-next.counts) (c.gather-begun.ensures.same more)
-          ∙ is_counted c.args.image.now c.args.chunk.now c.gather-begun.result.next c.gather-begun.new.line c.gather-begun.result.kept c.loop-next.ledger c.loop-next.counts _ _ h (c.gather-begun.ensures.newline h) c.count_line-calls.ensures.1 c.count_line-calls.ensures.2 more,
+          ∙ is_counted c.args.image.now c.args.chunk.now c.gather-begun.result.next c.gather-begun.new.line c.gather-begun.result.kept
+          c.loop-next.ledger c.loop-next.counts _ _ h (c.gather-begun.ensures.newline h) c.count_line-calls.ensures.1 c.count_line-calls.ensures.2 more,
     )
 
 pub returns : goal.returns

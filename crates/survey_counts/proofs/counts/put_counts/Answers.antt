@@ -1,11 +1,7 @@
 use borrow.Author.Rules.{rules}
-use mathlib.Core.Path.{◌≡◌}
-use Prim.Native.Nat.{◌+◌, ◌-◌, ◌*◌, ◌≤◌}
 use native.Mathlib.Omega.{arith}
-use lib.ListN.{length, get_or}
-use Rattle.script_text.specs.Writing.{Stores}
+use lib.ListN.{get_or}
 use Rattle.script_text.proofs.TextLaws.{puts-joined, puts_as}
-use Rattle.model_survey.specs.Survey.{count_lines}
 use Rattle.survey_counts.proofs.CountLines.{counts_begin, counts-next, counts_all}
 use Rattle.survey_counts.proofs.counts.put_counts.Goals as goal
 
@@ -23,5 +19,8 @@ loop-n-preserved c = (
 )
 
 pub returns : goal.returns
-returns c =
-    (puts_as (counts_all (λ k. get_or c.args.counts.now k 0) c.loop-n.n 256 (search rules) (search rules)) c.loop-n.invariant.4, omega (arith, c.loop-n.invariant.1, c.loop-n.invariant.0))
+returns c = (
+  puts_as (counts_all (λ k. get_or c.args.counts.now k 0) c.loop-n.n 256 (search rules) (search rules)) c.loop-n.invariant.4,
+  omega
+      (arith, c.loop-n.invariant.1, c.loop-n.invariant.0),
+)

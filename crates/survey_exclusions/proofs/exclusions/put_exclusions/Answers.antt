@@ -15,7 +15,8 @@ exclusion_at-x-requires c =
 pub put_exclusion-next-requires : goal.put_exclusion-next-requires
 put_exclusion-next-requires c = (
   search rules,
-  fits_here c.args.image.now c.loop-i.invariant.4 (omega (arith, c.loop-i-test.true, c.requires.2)) c.exclusion_after-place.ensures refl c.exclusion_at-x.ensures c.requires.3,
+  fits_here c.args.image.now c.loop-i.invariant.4 (omega (arith, c.loop-i-test.true, c.requires.2)) c.exclusion_after-place.ensures refl
+      c.exclusion_at-x.ensures c.requires.3,
 )
 
 pub loop-i-preserved : goal.loop-i-preserved
@@ -24,10 +25,14 @@ loop-i-preserved c = (
   omega (arith, c.put_exclusion-next.ensures.1, c.loop-i.invariant.1),
   omega (arith, c.put_exclusion-next.auto.out, c.loop-i.invariant.2),
   omega (arith, c.put_exclusion-next.auto.out, c.loop-i.invariant.3),
-  walk-next c.args.image.now c.loop-i.invariant.4 (omega (arith, c.loop-i-test.true, c.requires.2)) c.exclusion_after-place.ensures refl c.exclusion_at-x.ensures
+  walk-next c.args.image.now c.loop-i.invariant.4 (omega (arith, c.loop-i-test.true, c.requires.2)) c.exclusion_after-place.ensures refl
+      c.exclusion_at-x.ensures
       c.put_exclusion-next.ensures.0,
 )
 
 pub returns : goal.returns
-returns c =
-    (walk_all c.args.image.now c.loop-i.invariant.4 (omega (arith, c.loop-i-test.false, c.requires.2)), omega (arith, c.loop-i.invariant.1, c.loop-i.invariant.0, c.requires.1))
+returns c = (
+  walk_all c.args.image.now c.loop-i.invariant.4 (omega (arith, c.loop-i-test.false, c.requires.2)),
+  omega
+      (arith, c.loop-i.invariant.1, c.loop-i.invariant.0, c.requires.1),
+)

@@ -13,12 +13,18 @@ unfolding empty_rows values value
 read-all-requires c = (record { assigned_none = refl; granted_none = refl; juniors_none = refl; limits_none = refl }, refl)
 
 pub put_exclusions-filled-requires : goal.put_exclusions-filled-requires
-put_exclusions-filled-requires c =
-    (search rules, (c.read-all.ensures.1 _ c.in-Accepted.is).few, rows_all _ _ _ _ _ _ _ (c.read-all.ensures.1 _ c.in-Accepted.is), figures_fit _ _ (sym c.read-all.ensures.0 ∙ c.in-Accepted.is))
+put_exclusions-filled-requires c = (
+  search rules,
+  (c.read-all.ensures.1 _ c.in-Accepted.is).few,
+  rows_all _ _ _ _ _ _ _ (c.read-all.ensures.1 _ c.in-Accepted.is),
+  figures_fit _ _
+      (sym c.read-all.ensures.0 ∙ c.in-Accepted.is),
+)
 
 pub returns-in-Accepted : goal.returns-in-Accepted
 returns-in-Accepted c =
-    opens_accepted _ _ c.args.out.now _ _ (sym c.read-all.ensures.0 ∙ c.in-Accepted.is) c.requires c.put_exclusions-filled.ensures.0 c.put_exclusions-filled.ensures.1
+    opens_accepted _ _ c.args.out.now _ _ (sym c.read-all.ensures.0 ∙ c.in-Accepted.is) c.requires c.put_exclusions-filled.ensures.0
+    c.put_exclusions-filled.ensures.1
 
 pub returns-in-Refused : goal.returns-in-Refused
 returns-in-Refused c =
