@@ -58,6 +58,7 @@ pub fn answer_lines(
 
 // Answers a line that is begun at the end of the input, at the start of the output buffer, and returns the length of
 // the answer.
+#[tactic(auto, using(crate::proofs::Steps::last_nothing))]
 pub fn answer_last(
     image: &[u8],
     ledger: &mut [u8],

@@ -37,8 +37,8 @@ noted_size counts n a h = length-set counts n a ∙ h
 -- a newline has the line answered and counted
 pub is_counted : (image chunk : List ℕ) (i : ℕ) (l : List ℕ) (k : ℕ) (ledger counts ledger' counts' : List ℕ) → i < length chunk → get_or chunk i 0 ≡ 10
     → counts' ≡ noted counts (answer_to image ledger (take k l)).reply → ledger' ≡ (answer_to image ledger (take k l)).ledger → (more : List ℕ)
-    → tally image ledger counts (lines_from (take k l) (drop i chunk ++ more)) ≡ tally image ledger' counts'
-    (lines_from (take 0 l) (drop (i + 1) chunk ++ more))
+    → tally image ledger counts (lines_from (take k l) (drop i chunk ++ more))
+    ≡ tally image ledger' counts' (lines_from (take 0 l) (drop (i + 1) chunk ++ more))
 unfolding tally
 is_counted image chunk i l k ledger counts ledger' counts' h e p q more =
     ap (tally image ledger counts) (ends chunk i (take k l) more h e) ∙ rw (p, q)

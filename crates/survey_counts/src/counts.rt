@@ -69,6 +69,7 @@ pub fn count_chunk(
 }
 
 // Answers a line that is begun at the end of the input, and counts its answer; returns how many calls are answered.
+#[tactic(auto, using(crate::proofs::CountLaws::last_nothing))]
 pub fn count_last(
     image: &[u8],
     ledger: &mut [u8],

@@ -29,6 +29,6 @@ put-requires-2 t c =
 pub returns : goal.returns
 returns t c =
     puts_as
-    (ap (λ x. numeral 10 (c.args.n / 10) ++ (x ∷ [])) (c.glyph-d-2.ensures ∙ ap glyph c.narrow-2.ensures) ∙ sym
-    (numeral_more 10 two≤10 c.args.n (search rules)))
+    (ap (λ x. numeral 10 (c.args.n / 10) ++ (x ∷ [])) (c.glyph-d-2.ensures ∙ ap glyph c.narrow-2.ensures)
+    ∙ sym (numeral_more 10 two≤10 c.args.n (search rules)))
     (puts-joined c.put_decimal-next.ensures c.put-2.ensures)

@@ -23,8 +23,8 @@ loop-i-preserved c =
       c.put_pair-next.auto.out ∙ c.loop-i.invariant.3,
       (
         c.loop-i.invariant.4.0 ++ pair_of b,
-        c.loop-i.invariant.4.1 ∙ ap (λ x. c.loop-i.invariant.4.0 ++ x) (pairs_next c.args.bytes.now c.loop-i.i (search rules)) ∙ sym
-            (append_assoc c.loop-i.invariant.4.0 (pair_of b) (pairs_of (c.loop-i.i - 1) c.args.bytes.now)),
+        c.loop-i.invariant.4.1 ∙ ap (λ x. c.loop-i.invariant.4.0 ++ x) (pairs_next c.args.bytes.now c.loop-i.i (search rules))
+            ∙ sym (append_assoc c.loop-i.invariant.4.0 (pair_of b) (pairs_of (c.loop-i.i - 1) c.args.bytes.now)),
         puts-joined c.loop-i.invariant.4.2 c.put_pair-next.ensures,
       ),
     )

@@ -5,12 +5,8 @@ use Prim.Native.Nat.{◌≤◌}
 use native.Mathlib.Omega.{arith}
 use lib.ListN.{length}
 use Rattle.script_input.proofs.Steps.{counts}
-use Rattle.script_answers.proofs.Steps.{last_nothing, last_answered}
+use Rattle.script_answers.proofs.Steps.{last_answered}
 use Rattle.script_answers.proofs.lines.answer_last.Goals as goal
-
-pub returns-then-kept-lt1 : goal.returns-then-kept-lt1
-returns-then-kept-lt1 c =
-    (search rules, last_nothing c.args.image.now c.args.line.now c.args.ledger.now c.args.kept c.args.calls (search rules))
 
 pub slice_bounds-respond-end : goal.slice_bounds-respond-end
 slice_bounds-respond-end c =

@@ -1,10 +1,8 @@
 use borrow.Author.Rules.{rules}
-use mathlib.Core.Path.{◌≡◌, refl, ap, ◌∙◌}
-use mathlib.Core.List.{List, ◌++◌}
-use Prim.Native.Nat.{ℕ, ◌+◌, ◌-◌, ◌≤◌, ◌<◌}
+use mathlib.Core.Path.{refl, ap, ◌∙◌}
+use Prim.Native.Nat.{◌≤◌, ◌<◌}
 use native.Mathlib.Omega.{arith}
-use lib.ListN.{length, take, drop}
-use Rattle.script_input.specs.Kept.{lines_from}
+use lib.ListN.{length, take}
 use Rattle.script_input.proofs.Steps.{counts}
 use Rattle.script_answers.specs.Buffers.{outcome}
 use Rattle.script_answers.proofs.Steps.{is_answered}
@@ -69,8 +67,8 @@ loop-out-preserved c =
       omega (arith, c.respond-filled.auto, c.loop-out.invariant),
       λ more. c.loop-out.invariant.10 more
           ∙ ap (outcome c.args.image.now c.loop-out.ledger c.loop-out.calls (take c.loop-out.filled c.loop-out.out)) (c.gather-begun.ensures.same more)
-          ∙ is_answered c.args.image.now c.args.chunk.now c.gather-begun.result.next c.gather-begun.new.line c.gather-begun.result.kept c.loop-out.ledger
-          c.loop-out.out c.loop-out.calls c.loop-out.filled
+          ∙ is_answered c.args.image.now c.args.chunk.now c.gather-begun.result.next c.gather-begun.new.line c.gather-begun.result.kept
+          c.loop-out.ledger c.loop-out.out c.loop-out.calls c.loop-out.filled
           _ _ _ h (c.gather-begun.ensures.newline h) c.loop-out.invariant.4 n c.respond-filled.ensures.0 c.respond-filled.ensures.2 more,
     )
 

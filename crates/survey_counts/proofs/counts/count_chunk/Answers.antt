@@ -1,12 +1,11 @@
 use borrow.Author.Rules.{rules}
-use mathlib.Core.Path.{◌≡◌, refl, ap, ◌∙◌}
-use mathlib.Core.List.{List, ◌++◌}
-use Prim.Native.Nat.{ℕ, ◌+◌, ◌-◌, ◌≤◌, ◌<◌}
+use mathlib.Core.Path.{refl, ap, ◌∙◌}
+use Prim.Native.Nat.{◌<◌}
 use native.Mathlib.Omega.{arith}
-use lib.ListN.{length, take, drop}
+use lib.ListN.{length, take}
 use Rattle.script_input.specs.Kept.{lines_from}
 use Rattle.script_input.proofs.Steps.{counts as counts-are}
-use Rattle.survey_counts.specs.Counting.{tally, Most}
+use Rattle.survey_counts.specs.Counting.{tally}
 use Rattle.survey_counts.proofs.CountLaws.{is_counted, behind_chunk}
 use Rattle.survey_counts.proofs.counts.count_chunk.Goals as goal
 
@@ -66,8 +65,8 @@ loop-next-preserved c =
       c.count_line-calls.ensures.3,
       λ more. c.loop-next.invariant.8 more
           ∙ ap (tally c.args.image.now c.loop-next.ledger c.loop-next.counts) (c.gather-begun.ensures.same more)
-          ∙ is_counted c.args.image.now c.args.chunk.now c.gather-begun.result.next c.gather-begun.new.line c.gather-begun.result.kept c.loop-next.ledger
-          c.loop-next.counts _ _ h (c.gather-begun.ensures.newline h) c.count_line-calls.ensures.1 c.count_line-calls.ensures.2 more,
+          ∙ is_counted c.args.image.now c.args.chunk.now c.gather-begun.result.next c.gather-begun.new.line c.gather-begun.result.kept
+          c.loop-next.ledger c.loop-next.counts _ _ h (c.gather-begun.ensures.newline h) c.count_line-calls.ensures.1 c.count_line-calls.ensures.2 more,
     )
 
 pub returns : goal.returns

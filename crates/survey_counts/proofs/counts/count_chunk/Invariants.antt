@@ -1,15 +1,11 @@
 -- Line after line is answered and counted, and the counts in the end stay the same.
 -- Assumes nothing.
-use borrow.Author.Rules.{rules}
-use mathlib.Core.Path.{◌≡◌, refl, ap, ◌∙◌}
+use mathlib.Core.Path.{◌≡◌}
 use mathlib.Core.List.{List, ◌++◌}
-use Prim.Native.Nat.{ℕ, ◌+◌, ◌-◌, ◌≤◌, ◌<◌}
-use native.Mathlib.Omega.{arith}
+use Prim.Native.Nat.{ℕ, ◌+◌, ◌-◌, ◌≤◌}
 use lib.ListN.{length, take, drop}
 use Rattle.script_input.specs.Kept.{lines_from}
-use Rattle.script_input.proofs.Steps.{counts as counts-are}
 use Rattle.survey_counts.specs.Counting.{tally, Most}
-use Rattle.survey_counts.proofs.CountLaws.{is_counted, behind_chunk}
 use Rattle.survey_counts.proofs.counts.count_chunk.Given as goal
 
 abbrev pub invariant-loop-next : goal.invariant-loop-next

@@ -3,16 +3,8 @@
 use borrow.Author.Rules.{rules}
 use native.Mathlib.Omega.{arith}
 use Rattle.script_input.proofs.Steps.{counts as counts-are}
-use Rattle.survey_counts.proofs.CountLaws.{last_nothing, last_counted}
+use Rattle.survey_counts.proofs.CountLaws.{last_counted}
 use Rattle.survey_counts.proofs.counts.count_last.Goals as goal
-
-pub returns-then-kept-lt1 : goal.returns-then-kept-lt1
-returns-then-kept-lt1 c = (
-  last_nothing c.args.image.now c.args.ledger.now c.args.counts.now c.args.line.now c.args.kept (search rules),
-  c.requires.2,
-  c.requires.3,
-  omega arith,
-)
 
 pub slice_bounds-count_line-end : goal.slice_bounds-count_line-end
 slice_bounds-count_line-end c = counts-are c.args.kept c.args.line.now (search rules)

@@ -1,6 +1,5 @@
 -- One count more.
 -- Assumes nothing.
-use borrow.Author.Rules.{rules}
 use mathlib.Core.Path.{refl}
 use native.Mathlib.Omega.{arith}
 use Rattle.survey_counts.proofs.CountLaws.{noted_is, noted-most, noted_size}

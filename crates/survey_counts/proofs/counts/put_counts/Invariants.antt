@@ -1,14 +1,10 @@
 -- Line after line.
 -- Assumes nothing.
-use borrow.Author.Rules.{rules}
 use mathlib.Core.Path.{◌≡◌}
 use Prim.Native.Nat.{◌+◌, ◌-◌, ◌*◌, ◌≤◌}
-use native.Mathlib.Omega.{arith}
 use lib.ListN.{length, get_or}
 use Rattle.script_text.specs.Writing.{Stores}
-use Rattle.script_text.proofs.TextLaws.{puts-joined, puts_as}
 use Rattle.model_survey.specs.Survey.{count_lines}
-use Rattle.survey_counts.proofs.CountLines.{counts_begin, counts-next, counts_all}
 use Rattle.survey_counts.proofs.counts.put_counts.Given as goal
 
 abbrev pub invariant-loop-n : goal.invariant-loop-n

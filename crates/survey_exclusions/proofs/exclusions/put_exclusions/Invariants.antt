@@ -8,8 +8,8 @@ use Rattle.survey_exclusions.proofs.exclusions.put_exclusions.Given as goal
 
 abbrev pub invariant-loop-i : goal.invariant-loop-i
 invariant-loop-i l =
-    (l.i ≤ l.count) × (l.next ≤ 84 * l.i) × (2688 ≤ length l.out) × (length l.out ≡ length l.initial.out) × Walked l.image l.initial.out l.place l.i l.out
-    l.next
+    (l.i ≤ l.count) × (l.next ≤ 84 * l.i) × (2688 ≤ length l.out) × (length l.out ≡ length l.initial.out)
+    × Walked l.image l.initial.out l.place l.i l.out l.next
 
 abbrev pub decreases-loop-i : goal.decreases-loop-i
 decreases-loop-i l = l.count - l.i
