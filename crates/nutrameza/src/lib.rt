@@ -16,7 +16,7 @@ ghost use Rattle.grant_table_turned.specs.Calls.{turn_call, unturn_call};
 
 use sessions::given::UserSession;
 
-pub mod clauses; // clauses.rt: the clause text of an ask
+pub mod clause_text; // clause_text.rt: the clause text of an ask
 pub mod obstacle; // obstacle.rt: what stands in the way of an ask
 
 // Judges an image: 0, or the refusal's number plus 256 times the place of the refused word, by 22 the lowest role on a

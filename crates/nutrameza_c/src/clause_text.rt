@@ -21,7 +21,7 @@ pub extern "C" fn nutrameza_clauses(
         (clauses_by user session lower.now upper.now permission_aim role_aim (length out.old)) in
         (result ≡ returned e.reply) × (out.new ≡ written out.old e.reply) }
 {
-    nutrameza::clauses::nutrameza_clauses(
+    nutrameza::clause_text::nutrameza_clauses(
         image,
         ledger,
         user,
