@@ -30,7 +30,7 @@ fn write_answers(rt: &(impl Print + Eprint), answers: &[u8]) -> bool {
     match rt.write_all(answers) {
         Ok(()) => true,
         Err(e) => {
-            let _ = eprintln!(rt; "nutrameza_script: standard output can't be written: {e}");
+            script_input::failure::say(rt, "nutrameza_script: standard output can't be written", e);
             false
         }
     }
@@ -94,7 +94,7 @@ fn answer_some(
     let count = match input.read(chunk) {
         Ok(count) => count,
         Err(e) => {
-            let _ = eprintln!(rt; "nutrameza_script: standard input can't be read: {e}");
+            script_input::failure::say(rt, "nutrameza_script: standard input can't be read", e);
             return stopped(run.calls);
         }
     };

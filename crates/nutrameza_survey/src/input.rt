@@ -37,7 +37,7 @@ fn count_some(
     let count = match input.read(chunk) {
         Ok(count) => count,
         Err(e) => {
-            let _ = eprintln!(rt; "nutrameza_survey: standard input can't be read: {e}");
+            script_input::failure::say(rt, "nutrameza_survey: standard input can't be read", e);
             return Run {
                 kept: 0,
                 calls: run.calls,

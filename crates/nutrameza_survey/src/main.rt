@@ -8,7 +8,7 @@ mod input;
 // Writes the survey; where it can't be written, says why on standard error.
 fn write_survey(rt: &(impl Print + Eprint), text: &[u8]) {
     if let Err(e) = rt.write_all(text) {
-        let _ = eprintln!(rt; "nutrameza_survey: standard output can't be written: {e}");
+        script_input::failure::say(rt, "nutrameza_survey: standard output can't be written", e);
     }
 }
 
