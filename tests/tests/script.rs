@@ -9,7 +9,7 @@ use nutrameza_tests::{ward, words};
 use std::fs::{File, OpenOptions, Permissions};
 use std::io::{BufRead, BufReader, Write};
 use std::os::unix::fs::PermissionsExt;
-use std::os::unix::process::{CommandExt, ExitStatusExt};
+use std::os::unix::process::CommandExt;
 use std::path::{Path, PathBuf};
 use std::process::Command;
 
@@ -239,13 +239,12 @@ fn says_that_a_full_device_takes_no_answers_and_stops_reading() {
 }
 
 #[test]
-fn a_signal_ends_it_where_nobody_reads_its_answers() {
-    const SIGPIPE: i32 = 13;
+fn ends_where_nobody_reads_its_answers() {
     let folder = ward_folder();
     let mut child = start_in(&folder);
     drop(child.stdout.take());
     let ending = ending(child, &long_script());
-    assert_eq!((&*ending.said, ending.status.signal()), ("", Some(SIGPIPE)));
+    assert_ended(&ending, "", "nutrameza_script: standard output can't be written: Broken pipe\n");
     assert!(!ending.took_all, "the program stops reading");
     std::fs::remove_dir_all(&folder).expect("the folder is removed");
 }
