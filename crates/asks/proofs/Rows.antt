@@ -3,6 +3,7 @@
 use mathlib.Core.Path.{◌≡◌, refl, sym, ap, ap₂, ◌∙◌}
 use mathlib.Core.Bool.{Bool, true}
 use mathlib.Core.Option.{Option, none, some}
+use Rattle.std.specs.Prelude.{Option as Found, None, Some}
 use mathlib.Core.List.{List, [], ◌∷◌, map}
 use Prim.Native.Nat.{ℕ, zero, suc, ◌^◌, ◌<◌}
 use native.Mathlib.Omega.{arith}
@@ -31,11 +32,14 @@ use Rattle.tables_rows.specs.Carried.{carried_rows}
 use Rattle.sets.proofs.Unions.{values_at}
 use Rattle.tables_rows.proofs.Carrying.{length_selves, wanted_row}
 use Rattle.query.specs.Carry.{rows_of, Carry}
+use Rattle.query_reduced.specs.declared.reduced.ReducedExclusion.{ReducedExclusion}
 use Rattle.query_reduced.specs.Met.{reduced_met}
+use Rattle.exclusion_rows.specs.Rows.{exclusions_in}
+use Rattle.exclusion_rows.specs.Table.{exclusions_of}
+use Rattle.policy_tables.specs.declared.PolicyTables.{PolicyTables}
+use Rattle.policy_tables.specs.Held.{Holds}
 use Rattle.query_reduced.specs.Reduction.{Reduces}
 use Rattle.search.specs.Answer.{answered, Given}
-use Rattle.search.specs.declared.Choice.{Choice}
-use Rattle.search.specs.declared.Choice.TheVariants.{Nothing, Roles}
 use Rattle.sessions.specs.Calls.{Known}
 use Rattle.limits_left.specs.Left.{Left}
 use Rattle.asks.specs.Asks.{left_to, Asked, Searched}
@@ -84,16 +88,14 @@ left-within p u x l k s w =
     (within_iff s (authorized p u)).1 (λ r h. left_own (meaning p u) x l k r ((within_iff s (left_to p u x l k).authorized).0 w r h))
 
 -- what the choice is given is the policy's, the line's and the session's
-pub given-of : (p : Policy) (u : ℕ) (x : Others) (own : ℕ) (xs : Exclusions) (l : Line) (k n : ℕ) (masks ns : List ℕ) (row : ℕ → ℕ) → n ≡ xs.count
-    → Reduces xs l k masks ns → Asked p u x l k own xs row → Given (left_to p u x l k) l k own row (reduced_met masks ns n)
+pub given-of : (p : Policy) (u : ℕ) (x : Others) (own : ℕ) (xs : Exclusions) (l : Line) (k : ℕ) (rows : List ReducedExclusion) (row : ℕ → ℕ)
+    → Reduces xs l k rows → Asked p u x l k own xs row → Given (left_to p u x l k) l k own row (reduced_met rows)
 unfolding meaning unbarred exclusions_met
-given-of p u x own xs l k n masks ns row e d g =
+given-of p u x own xs l k rows row d g =
     record {
       own = g.own_is;
       carry = g.carry;
-      exclusions = λ s w.
-          d.same p u g.exclusions_are g.met s (left-within p u x l k s (ap (within s) g.own_is ∙ w))
-          ∙ ap (λ (i : ℕ). reduced_met masks ns i s) (sym e);
+      exclusions = λ s w. d.same p u g.exclusions_are g.met s (left-within p u x l k s (ap (within s) g.own_is ∙ w));
     }
 
 -- what the search is given, with the rows
@@ -123,15 +125,18 @@ searched_of p head rows xs ledger granted below k own c a n g j o r =
     }
 
 -- ---- the search's choice, for the line that code holds
-module _ (p : Policy) (u : ℕ) (x : Others) (ledger : List ℕ) (l : Line) (f : l ≡ line_of SESSIONS ledger u) (o : Choice) (k lower upper a b : ℕ)
+module _ (p : Policy) (u : ℕ) (x : Others) (ledger : List ℕ) (l : Line) (f : l ≡ line_of SESSIONS ledger u) (o : Found ℕ) (k lower upper a b : ℕ)
     (e : answered o ≡ choose (left_to p u x l k) l k lower upper a b) where
   abbrev choice_on : Line → Option ℕ
   choice_on y = choose (left_to p u x y k) y k lower upper a b
 
-  pub chosen_none : o ≡ Nothing → none ≡ choice_on (line_of SESSIONS ledger u)
-  unfolding answered
+  pub chosen_none : o ≡ None → none ≡ choice_on (line_of SESSIONS ledger u)
   chosen_none g = ap answered (sym g) ∙ e ∙ ap choice_on f
 
-  pub chosen_some : (s : ℕ) → o ≡ Roles s → some s ≡ choice_on (line_of SESSIONS ledger u)
-  unfolding answered
+  pub chosen_some : (s : ℕ) → o ≡ Some s → some s ≡ choice_on (line_of SESSIONS ledger u)
   chosen_some s g = ap answered (sym g) ∙ e ∙ ap choice_on f
+
+-- ---- what a policy's tables hold of it
+pub known_of : (t : PolicyTables) (p : Policy) → Holds t p → Known t.head t.authorized (exclusions_of t.exclusions) p
+unfolding exclusions_in
+known_of t p h = record { head_is = h.head_is; own_is = h.own_is; exclusions_are = h.exclusions_are }

@@ -102,7 +102,7 @@ pub told_short : (size room x : ℕ) → size ≤ room → x ≡ pick {X = ℕ} 
 unfolding pick
 told_short size room x h = simp (le-ltb room size h)
 
-told_extra : (size n : ℕ) → size ≡ n → size * 256 ≡ 0 + 256 * n
+told_extra : (size n : ℕ) → size ≡ n → 256 * size ≡ 0 + 256 * n
 told_extra size n e = omega (arith, e)
 
 -- what the code returns and writes is what the call tells
@@ -116,7 +116,7 @@ module _ (p : Policy) (ledger : List ℕ) (u k : ℕ) (lower upper : List ℕ) (
   pub tells_text : InRange p → AskReady SESSIONS p ledger u k (sizes lower upper) (number lower) (number upper) a b 40
       → Quiet SESSIONS p ledger u k lower upper a b (length before)
       → lo ≡ number lower → hi ≡ number upper → Written before (text_of m (line_of SESSIONS ledger u) k lo hi a b) after size
-      → n ≡ pick {X = ℕ} (ltb (length before) size) 19 (size * 256 % 2 ^ 64) → Tells told_by_lem n before after
+      → n ≡ pick {X = ℕ} (ltb (length before) size) 19 (256 * size % 2 ^ 64) → Tells told_by_lem n before after
   unfolding text_for pick returned wrote written unbarred exclusions_met
   tells_text range r quiet el eh w e = cases (ltb (length before) size) long fits
     where
@@ -144,7 +144,7 @@ module _ (p : Policy) (ledger : List ℕ) (u k : ℕ) (lower upper : List ℕ) (
       fits q =
           let h : length t ≤ length before = omega (arith, ltb-false (length before) size q, wrote_it.size_is) in
           let d = clauses_done SESSIONS p ledger u k lower upper a b (length before) r quiet h in
-          let f : n ≡ size * 256 % 2 ^ 64 = rw q at e in
+          let f : n ≡ 256 * size % 2 ^ 64 = rw q at e in
           record {
             number = f ∙ mod-eq_of_lt (omega (arith, short, wrote_it.size_is)) ∙ told_extra size (length t) wrote_it.size_is ∙ sym (ap returned d);
             buffer = wrote_it.fitting h ∙ sym (ap (written before) d);

@@ -4,6 +4,7 @@ use mathlib.Core.Path.{◌≡◌, sym, ap, subst, ◌∙◌}
 use mathlib.Core.List.{List, [], ◌∷◌, ◌++◌, append-nil}
 use mathlib.Core.Option.{Option}
 use Prim.Native.Nat.{ℕ, ◌+◌, ◌*◌, ◌^◌, ◌≤◌, ◌<◌}
+use native.Mathlib.Nat.{mod-eq_of_lt}
 use native.Mathlib.Omega.{arith}
 use lib.ListN.{length, get_or, drop_of_length-le}
 use Rattle.model.specs.declared.Head.{Head}
@@ -19,18 +20,21 @@ use Rattle.model.specs.Run.{line_of, returned, filled_with, answered}
 use Rattle.octets.specs.Splice.{splice, bytes_of_all}
 use Rattle.sessions.specs.Calls.{Known}
 use Rattle.asks.specs.Asks.{left_to, Searched}
-use Rattle.obstacles_lacks.specs.declared.found.Found.{Found}
-use Rattle.obstacles_lacks.specs.declared.found.Told.{Told}
-use Rattle.obstacles_lacks.specs.declared.found.Found.TheVariants.{Nothing, One}
-use Rattle.obstacles_lacks.specs.Founds.{found_of}
+use Rattle.std.specs.Prelude.{Option as Maybe, Some, None}
+use Rattle.reasons.specs.Numbers.{in_64_bits}
+use Rattle.obstacles_lacks.specs.declared.found.Obstacle.{Obstacle as Found}
+use Rattle.obstacles_lacks.specs.Founds.{found_of, told_of}
 use Rattle.obstacles.specs.Asking.{Asking}
-use Rattle.asks_obstacle.specs.Telling.{reply_of, Tells}
+use Rattle.asks_obstacle.specs.Telling.{reply_of, Tells, TellsOf}
 
 -- nothing was found
-pub tells-nothing : (f : Found) (room : List ℕ) → f ≡ Nothing → Tells (found_of f) 20 room room
+pub tells-nothing : (f : Maybe Found) (room : List ℕ) → f ≡ None → Tells (found_of f) 20 room room
 unfolding found_of reply_of obstructed refuse returned answered filled_with
 tells-nothing f room e =
-    record { number = sym (ap (λ (g : Found). returned (reply_of (found_of g))) e); buffer = sym (ap (λ (g : Found). answered room (reply_of (found_of g))) e) }
+    record {
+      number = sym (ap (λ (g : Maybe Found). returned (reply_of (found_of g))) e);
+      buffer = sym (ap (λ (g : Maybe Found). answered room (reply_of (found_of g))) e);
+    }
 
 -- two numbers take the place of 16 bytes
 pub pair_filled : (s : List ℕ) (a b : ℕ) (out : List ℕ) → length s ≡ 16 → out ≡ splice s 0 (bytes_of_all (a ∷ b ∷ [])) → out ≡ bytes_of 8 a ++ bytes_of 8 b
@@ -40,14 +44,16 @@ pair_filled s a b out h e =
     e ∙ ap (λ (y : List ℕ). (bytes_of 8 a ++ bytes_of 8 b) ++ y) (drop_of_length-le s z) ∙ append-nil (bytes_of 8 a ++ bytes_of 8 b)
 
 -- an obstacle was found, and both its sets are written
-pub tells-one : (f : Found) (t : Told) (room out : List ℕ) → f ≡ One t → out ≡ bytes_of 8 t.first ++ bytes_of 8 t.second
-    → Tells (found_of f) (256 * (t.kind + 8 * t.about)) room out
+pub tells-one : (f : Maybe Found) (o : Found) (extra first second : ℕ) (room out : List ℕ) → f ≡ Some o → TellsOf o extra first second
+    → out ≡ bytes_of 8 first ++ bytes_of 8 second → Tells (found_of f) (in_64_bits (256 * extra)) room out
 unfolding found_of reply_of obstructed tell returned answered filled_with bytes_of
-tells-one f t room out e w =
-    let z : 256 * (t.kind + 8 * t.about) ≡ 0 + 256 * (t.kind + 8 * t.about) = omega arith in
+tells-one f o extra first second room out e t w =
+    let z : in_64_bits (256 * extra) ≡ 0 + 256 * ((told_of o).kind + 8 * (told_of o).about) =
+    mod-eq_of_lt (omega (arith, t.small)) ∙ omega (arith, t.extra-is) in
     record {
-      number = z ∙ sym (ap (λ (g : Found). returned (reply_of (found_of g))) e);
-      buffer = w ∙ sym (ap (λ (g : Found). answered room (reply_of (found_of g))) e);
+      number = z ∙ sym (ap (λ (g : Maybe Found). returned (reply_of (found_of g))) e);
+      buffer = w ∙ (λ i. bytes_of 8 (t.first_is i) ++ bytes_of 8 (t.second_is i))
+          ∙ sym (ap (λ (g : Maybe Found). answered room (reply_of (found_of g))) e);
     }
 
 -- the roles of the user, by the table of them

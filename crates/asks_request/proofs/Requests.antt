@@ -1,7 +1,7 @@
 -- The refusals of an ask before the search, case by case, and what holds where there is none.
 -- Assumes nothing.
 use mathlib.Core.Path.{◌≡◌, refl, sym, ap, ◌∙◌}
-use mathlib.Core.Bool.{Bool, true, false, not, ◌&&◌, ◌||◌, false≢true}
+use mathlib.Core.Bool.{Bool, true, false, not, ◌&&◌, ◌||◌}
 use mathlib.Core.Option.{none}
 use mathlib.Core.List.{List, []}
 use Prim.Native.Nat.{ℕ, zero, suc, ◌+◌, ◌*◌, ◌^◌, ◌≤◌, ◌<◌}
@@ -9,7 +9,7 @@ use native.Mathlib.Omega.{arith}
 use lib.Dec.{eqb, ltb}
 use lib.ListN.{length, take}
 use borrow.Table.Steps.{cases}
-use borrow.Author.Tests.{not-true, not-false, lt-ltb, le-ltb, ltb-false, eq-eqb, ne_eqb, eqb-true}
+use borrow.Author.Tests.{not-true, not-false, lt-ltb, le-ltb, eq-eqb, ne_eqb, eqb-true}
 use Rattle.model.specs.declared.Head.{Head}
 use Rattle.model.specs.declared.Exclusions.{Exclusions}
 use Rattle.model.specs.Tests.{pick}
@@ -20,9 +20,14 @@ use Rattle.model.specs.Line.{line_size}
 use Rattle.model.specs.Session.{is_ask}
 use Rattle.model.specs.Run.{Call, line_of, told}
 use Rattle.model_laws.proofs.Reaches.{authorized_alone}
-use Rattle.model_laws.proofs.Bools.{or_l, or_r, not_both}
 use Rattle.sessions.specs.Calls.{Known, first_refusal, session_refusal}
 use Rattle.limits_lines.specs.Lines.{others_refusal}
+use Rattle.query_rank.specs.declared.objective.Objective.{Objective}
+use Rattle.query_rank.specs.declared.objective.Objective.TheVariants.{Any, Fewest, Most}
+use Rattle.query_rank.specs.Objectives.{number_of}
+use Rattle.reasons.specs.declared.Refusal.{Refusal}
+use Rattle.reasons.specs.Numbers.{code_of}
+use Rattle.reasons.proofs.Small.{number_of-numbered}
 use Rattle.asks_request.specs.Refusals.{or_else, bounds_refusal, sizes, Bounded, query_refusal, ask_refusal, limited_refusal}
 use Rattle.sessions.proofs.FirstSteps.{pick-none, Ready, ready, room as first-room}
 use Rattle.sessions.proofs.SessionTests.{Session, session_open}
@@ -45,27 +50,38 @@ unfolding or_else
 or-none zero b e = (refl, e)
 or-none (suc a) b e = absurd (omega arith)
 
+-- a refusal has a number
+pub coded : (r : Refusal) → code_of r ≡ 0 → ⊥
+coded r z = let h = number_of-numbered r.reason in absurd (omega (arith, h, z))
+
 -- ---- 16 to 19, by the tests that code makes one after the other
+
+-- an objective's number
+pub aim_small : (o : Objective) (n : ℕ) → number_of o ≡ n → n ≤ 2
+aim_small Any n e = omega arith
+aim_small Fewest n e = omega arith
+aim_small Most n e = omega arith
+
 module _ (P lower upper a b room : ℕ) (x : Bool) (ex : x ≡ ltb lower (2 ^ P)) where
-  pub bounds16_lower : not x ≡ true → 16 ≡ bounds_refusal P lower upper a b room
+  pub bounds16_lower : x ≡ false → 16 ≡ bounds_refusal P lower upper a b room
   unfolding bounds_refusal pick
-  bounds16_lower e = simp (sym ex ∙ not-true x e)
+  bounds16_lower e = simp (sym ex ∙ e)
 
-  module _ (e : not x ≡ false) (y : Bool) (ey : y ≡ ltb upper (2 ^ P)) where
-    pub bounds16_upper : not y ≡ true → 16 ≡ bounds_refusal P lower upper a b room
+  module _ (e : x ≡ true) (y : Bool) (ey : y ≡ ltb upper (2 ^ P)) where
+    pub bounds16_upper : y ≡ false → 16 ≡ bounds_refusal P lower upper a b room
     unfolding bounds_refusal pick
-    bounds16_upper f = simp (sym ex ∙ not-false x e, sym ey ∙ not-true y f)
+    bounds16_upper f = simp (sym ex ∙ e, sym ey ∙ f)
 
-    module _ (f : not y ≡ false) (z : Bool) (ez : z ≡ within lower upper) where
-      pub bounds17 : not z ≡ true → 17 ≡ bounds_refusal P lower upper a b room
+    module _ (f : y ≡ true) (z : Bool) (ez : z ≡ within lower upper) where
+      pub bounds17 : z ≡ false → 17 ≡ bounds_refusal P lower upper a b room
       unfolding bounds_refusal pick
-      bounds17 g = simp (sym ex ∙ not-false x e, sym ey ∙ not-false y f, sym ez ∙ not-true z g)
+      bounds17 g = simp (sym ex ∙ e, sym ey ∙ f, sym ez ∙ g)
 
-      module _ (g : not z ≡ false) where
+      module _ (g : z ≡ true) where
         -- the bounds are right: the objectives and the buffer are left
         nested : bounds_refusal P lower upper a b room ≡ pick (ltb 2 a || ltb 2 b) 18 (pick (not (eqb room 40)) 19 0)
         unfolding bounds_refusal pick
-        nested = simp (sym ex ∙ not-false x e, sym ey ∙ not-false y f, sym ez ∙ not-false z g)
+        nested = simp (sym ex ∙ e, sym ey ∙ f, sym ez ∙ g)
 
         pub bounds18_first : 2 < a → 18 ≡ bounds_refusal P lower upper a b room
         unfolding pick
@@ -122,27 +138,7 @@ module _ (P : ℕ) (sized : Bool) (lower upper a b room : ℕ) where
     room_40 : room ≡ 40
     room_40 = eqb-true _ _ q.space
 
-    first_small : a ≤ 2
-    first_small = cases (ltb 2 a) (λ e. not_both (ltb 2 a || ltb 2 b) (or_l (ltb 2 a) (ltb 2 b) e) q.aims) (λ e. ltb-false 2 a e)
-
-    second_small : b ≤ 2
-    second_small = cases (ltb 2 b) (λ e. not_both (ltb 2 a || ltb 2 b) (or_r (ltb 2 a) (ltb 2 b) e) q.aims) (λ e. ltb-false 2 b e)
-
 -- ---- bounds read from bytes
-module _ (lower upper : List ℕ) where
-  -- of the wrong size
-  unsized : (from to : ℕ) → false ≡ sizes lower upper → Bounded false from to lower upper
-  unsized from to e = record { sized_is = e; lower-is = λ t. absurd (false≢true t); upper_is = λ t. absurd (false≢true t) }
-
-  pub bounds_lower : (from to : ℕ) → (length lower ≡ 32 → ⊥) → Bounded false from to lower upper
-  bounds_lower from to h = unsized from to (simp (ne_eqb _ _ h))
-
-  pub bounds_upper : (from to : ℕ) → length lower ≡ 32 → (length upper ≡ 32 → ⊥) → Bounded false from to lower upper
-  bounds_upper from to h i = unsized from to (simp (eq-eqb _ _ h, ne_eqb _ _ i))
-
-  pub bounds_read : (from to : ℕ) → length lower ≡ 32 → length upper ≡ 32 → from ≡ number lower → to ≡ number upper → Bounded true from to lower upper
-  bounds_read from to h i e f = record { sized_is = simp (eq-eqb _ _ h, eq-eqb _ _ i); lower-is = λ t. e; upper_is = λ t. f }
-
 module _ (sized : Bool) (from to : ℕ) (lower upper : List ℕ) (e : Bounded sized from to lower upper) where
   -- what refuses them is what refuses the bytes
   query-of : (P a b room : ℕ) → query_refusal P sized from to a b room ≡ query_refusal P (sizes lower upper) (number lower) (number upper) a b room
@@ -205,8 +201,6 @@ pub record Passed (W : ℕ) (head : Head) (own : List ℕ) (xs : Exclusions) (li
   pub session : k < W
   pub lengths : sized ≡ true
   pub space : room ≡ 40
-  pub first_aim : a ≤ 2
-  pub second_aim : b ≤ 2
   pub ready : (p : Policy) → Known head own xs p → p.limits ≡ limits → (lower upper : List ℕ) → Bounded sized from to lower upper
       → AskReady W p ledger u k (sizes lower upper) (number lower) (number upper) a b room
   pub quiet : (p : Policy) → Known head own xs p → p.limits ≡ limits → (c : Call) → c.user ≡ u → is_ask c.operation ≡ true
@@ -251,8 +245,6 @@ module _ (W : ℕ) (head : Head) (own : List ℕ) (xs : Exclusions) (limits ledg
         session = r.session.below;
         lengths = q.lengths;
         space = room_40 P sized from to a b room q;
-        first_aim = first_small P sized from to a b room q;
-        second_aim = second_small P sized from to a b room q;
         ready = λ p h l lower upper e. ready_of p h l lower upper e;
         quiet = quiet_for;
       }

@@ -1,6 +1,6 @@
 -- The refusals of an ask before the search.
 -- Assumes nothing.
-use Rattle.std.specs.Prelude.{◌≡◌, Bool, true, not, ◌&&◌, ◌||◌, List, ℕ, zero, suc, ◌^◌, eqb, ltb, length}
+use Rattle.std.specs.Prelude.{◌≡◌, Bool, true, false, not, ◌&&◌, ◌||◌, List, ℕ, zero, suc, ◌^◌, eqb, ltb, length, Option, Some, None}
 use Rattle.model.specs.Tests.{pick}
 use Rattle.model.specs.Sets.{within}
 use Rattle.model.specs.Bytes.{number}
@@ -8,6 +8,8 @@ use Rattle.model.specs.Policy.{Policy}
 use Rattle.model.specs.Run.{line_of}
 use Rattle.sessions.specs.Calls.{first_refusal, session_refusal}
 use Rattle.limits_lines.specs.Lines.{others_refusal}
+use Rattle.sets.specs.Words.{value}
+use Rattle.asks_request.specs.declared.bounds.Bounds.{Bounds}
 
 -- the first number, where it is a refusal's, else the second
 unfoldable pub or_else : ℕ → ℕ → ℕ
@@ -29,6 +31,29 @@ pub record Bounded (sized : Bool) (from to : ℕ) (lower upper : List ℕ) : Typ
   pub sized_is : sized ≡ sizes lower upper
   pub lower-is : sized ≡ true → from ≡ number lower
   pub upper_is : sized ≡ true → to ≡ number upper
+
+-- a bound that is not 32 bytes long, and one that is, with the set that it holds
+abbrev pub Unsized : List ℕ → Type 0
+Unsized bytes = eqb (length bytes) 32 ≡ false
+
+abbrev pub Sized : List ℕ → ℕ → Type 0
+Sized bytes set = (eqb (length bytes) 32 ≡ true) × (set ≡ number bytes)
+
+-- of the bounds that code holds: whether there are any, and the sets
+abbrev pub sized_of : Option Bounds → Bool
+sized_of None = false
+sized_of (Some b) = true
+
+abbrev pub lower_of : Option Bounds → ℕ
+lower_of None = 0
+lower_of (Some b) = value b.lower
+
+abbrev pub upper_of : Option Bounds → ℕ
+upper_of None = 0
+upper_of (Some b) = value b.upper
+
+abbrev pub BoundedBy : Option Bounds → List ℕ → List ℕ → Type 0
+BoundedBy b = Bounded (sized_of b) (lower_of b) (upper_of b)
 
 -- 15 to 19 for bounds of the right sizes or not, else 0
 unfoldable pub query_refusal : ℕ → Bool → ℕ → ℕ → ℕ → ℕ → ℕ → ℕ

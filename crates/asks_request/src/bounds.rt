@@ -1,53 +1,40 @@
 // The bounds of an ask as permission sets: 32 bytes read into four words, and whether a set has permissions of the
 // policy alone.
-ghost use Rattle.std.specs.Prelude.{◌≡◌, ◌*◌, ◌^◌, ltb, length};
+ghost use Rattle.std.specs.Prelude.{◌≡◌, ◌*◌, ◌^◌, ltb, length, MatchOption};
 ghost use Rattle.model.specs.Bytes.{number};
 ghost use Rattle.sets.specs.Words.{value};
-ghost use Rattle.asks_request.specs.Refusals.{Bounded};
+ghost use Rattle.asks_request.specs.Refusals.{BoundedBy, Unsized, Sized};
 
-// The bounds of an ask: whether each was 32 bytes long and, where both were, the sets that they hold.
+// The bounds of an ask, as permission sets.
 #[derive(Clone, Copy)]
 pub struct Bounds {
-    pub sized: bool,
     pub lower: [u64; 4],
     pub upper: [u64; 4],
 }
 
-// The set that 32 bytes hold.
-fn bound(bytes: &[u8]) -> [u64; 4]
-    requires { length bytes.now ≡ 32 }
-    ensures { value result ≡ number bytes.now }
+// The set that bytes hold, if they are 32.
+fn bound(bytes: &[u8]) -> Option<[u64; 4]>
+    ensures { MatchOption result (Unsized bytes.now) (λ set. Sized bytes.now (value set)) }
 {
-    [
+    if bytes.len() != 32 {
+        return None;
+    }
+    Some([
         octets::get_u64(bytes, 0),
         octets::get_u64(bytes, 8),
         octets::get_u64(bytes, 16),
         octets::get_u64(bytes, 24),
-    ]
+    ])
 }
 
-// The bounds read.
-pub fn bounds_of(lower: &[u8], upper: &[u8]) -> Bounds
-    ensures { Bounded result.sized (value result.lower) (value result.upper) lower.now upper.now }
+// The bounds read, where both are 32 bytes long.
+pub fn bounds_of(lower: &[u8], upper: &[u8]) -> Option<Bounds>
+    ensures { BoundedBy result lower.now upper.now }
 {
-    let none = Bounds {
-        sized: false,
-        lower: [0u64; 4],
-        upper: [0u64; 4],
-    };
-    if lower.len() != 32 {
-        return none;
-    }
-    if upper.len() != 32 {
-        return none;
-    }
-    let from = bound(lower);
-    let to = bound(upper);
-    Bounds {
-        sized: true,
-        lower: from,
-        upper: to,
-    }
+    Some(Bounds {
+        lower: bound(lower)?,
+        upper: bound(upper)?,
+    })
 }
 
 // The word, whose lowest bit is permission `at`, has permissions below n alone.

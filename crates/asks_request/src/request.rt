@@ -1,130 +1,118 @@
 // What refuses an ask before any role set is looked for: the refusals 9 to 19.
-ghost use Rattle.std.specs.Prelude.{◌≡◌, ◌≤◌, length};
+ghost use Rattle.std.specs.Prelude.{◌≡◌, IfOk};
 ghost use Rattle.model.specs.Line.{SESSIONS};
 ghost use Rattle.model.specs.Policy.{Policy};
 ghost use Rattle.sessions.specs.Calls.{Known};
 ghost use Rattle.sets.specs.Words.{value};
-ghost use Rattle.exclusion_rows.specs.Rows.{exclusions_in};
-ghost use Rattle.asks_request.specs.Refusals.{bounds_refusal as bounds_refusal_of, query_refusal as query_refusal_of, ask_refusal as ask_refusal_of, limited_refusal as limited_refusal_of};
+ghost use Rattle.exclusion_rows.specs.Table.{exclusions_of};
+ghost use Rattle.reasons.specs.Numbers.{fault_of, refusal_of};
+ghost use Rattle.asks_request.specs.Refusals.{sized_of, lower_of, upper_of, bounds_refusal as bounds_refusal_of, query_refusal as query_refusal_of, ask_refusal as ask_refusal_of, limited_refusal as limited_refusal_of};
+ghost use Rattle.asks_request.specs.Wishes.{Wants};
 
 use crate::bounds::{Bounds, below};
 use ledger::bytes::line_of;
-use model::refusals;
+use policy_tables::PolicyTables;
+use query_rank::objective::Objective;
+use reasons::{Reason, Refusal};
 use sessions::first::{first_refusal, session_refusal};
-use sessions::given::{Sizes, UserSession};
+use sessions::given::UserSession;
 
-// What is asked under a policy: its sizes, the session of a user, the bounds, and the objectives (01: aims) on
-// permissions and on roles.
+// An ask, as a host makes it: the session of a user, the bounds where both are 32 bytes long, and the numbers of the
+// objectives (01: aims) on permissions and on roles. These are read late: the clauses `refused` have 9 to 17 before 18.
 #[derive(Clone, Copy)]
 pub struct Request {
-    pub sizes: Sizes,
     pub who: UserSession,
-    pub bounds: Bounds,
+    pub bounds: Option<Bounds>,
     pub first: u64,
     pub second: u64,
 }
 
-// 16 for a bound with a permission that the policy does not have, 17 for a lower bound that is not within the upper, 18
-// for an objective (01: aim) that there is not, 19 for an answer buffer of another length, else 0.
+// What is asked for: the bounds as sets, and the objectives on permissions and on roles.
+#[derive(Clone, Copy)]
+pub struct Wanted {
+    pub lower: [u64; 4],
+    pub upper: [u64; 4],
+    pub first: Objective,
+    pub second: Objective,
+}
+
+// What is asked for within these bounds, or what refuses it: 16 for a bound with a permission that the policy does not
+// have, 17 for a lower bound that is not within the upper, 18 for an objective that there is not, 19 for an answer
+// buffer of another length.
 fn bounds_refusal(
-    lower: [u64; 4],
-    upper: [u64; 4],
+    bounds: Bounds,
     permissions: u16,
-    first: u64,
-    second: u64,
-    room: usize,
-) -> u64
-    ensures { result ≡ bounds_refusal_of permissions (value lower) (value upper) first second room }
-{
-    if !below(lower, permissions) {
-        return refusals::PERMISSION;
-    }
-    if !below(upper, permissions) {
-        return refusals::PERMISSION;
-    }
-    if !sets::perm_within(lower, upper) {
-        return refusals::BOUNDS;
-    }
-    if 2 < first {
-        return refusals::AIM;
-    }
-    if 2 < second {
-        return refusals::AIM;
-    }
-    if room != 40 {
-        return refusals::ROOM;
-    }
-    0
-}
-
-// 15 for a bound that is not 32 bytes long, else what refuses the bounds.
-fn query_refusal(bounds: Bounds, permissions: u16, first: u64, second: u64, room: usize) -> u64
-    ensures { result ≡ query_refusal_of permissions bounds.sized (value bounds.lower) (value bounds.upper) first second room }
-{
-    let sized = bounds.sized;
-    if !sized {
-        return refusals::SET;
-    }
-    let lower = bounds.lower;
-    let upper = bounds.upper;
-    bounds_refusal(lower, upper, permissions, first, second, room)
-}
-
-// The first of the refusals 9 to 19 that holds for an ask, else 0.
-pub fn ask_refusal(
-    ledger: &[u8],
-    authorized: &[u64; 64],
-    xs: &[[u64; 2]; 32],
     request: Request,
     room: usize,
-) -> u64
-    requires { (request.sizes.head.users ≤ 64) × (request.sizes.count ≤ 32) × (length xs.now ≡ 32) }
-    ensures { (p : Policy) → Known request.sizes.head authorized.now (exclusions_in xs.now request.sizes.count) p
-        → result ≡ ask_refusal_of SESSIONS p ledger.now request.who.user request.who.session request.bounds.sized
-        (value request.bounds.lower) (value request.bounds.upper) request.first request.second room }
+) -> Result<Wanted, Reason>
+    ensures refused { fault_of result ≡ bounds_refusal_of permissions (value bounds.lower) (value bounds.upper) request.first request.second room }
+    ensures given { IfOk result (Wants (Some bounds) request.first request.second) }
 {
-    let sizes = request.sizes;
-    let who = request.who;
-    let n = first_refusal(ledger, sizes, authorized, xs, who.user);
-    if n != 0 {
-        return n;
+    let lower = bounds.lower;
+    let upper = bounds.upper;
+    if !below(lower, permissions) || !below(upper, permissions) {
+        return Err(Reason::Permission);
     }
-    let l = line_of(ledger, who.user as usize);
-    let m = session_refusal(l, who.session);
-    if m != 0 {
-        return m;
+    if !sets::perm_within(lower, upper) {
+        return Err(Reason::Bounds);
     }
-    let head = sizes.head;
-    let bounds = request.bounds;
-    query_refusal(
-        bounds,
-        head.permissions,
-        request.first,
-        request.second,
-        room,
-    )
+    let first = Objective::try_from(request.first)?;
+    let second = Objective::try_from(request.second)?;
+    if room != 40 {
+        return Err(Reason::Room);
+    }
+    Ok(Wanted {
+        lower,
+        upper,
+        first,
+        second,
+    })
+}
+
+// The same of the bounds of a request, or 15 where they are not 32 bytes long.
+fn query_refusal(request: Request, permissions: u16, room: usize) -> Result<Wanted, Reason>
+    ensures refused { fault_of result
+        ≡ query_refusal_of permissions (sized_of request.bounds) (lower_of request.bounds) (upper_of request.bounds) request.first
+        request.second room }
+    ensures given { IfOk result (Wants request.bounds request.first request.second) }
+{
+    let Some(bounds) = request.bounds else {
+        return Err(Reason::Set);
+    };
+    bounds_refusal(bounds, permissions, request, room)
+}
+
+// What an ask asks for, or the first of the refusals 9 to 19 that holds for it.
+pub fn ask_refusal(
+    ledger: &[u8],
+    tables: &PolicyTables,
+    request: Request,
+    room: usize,
+) -> Result<Wanted, Reason>
+    ensures refused { (p : Policy) → Known tables.now.head tables.now.authorized (exclusions_of tables.now.exclusions) p
+        → fault_of result ≡ ask_refusal_of SESSIONS p ledger.now request.who.user request.who.session (sized_of request.bounds)
+        (lower_of request.bounds) (upper_of request.bounds) request.first request.second room }
+    ensures given { IfOk result (Wants request.bounds request.first request.second) }
+{
+    first_refusal(ledger, tables, request.who.user)?;
+    let line = line_of(ledger, request.who.user as usize);
+    session_refusal(line, request.who.session)?;
+    query_refusal(request, tables.head.permissions, room)
 }
 
 // The same under limits: a line that is not sound refuses it after 9 and 10 and before 12, whosever it is.
 pub fn limited_refusal(
     ledger: &[u8],
-    authorized: &[u64; 64],
-    limits: &[u64; 64],
-    xs: &[[u64; 2]; 32],
+    tables: &PolicyTables,
     request: Request,
     room: usize,
-) -> u64
-    requires { (request.sizes.head.users ≤ 64) × (request.sizes.count ≤ 32) × (length xs.now ≡ 32) × (length limits.now ≡ 64) }
-    ensures { (p : Policy) → Known request.sizes.head authorized.now (exclusions_in xs.now request.sizes.count) p
-        → p.limits ≡ limits.now
-        → result ≡ limited_refusal_of SESSIONS p ledger.now request.who.user request.who.session request.bounds.sized
-        (value request.bounds.lower) (value request.bounds.upper) request.first request.second room }
+) -> Result<Wanted, Refusal>
+    ensures refused { (p : Policy) → Known tables.now.head tables.now.authorized (exclusions_of tables.now.exclusions) p
+        → p.limits ≡ tables.now.limits
+        → refusal_of result ≡ limited_refusal_of SESSIONS p ledger.now request.who.user request.who.session (sized_of request.bounds)
+        (lower_of request.bounds) (upper_of request.bounds) request.first request.second room }
+    ensures given { IfOk result (Wants request.bounds request.first request.second) }
 {
-    let sizes = request.sizes;
-    let who = request.who;
-    let n = limits_lines::lines::refusal(ledger, sizes, authorized, limits, xs, who.user);
-    if n != 0 {
-        return n;
-    }
-    ask_refusal(ledger, authorized, xs, request, room)
+    limits_lines::lines::refusal(ledger, tables, request.who.user)?;
+    Ok(ask_refusal(ledger, tables, request, room)?)
 }

@@ -1,98 +1,76 @@
--- A call's tables before its image is read, and what they hold of an image that is accepted.
+-- What a call holds of an image that it has read: the judgement, and of an accepted one the tables of its policy.
 -- Assumes nothing.
 use mathlib.Core.Path.{◌≡◌, refl, sym, ap, subst, ◌∙◌}
-use mathlib.Core.List.{List}
-use Prim.Native.Nat.{ℕ, ◌≤◌}
-use lib.ListN.{length, replicate}
+use Rattle.std.proofs.Common.{List, ℕ, ◌≤◌}
 use Rattle.model.specs.declared.Head.{Head}
 use Rattle.model.specs.declared.Checked.{Checked}
 use Rattle.model.specs.declared.Checked.TheVariants.{Accepted, Refused}
-use Rattle.model.specs.Image.{empty_rows}
+use Rattle.model.specs.Image.{empty_rows, check_number}
 use Rattle.model.specs.Judgement.{judge}
 use Rattle.model.specs.Policy.{policy_of, below_table}
 use Rattle.model.specs.Ranges.{InRange}
-use Rattle.model_laws.proofs.Judgements.{accepted-head, accepted_in_range}
+use Rattle.model_laws.proofs.Judgements.{accepted_in_range}
 use Rattle.sets.specs.Words.{value, values}
 use Rattle.exclusion_rows.specs.Rows.{exclusions_in}
+use Rattle.std.specs.Prelude.{Result, Ok, Err}
+use Rattle.reasons.specs.declared.Refusal.{Refusal}
+use Rattle.reasons.specs.Numbers.{number_of, refusal_of, checked_of}
+use Rattle.policy_tables.specs.declared.PolicyTables.{PolicyTables}
+use Rattle.policy_tables.specs.Held.{Blank, Holds}
 use Rattle.tables.specs.Tables.{Fresh}
-use Rattle.tables.proofs.Fills.{length_limits}
 use Rattle.sessions.specs.Calls.{Known}
-use Rattle.calls_image.specs.Held.{Blank, Held}
+
+-- a judgement's number
+pub checked-number : (o : Result Head Refusal) → check_number (checked_of o) ≡ refusal_of o
+unfolding check_number
+checked-number (Ok h) = refl
+checked-number (Err r) = refl
+
+-- a refusal is that of the judgement
+pub judged-refused : {o : Result Head Refusal} {k : Checked} {e : Refusal} → checked_of o ≡ k → o ≡ Err e → k ≡ Refused (number_of e.reason) e.extra
+judged-refused q f = sym q ∙ ap checked_of f
+
+pub judged-accepted : {o : Result Head Refusal} {k : Checked} {h : Head} → checked_of o ≡ k → o ≡ Ok h → k ≡ Accepted h
+judged-accepted q f = sym q ∙ ap checked_of f
 
 -- tables of zeros are fresh
-pub fresh : Fresh (replicate 64 0) (values (replicate 64 (replicate 4 0))) (replicate 64 0) (replicate 64 0)
+pub blank-fresh : {t : PolicyTables} → Blank t → Fresh t
 unfolding empty_rows values value
-fresh = record { assigned_none = refl; granted_none = refl; juniors_none = refl; limits_none = refl }
+blank-fresh b =
+    record {
+      assigned_none = b.authorized_none;
+      granted_none = ap values b.granted_none;
+      juniors_none = b.below_none;
+      limits_none = b.limits_none;
+    }
 
-pub blank-fresh : {own : List ℕ} {granted : List (List ℕ)} {below limits : List ℕ} {rows : List (List ℕ)} → Blank own granted below limits rows
-    → Fresh own (values granted) below limits
-blank-fresh b = rw (b.own_none, b.granted_none, b.below_none, b.limits_none) fresh
+module _ (s : List ℕ) {t : PolicyTables} (h : Holds t (policy_of s)) where
+  -- the tables are those of the image's policy
+  pub held_granted : values t.granted ≡ (policy_of s).granted
+  held_granted = h.granted_is
 
-module _ {s : List ℕ} {k : Checked} {own granted below limits : List ℕ} {rows : List (List ℕ)} {count : ℕ}
-    (t : Held s k own granted below limits rows count) where
-  pub held-refused : {n place : ℕ} → k ≡ Refused n place → judge s ≡ Refused n place
-  held-refused g = sym t.judged ∙ g
+  pub held_below : t.below ≡ below_table (policy_of s)
+  held_below = h.below_is
 
-  module _ {h : Head} (g : k ≡ Accepted h) where
-    pub held_accepted : judge s ≡ Accepted h
-    held_accepted = sym t.judged ∙ g
+  pub held_roles_are : (policy_of s).head.roles ≡ t.head.roles
+  held_roles_are = ap (λ (x : Head). x.roles) h.head_is
 
-    -- the image's numbers
-    pub held_head : (policy_of s).head ≡ h
-    held_head = accepted-head s h held_accepted
+  -- whose numbers are in their ranges
+  module _ {h' : Head} (e : judge s ≡ Accepted h') where
+    pub held_roles : t.head.roles ≤ 64
+    held_roles = subst (λ (x : Head). x.roles ≤ 64) h.head_is (accepted_in_range s h' e).roles.1
 
-    pub held_range : InRange (policy_of s)
-    held_range = accepted_in_range s h held_accepted
+    pub held_permissions : t.head.permissions ≤ 256
+    held_permissions = subst (λ (x : Head). x.permissions ≤ 256) h.head_is (accepted_in_range s h' e).permissions.1
 
-    pub held_users : h.users ≤ 64
-    held_users = subst (λ (x : Head). x.users ≤ 64) held_head held_range.users.1
+  -- and so known to a call on a line
+  pub held_known : Known t.head t.authorized (exclusions_in t.exclusions.rows t.exclusions.count) (policy_of s)
+  unfolding exclusions_in
+  held_known = record { head_is = h.head_is; own_is = h.own_is; exclusions_are = h.exclusions_are }
 
-    pub held_roles : h.roles ≤ 64
-    held_roles = subst (λ (x : Head). x.roles ≤ 64) held_head held_range.roles.1
-
-    pub held_roles_are : (policy_of s).head.roles ≡ h.roles
-    held_roles_are = ap (λ (x : Head). x.roles) held_head
-
-    pub held_permissions : h.permissions ≤ 256
-    held_permissions = subst (λ (x : Head). x.permissions ≤ 256) held_head held_range.permissions.1
-
-    -- its tables
-    pub held_few : count ≤ 32
-    held_few = (t.tables h g).few
-
-    pub held-full : length rows ≡ 32
-    held-full = (t.tables h g).full
-
-    pub held_granted : granted ≡ (policy_of s).granted
-    held_granted = (t.tables h g).granted_is
-
-    pub held_below : below ≡ below_table (policy_of s)
-    held_below = (t.tables h g).below_is
-
-    pub held_limits : (policy_of s).limits ≡ limits
-    held_limits = sym (t.tables h g).limits_is
-
-    pub held_limits_size : length limits ≡ 64
-    held_limits_size = sym (ap length held_limits) ∙ length_limits s
-
-    -- and so known to a call on a line
-    pub held_known : Known h own (exclusions_in rows count) (policy_of s)
-    unfolding exclusions_in
-    held_known =
-        record { head_is = held_head; own_is = λ u l w. (t.tables h g).own_is u l; exclusions_are = (t.tables h g).exclusions_are }
+-- the numbers of an accepted image are in their ranges
+pub held_range : (s : List ℕ) {h : Head} → judge s ≡ Accepted h → InRange (policy_of s)
+held_range s {h} e = accepted_in_range s h e
 
 -- what a call may use of an image that is accepted
-pub ruleset held = (
-  held_users,
-  held_roles,
-  held_roles_are,
-  held_permissions,
-  held_range,
-  held_few,
-  held-full,
-  held_granted,
-  held_below,
-  held_limits,
-  held_limits_size,
-  held_known,
-)
+pub ruleset held = (held_granted, held_below, held_roles_are, held_known, held_range)

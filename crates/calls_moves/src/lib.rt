@@ -7,35 +7,21 @@ ghost use Rattle.model.specs.Line.{SESSIONS};
 ghost use Rattle.model.specs.Moves.{move, widened, narrowed};
 ghost use Rattle.sessions.specs.Calls.{Gives};
 
-use calls_image::{read_image, refusal_of};
-use model::Checked;
-use sessions::given::Sizes;
+use policy_tables::PolicyTables;
+use reasons::refused;
+use tables::read::read;
 
 // Carries a ledger from so many sessions a user to so many.
 fn moved(image: &[u8], old: &[u8], new: &mut [u8], from: u8, to: u8) -> u64
     requires { (0 < from) × (from ≤ SESSIONS) × (to ≤ SESSIONS) }
     ensures { Gives (move from to image.now old.now new.old) result new.new }
 {
-    let mut authorized = [0u64; 64];
-    let mut granted = [[0u64; 4]; 64];
-    let mut below = [0u64; 64];
-    let mut limits = [0u64; 64];
-    let mut xs = [[0u64; 2]; 32];
-    let all = read_image(
-        image,
-        &mut authorized,
-        &mut granted,
-        &mut below,
-        &mut limits,
-        &mut xs,
-    );
-    let c = all.checked;
-    let Checked::Accepted(head) = c else {
-        return refusal_of(c);
+    let mut policy = PolicyTables::new();
+    let outcome = read(image, &mut policy);
+    let Ok(()) = outcome else {
+        return refused(outcome);
     };
-    let count = all.count;
-    let sizes = Sizes { head, count };
-    moves::lines::move_lines(old, from, to, sizes, &authorized, &xs, new)
+    refused(moves::lines::move_lines(old, from, to, &policy, new))
 }
 
 // Carries a ledger of four sessions a user over to one of eight.

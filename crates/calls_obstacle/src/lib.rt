@@ -9,9 +9,10 @@ ghost use Rattle.sessions.specs.Calls.{Shows};
 
 use asks_request::bounds::bounds_of;
 use asks_request::request::Request;
-use calls_image::{read_image, refusal_of};
-use model::Checked;
-use sessions::given::{Sizes, UserSession};
+use policy_tables::PolicyTables;
+use reasons::{refused, returned};
+use sessions::given::UserSession;
+use tables::read::read;
 
 // Tells what stands in the way of an ask in the user's session.
 pub fn tell_obstacle(
@@ -27,42 +28,18 @@ pub fn tell_obstacle(
         (obstacle_by user session lower.now upper.now (length roles.old)))
         result roles.old roles.new }
 {
-    let mut authorized = [0u64; 64];
-    let mut granted = [[0u64; 4]; 64];
-    let mut below = [0u64; 64];
-    let mut limits = [0u64; 64];
-    let mut xs = [[0u64; 2]; 32];
-    let all = read_image(
-        image,
-        &mut authorized,
-        &mut granted,
-        &mut below,
-        &mut limits,
-        &mut xs,
-    );
-    let c = all.checked;
-    let Checked::Accepted(head) = c else {
-        return refusal_of(c);
+    let mut policy = PolicyTables::new();
+    let outcome = read(image, &mut policy);
+    let Ok(()) = outcome else {
+        return refused(outcome);
     };
-    let count = all.count;
-    let sizes = Sizes { head, count };
     let who = UserSession { user, session };
     let bounds = bounds_of(lower, upper);
     let request = Request {
-        sizes,
         who,
         bounds,
         first: 0,
         second: 0,
     };
-    asks_obstacle::ask_obstacle(
-        ledger,
-        &authorized,
-        &granted,
-        &below,
-        &limits,
-        &xs,
-        request,
-        roles,
-    )
+    returned(asks_obstacle::ask_obstacle(ledger, &policy, request, roles))
 }

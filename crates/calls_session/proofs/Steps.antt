@@ -2,31 +2,27 @@
 -- Assumes nothing.
 use mathlib.Core.Path.{◌≡◌, sym, ap, subst, ◌∙◌}
 use mathlib.Core.List.{List}
-use Prim.Native.Nat.{ℕ}
+use Prim.Native.Nat.{ℕ, ◌+◌, ◌*◌}
 use Rattle.model.specs.declared.Head.{Head}
-use Rattle.model.specs.declared.Checked.{Checked}
 use Rattle.model.specs.declared.Checked.TheVariants.{Accepted, Refused}
-use Rattle.model.specs.Image.{check_number}
+use Rattle.model.specs.Judgement.{judge}
 use Rattle.model.specs.Policy.{policy_of}
 use Rattle.model.specs.Session.{refuse}
 use Rattle.model.specs.Run.{Call, Event, step_on, step_by, step, returned, filled_with, answered, written}
 use Rattle.sessions.specs.Calls.{Gives, Shows}
 use Rattle.asks.specs.Asks.{Answers}
 use Rattle.asks_clauses.specs.Tells.{Tells}
-use Rattle.calls_image.specs.Held.{Held}
-use Rattle.calls_image.proofs.Images.{held-refused, held_accepted}
 
-module _ {s : List ℕ} {k : Checked} {own granted below limits : List ℕ} {rows : List (List ℕ)} {count : ℕ} (t : Held s k own granted below limits rows count)
-    (W : ℕ) (ledger : List ℕ) (c : Call) where
+module _ (s : List ℕ) (W : ℕ) (ledger : List ℕ) (c : Call) where
   -- a refused image ends the call there
-  module _ {n place : ℕ} (g : k ≡ Refused n place) {r : ℕ} (q : r ≡ check_number k) where
+  module _ {n place : ℕ} (g : judge s ≡ Refused n place) {r : ℕ} (q : r ≡ n + 256 * place) where
     refused : step W s ledger c ≡ record { reply = refuse n place; ledger = ledger }
     unfolding step step_by
-    refused = rw (held-refused t g)
+    refused = rw g
 
     pub returned-refused : r ≡ returned (step W s ledger c).reply
-    unfolding check_number returned refuse
-    returned-refused = q ∙ ap check_number g ∙ sym (ap (λ (x : Event). returned x.reply) refused)
+    unfolding returned refuse
+    returned-refused = q ∙ sym (ap (λ (x : Event). returned x.reply) refused)
 
     pub gives-refused : Gives (step W s ledger c) r ledger
     gives-refused = record { number = returned-refused; bytes = sym (ap (λ (x : Event). x.ledger) refused) }
@@ -43,10 +39,10 @@ module _ {s : List ℕ} {k : Checked} {own granted below limits : List ℕ} {row
     tells-refused room = record { number = returned-refused; buffer = sym (ap (λ (x : Event). written room x.reply) refused) }
 
   -- under an accepted one it goes by the policy
-  module _ {h : Head} (g : k ≡ Accepted h) where
+  module _ {h : Head} (g : judge s ≡ Accepted h) where
     by_policy : step_on W (policy_of s) ledger c ≡ step W s ledger c
     unfolding step step_by
-    by_policy = rw (held_accepted t g)
+    by_policy = rw g
 
     pub returned_by : {r : ℕ} → r ≡ returned (step_on W (policy_of s) ledger c).reply → r ≡ returned (step W s ledger c).reply
     returned_by {r} = subst (λ (x : Event). r ≡ returned x.reply) by_policy

@@ -11,61 +11,34 @@ ghost use Rattle.asks_clauses.specs.Tells.{Tells};
 
 use asks_request::bounds::bounds_of;
 use asks_request::request::Request;
-use calls_image::{read_image, refusal_of};
-use model::Checked;
-use sessions::given::{Sizes, UserSession};
+use policy_tables::PolicyTables;
+use reasons::{refused, returned};
+use sessions::given::UserSession;
+use tables::read::read;
 
 // Opens the user's lowest closed session.
 pub fn open_session(image: &[u8], ledger: &mut [u8], user: u64) -> u64
     ensures { Gives (step SESSIONS image.now ledger.old (open_by user)) result ledger.new }
 {
-    let mut authorized = [0u64; 64];
-    let mut granted = [[0u64; 4]; 64];
-    let mut below = [0u64; 64];
-    let mut limits = [0u64; 64];
-    let mut xs = [[0u64; 2]; 32];
-    let all = read_image(
-        image,
-        &mut authorized,
-        &mut granted,
-        &mut below,
-        &mut limits,
-        &mut xs,
-    );
-    let c = all.checked;
-    let Checked::Accepted(head) = c else {
-        return refusal_of(c);
+    let mut policy = PolicyTables::new();
+    let outcome = read(image, &mut policy);
+    let Ok(()) = outcome else {
+        return refused(outcome);
     };
-    let count = all.count;
-    let sizes = Sizes { head, count };
-    sessions_change::open::open_session(ledger, sizes, &authorized, &xs, user)
+    returned(sessions_change::open::open_session(ledger, &policy, user))
 }
 
 // Closes the user's session.
 pub fn close_session(image: &[u8], ledger: &mut [u8], user: u64, session: u64) -> u64
     ensures { Gives (step SESSIONS image.now ledger.old (close_by user session)) result ledger.new }
 {
-    let mut authorized = [0u64; 64];
-    let mut granted = [[0u64; 4]; 64];
-    let mut below = [0u64; 64];
-    let mut limits = [0u64; 64];
-    let mut xs = [[0u64; 2]; 32];
-    let all = read_image(
-        image,
-        &mut authorized,
-        &mut granted,
-        &mut below,
-        &mut limits,
-        &mut xs,
-    );
-    let c = all.checked;
-    let Checked::Accepted(head) = c else {
-        return refusal_of(c);
+    let mut policy = PolicyTables::new();
+    let outcome = read(image, &mut policy);
+    let Ok(()) = outcome else {
+        return refused(outcome);
     };
-    let count = all.count;
-    let sizes = Sizes { head, count };
     let who = UserSession { user, session };
-    sessions_change::close::close_session(ledger, sizes, &authorized, &xs, who)
+    refused(sessions_change::close::close_session(ledger, &policy, who))
 }
 
 // Shows the active roles of the user's session and the permissions that they carry.
@@ -73,72 +46,26 @@ pub fn show_session(image: &[u8], ledger: &[u8], user: u64, session: u64, answer
     ensures { Shows (step SESSIONS image.now ledger.now
         (show_by user session (length answer.old))) result answer.old answer.new }
 {
-    let mut authorized = [0u64; 64];
-    let mut granted = [[0u64; 4]; 64];
-    let mut below = [0u64; 64];
-    let mut limits = [0u64; 64];
-    let mut xs = [[0u64; 2]; 32];
-    let all = read_image(
-        image,
-        &mut authorized,
-        &mut granted,
-        &mut below,
-        &mut limits,
-        &mut xs,
-    );
-    let c = all.checked;
-    let Checked::Accepted(head) = c else {
-        return refusal_of(c);
+    let mut policy = PolicyTables::new();
+    let outcome = read(image, &mut policy);
+    let Ok(()) = outcome else {
+        return refused(outcome);
     };
-    let count = all.count;
-    let sizes = Sizes { head, count };
     let who = UserSession { user, session };
-    sessions_show::show::show_session(
-        ledger,
-        sizes,
-        &authorized,
-        &granted,
-        &below,
-        &xs,
-        who,
-        answer,
-    )
+    refused(sessions_show::show::show_session(ledger, &policy, who, answer))
 }
 
 // Explains through which roles the active ones of the user's session carry the permission.
 pub fn explain_session(image: &[u8], ledger: &[u8], user: u64, session: u64, permission: u64) -> u64
     ensures { result ≡ returned (step SESSIONS image.now ledger.now (explain_by user session permission)).reply }
 {
-    let mut authorized = [0u64; 64];
-    let mut granted = [[0u64; 4]; 64];
-    let mut below = [0u64; 64];
-    let mut limits = [0u64; 64];
-    let mut xs = [[0u64; 2]; 32];
-    let all = read_image(
-        image,
-        &mut authorized,
-        &mut granted,
-        &mut below,
-        &mut limits,
-        &mut xs,
-    );
-    let c = all.checked;
-    let Checked::Accepted(head) = c else {
-        return refusal_of(c);
+    let mut policy = PolicyTables::new();
+    let outcome = read(image, &mut policy);
+    let Ok(()) = outcome else {
+        return refused(outcome);
     };
-    let count = all.count;
-    let sizes = Sizes { head, count };
     let who = UserSession { user, session };
-    sessions_show::explain::explain_session(
-        ledger,
-        sizes,
-        &authorized,
-        &granted,
-        &below,
-        &xs,
-        who,
-        permission,
-    )
+    returned(sessions_show::explain::explain_session(ledger, &policy, who, permission))
 }
 
 // Asks for roles in the user's session.
@@ -156,43 +83,19 @@ pub fn ask_roles(
         (ask_by who.user who.session lower.now upper.now first second (length answer.old)))
         result ledger.new answer.old answer.new }
 {
-    let mut authorized = [0u64; 64];
-    let mut granted = [[0u64; 4]; 64];
-    let mut below = [0u64; 64];
-    let mut limits = [0u64; 64];
-    let mut xs = [[0u64; 2]; 32];
-    let all = read_image(
-        image,
-        &mut authorized,
-        &mut granted,
-        &mut below,
-        &mut limits,
-        &mut xs,
-    );
-    let c = all.checked;
-    let Checked::Accepted(head) = c else {
-        return refusal_of(c);
+    let mut policy = PolicyTables::new();
+    let outcome = read(image, &mut policy);
+    let Ok(()) = outcome else {
+        return refused(outcome);
     };
-    let count = all.count;
-    let sizes = Sizes { head, count };
     let bounds = bounds_of(lower, upper);
     let request = Request {
-        sizes,
         who,
         bounds,
         first,
         second,
     };
-    asks::ask::ask_roles(
-        ledger,
-        &authorized,
-        &granted,
-        &below,
-        &limits,
-        &xs,
-        request,
-        answer,
-    )
+    refused(asks::ask::ask_roles(ledger, &policy, request, answer))
 }
 
 // Writes an ask as weighted clauses to the front of the buffer.
@@ -210,41 +113,17 @@ pub fn ask_clauses(
         (clauses_by who.user who.session lower.now upper.now first second (length out.old)))
         result out.old out.new }
 {
-    let mut authorized = [0u64; 64];
-    let mut granted = [[0u64; 4]; 64];
-    let mut below = [0u64; 64];
-    let mut limits = [0u64; 64];
-    let mut xs = [[0u64; 2]; 32];
-    let all = read_image(
-        image,
-        &mut authorized,
-        &mut granted,
-        &mut below,
-        &mut limits,
-        &mut xs,
-    );
-    let c = all.checked;
-    let Checked::Accepted(head) = c else {
-        return refusal_of(c);
+    let mut policy = PolicyTables::new();
+    let outcome = read(image, &mut policy);
+    let Ok(()) = outcome else {
+        return refused(outcome);
     };
-    let count = all.count;
-    let sizes = Sizes { head, count };
     let bounds = bounds_of(lower, upper);
     let request = Request {
-        sizes,
         who,
         bounds,
         first,
         second,
     };
-    asks_clauses::ask_clauses(
-        ledger,
-        &authorized,
-        &granted,
-        &below,
-        &limits,
-        &xs,
-        request,
-        out,
-    )
+    returned(asks_clauses::ask_clauses(ledger, &policy, request, out))
 }

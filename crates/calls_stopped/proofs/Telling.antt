@@ -9,12 +9,11 @@ use lib.Dec.{eqb}
 use lib.ListN.{length}
 use borrow.Author.Tests.{eq-eqb, ne_eqb}
 use Rattle.model.specs.declared.Head.{Head}
-use Rattle.model.specs.declared.Checked.{Checked}
 use Rattle.model.specs.declared.Checked.TheVariants.{Accepted, Refused}
 use Rattle.model.specs.Tests.{pick}
 use Rattle.model.specs.Sets.{with, set_of, count}
 use Rattle.model.specs.Bytes.{bytes_of}
-use Rattle.model.specs.Image.{check_number}
+use Rattle.model.specs.Judgement.{judge}
 use Rattle.model.specs.Policy.{Policy, policy_of, meaning}
 use Rattle.model.specs.Line.{line_size, sound}
 use Rattle.model.specs.Session.{refuse}
@@ -26,8 +25,6 @@ use Rattle.hierarchy.specs.Replies.{Replies}
 use Rattle.hierarchy.proofs.Filling.{filled_whole}
 use Rattle.hierarchy.proofs.Joining.{set_of-next}
 use Rattle.model_stopped.specs.Stopped.{stopped_set, telling, stopped_on, stopped_by, stopped_call}
-use Rattle.calls_image.specs.Held.{Held}
-use Rattle.calls_image.proofs.Images.{held-refused, held_accepted}
 
 -- ---- the set, user by user
 
@@ -77,17 +74,16 @@ module _ (W : ℕ) (p : Policy) (ledger room : List ℕ) where
         }
 
 -- ---- by the image
-module _ {s : List ℕ} {k : Checked} {own granted below limits : List ℕ} {rows : List (List ℕ)} {count : ℕ} (t : Held s k own granted below limits rows count)
-    (W : ℕ) (ledger : List ℕ) {room : List ℕ} where
+module _ (s : List ℕ) (W : ℕ) (ledger : List ℕ) {room : List ℕ} where
   -- a refused image ends the call
-  pub stopped_refused : {n place r : ℕ} → k ≡ Refused n place → r ≡ check_number k → Replies (stopped_call W s ledger (length room)) r room room
-  unfolding stopped_call stopped_by check_number returned refuse answered filled_with
+  pub stopped_refused : {n place r : ℕ} → judge s ≡ Refused n place → r ≡ n + 256 * place → Replies (stopped_call W s ledger (length room)) r room room
+  unfolding stopped_call stopped_by returned refuse answered filled_with
   stopped_refused {n} {place} g q =
-      let h : stopped_call W s ledger (length room) ≡ refuse n place = rw (held-refused t g) in
-      record { number = q ∙ ap check_number g ∙ sym (ap returned h); bytes = sym (ap (answered room) h) }
+      let h : stopped_call W s ledger (length room) ≡ refuse n place = rw g in
+      record { number = q ∙ sym (ap returned h); bytes = sym (ap (answered room) h) }
 
   -- else it goes by the policy
-  pub stopped_by_lem : {h : Head} {r : ℕ} {bytes : List ℕ} → k ≡ Accepted h → Replies (stopped_on W (policy_of s) ledger (length room)) r room bytes
+  pub stopped_by_lem : {h : Head} {r : ℕ} {bytes : List ℕ} → judge s ≡ Accepted h → Replies (stopped_on W (policy_of s) ledger (length room)) r room bytes
       → Replies (stopped_call W s ledger (length room)) r room bytes
   unfolding stopped_call stopped_by
-  stopped_by_lem g e = rw (held_accepted t g) e
+  stopped_by_lem g e = rw g e

@@ -6,30 +6,39 @@ ghost use Rattle.clauses_text.specs.Whole.{text_for};
 
 use clauses_hard::question::Question;
 use clauses_text::whole::put_text;
-use query_reduced::exclusions::Reduced;
+use query_reduced::reduced::ReducedExclusion;
 
 // What the text needs of a buffer of this length: nothing where every text fits, else its length, by a walk that writes
 // nothing.
-fn needed(buffer: usize, rows: &[[u64; 4]; 64], q: Question, x: Reduced) -> usize
-    requires { (q.roles ≤ 64) × (q.permissions ≤ 256) × (x.count ≤ 32) }
-    ensures { length (text_for q rows.now x) ≤ TEXT_ROOM → Needs buffer (text_for q rows.now x) result }
+fn needed(
+    buffer: usize,
+    rows: &[[u64; 4]; 64],
+    q: Question,
+    exclusions: &[ReducedExclusion],
+) -> usize
+    requires { (q.roles ≤ 64) × (q.permissions ≤ 256) × (length exclusions.now ≤ 32) }
+    ensures { length (text_for q rows.now exclusions.now) ≤ TEXT_ROOM → Needs buffer (text_for q rows.now exclusions.now) result }
 {
     if 8388608 <= buffer {
         return 0;
     }
-    let mut none = [0u8; 1];
-    put_text(&mut none[1..1], 0, rows, q, x)
+    put_text(&mut [], 0, rows, q, exclusions)
 }
 
 // The length of the text, which is written to the front of the buffer if it fits.
-pub fn write(out: &mut [u8], rows: &[[u64; 4]; 64], q: Question, x: Reduced) -> usize
-    requires { (q.roles ≤ 64) × (q.permissions ≤ 256) × (x.count ≤ 32) }
-    ensures { length (text_for q rows.now x) ≤ TEXT_ROOM
-        → Written out.old (text_for q rows.now x) out.new result }
+pub fn write(
+    out: &mut [u8],
+    rows: &[[u64; 4]; 64],
+    q: Question,
+    exclusions: &[ReducedExclusion],
+) -> usize
+    requires { (q.roles ≤ 64) × (q.permissions ≤ 256) × (length exclusions.now ≤ 32) }
+    ensures { length (text_for q rows.now exclusions.now) ≤ TEXT_ROOM
+        → Written out.old (text_for q rows.now exclusions.now) out.new result }
 {
-    let size = needed(out.len(), rows, q, x);
+    let size = needed(out.len(), rows, q, exclusions);
     if out.len() < size {
         return size;
     }
-    put_text(out, 0, rows, q, x)
+    put_text(out, 0, rows, q, exclusions)
 }

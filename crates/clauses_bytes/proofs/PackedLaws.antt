@@ -64,15 +64,9 @@ module _ {l m : List ℕ} {at r p a : ℕ} where
       → d ≡ p / 256 / 256 / 256 % 256 → 16777216 ≤ p → p < 4294967296 → Sets l at 5 (packed_text p) m r
   set_packed_four {b = b} {c = c} {d = d} s ea eb ec ed g h = sets_packed s (packed_four p a ea b eb c ec d ed g h) (omega arith)
 
-  pub set_packed_five : {b c d e n : ℕ} {k : List ℕ} → Sets k n 1 (e ∷ []) m r → Sets l at 4 (a ∷ b ∷ c ∷ d ∷ []) k n → a ≡ p % 256
-      → b ≡ p / 256 % 256 → c ≡ p / 256 / 256 % 256 → d ≡ p / 256 / 256 / 256 % 256 → e ≡ p / 256 / 256 / 256 / 256 % 256 → 4294967296 ≤ p
-      → Sets l at 5 (packed_text p) m r
-  set_packed_five {b = b} {c = c} {d = d} {e = e} q s ea eb ec ed ee g =
-      record {
-        puts = put2 q.puts s.puts (packed_five p a ea b eb c ec d ed e ee g);
-        reached = omega (arith, q.reached, s.reached);
-        size = q.size ∙ s.size;
-      }
+  pub set_packed_five : {b c d e : ℕ} → Sets l at 5 (a ∷ b ∷ c ∷ d ∷ e ∷ []) m r → a ≡ p % 256 → b ≡ p / 256 % 256 → c ≡ p / 256 / 256 % 256
+      → d ≡ p / 256 / 256 / 256 % 256 → e ≡ p / 256 / 256 / 256 / 256 % 256 → 4294967296 ≤ p → Sets l at 5 (packed_text p) m r
+  set_packed_five {b = b} {c = c} {d = d} {e = e} s ea eb ec ed ee g = sets_packed s (packed_five p a ea b eb c ec d ed e ee g) (omega arith)
 
 -- ---- put byte by byte
 

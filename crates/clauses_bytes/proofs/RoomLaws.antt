@@ -1,42 +1,12 @@
 -- Texts set where there is room, and texts behind the end of a buffer, which are only counted.
 -- Assumes nothing.
-use Rattle.std.proofs.Common.{◌≡◌, ℕ, ◌+◌, ◌/◌, ◌%◌, ◌^◌, ◌<◌, ◌≤◌, List, [], ◌∷◌, ◌++◌, length, set, sym, refl, ap, ◌∙◌, mod-eq_of_lt, arith, length-append, length-set}
-use lib.Seq.{set_out}
+use Rattle.std.proofs.Common.{◌≡◌, ℕ, suc, ◌+◌, ◌/◌, ◌%◌, ◌^◌, ◌<◌, ◌≤◌, List, [], ◌∷◌, length, set, take, drop, sym, refl, ap, ◌∙◌, mod-eq_of_lt, append_assoc, add-one, arith, length-append, length-drop, length-take-le}
+use Rattle.std.proofs.lemmas.List.{drop-drop}
+use lib.Seq.{set_out, sets, sets-eq}
+use borrow.Rule.Slice.PartMut.{put_mid, same_len_mid}
 use Rattle.model.specs.Dimacs.{figure, decimal}
 use Rattle.clauses_bytes.specs.Putting.{behind, stored, Puts, Sets}
-use Rattle.clauses_bytes.proofs.WritingLaws.{put_in_lem, put2, put_one, put_ten, put_hundred, put_thousand, decimal-one, decimal-two, decimal_three, decimal_thousand}
-
--- ---- bytes set one behind the other
-
-pub one_set : (l : List ℕ) (at a : ℕ) → at + 1 ≤ length l → length l < 2 ^ 64 → Sets l at 1 (a ∷ []) (set l at a) (at + 1)
-one_set l at a h f = record { puts = put_in_lem l at a (omega arith) f; reached = omega arith; size = length-set l at a }
-
-one_more : {l m xs : List ℕ} {at k n : ℕ} (a : ℕ) → Sets l at k xs m n → n + 1 ≤ length l → length l < 2 ^ 64
-    → Sets l at (k + 1) (xs ++ (a ∷ [])) (set m n a) (n + 1)
-one_more {m = m} {n = n} a s h f =
-    record {
-      puts = put2 (put_in_lem m n a (omega arith) (omega arith)) s.puts refl;
-      reached = omega arith;
-      size = length-set m n a ∙ s.size;
-    }
-
-pub two-set : (l : List ℕ) (at a b : ℕ) → at + 2 ≤ length l → length l < 2 ^ 64
-    → Sets l at 2 (a ∷ b ∷ []) (set (set l at a) (at + 1) b) (at + 2)
-two-set l at a b h f =
-    let e : at + 1 + 1 ≡ at + 2 = omega arith in
-    rw (sym e) (one_more b (one_set l at a (omega arith) f) (omega arith) f)
-
-pub three_set : (l : List ℕ) (at a b c : ℕ) → at + 3 ≤ length l → length l < 2 ^ 64
-    → Sets l at 3 (a ∷ b ∷ c ∷ []) (set (set (set l at a) (at + 1) b) (at + 2) c) (at + 3)
-three_set l at a b c h f =
-    let e : at + 2 + 1 ≡ at + 3 = omega arith in
-    rw (sym e) (one_more c (two-set l at a b (omega arith) f) (omega arith) f)
-
-pub four_set : (l : List ℕ) (at a b c d : ℕ) → at + 4 ≤ length l → length l < 2 ^ 64
-    → Sets l at 4 (a ∷ b ∷ c ∷ d ∷ []) (set (set (set (set l at a) (at + 1) b) (at + 2) c) (at + 3) d) (at + 4)
-four_set l at a b c d h f =
-    let e : at + 3 + 1 ≡ at + 4 = omega arith in
-    rw (sym e) (one_more d (three_set l at a b c (omega arith) f) (omega arith) f)
+use Rattle.clauses_bytes.proofs.WritingLaws.{put_one, put_ten, put_hundred, put_thousand, decimal-one, decimal-two, decimal_three, decimal_thousand}
 
 -- ---- digits
 
@@ -112,3 +82,29 @@ stored-far l at (b ∷ bs) g h =
 
 pub put_far : (l : List ℕ) (at : ℕ) (t : List ℕ) (r : ℕ) → length l ≤ at → at + length t < 2 ^ 64 → r ≡ at + length t → Puts l at t l r
 put_far l at t r g h e = record { next-is = e ∙ behind-far at t h; after_is = sym (stored-far l at t g h) }
+
+-- ---- texts for which there is room
+
+stored-sets : (l : List ℕ) (at : ℕ) (t : List ℕ) → at + length t < 2 ^ 64 → stored l at t ≡ sets l at t
+unfolding stored
+stored-sets l at [] h = refl
+stored-sets l at (b ∷ bs) h =
+    let e : (at + 1) % 2 ^ 64 ≡ suc at = mod-eq_of_lt (omega arith) ∙ add-one at in
+    rw e (stored-sets (set l at b) (suc at) bs (omega arith))
+
+-- bytes copied into the part of the buffer that is as long
+pub copied : (l t m : List ℕ) (at n : ℕ) → at + length t ≤ length l → length l < 2 ^ 64 → n ≡ length t → m ≡ t
+    → Sets l at (length t) t (put_mid at n l m) (at + length t)
+copied l t m at n h f e em =
+    let w : at + length t < 2 ^ 64 = omega arith in
+    let whole = sets-eq t l at h in
+    let rest : drop n (drop at l) ≡ drop (at + length t) l = rw e (drop-drop (length t) at l) in
+    let made : put_mid at n l m ≡ stored l at t =
+    rw (em, rest) (sym (append_assoc (take at l) t (drop (at + length t) l)) ∙ sym whole ∙ sym (stored-sets l at t w)) in
+    let as_long : length m ≡ length (take n (drop at l)) =
+    rw (em, e) (sym (length-take-le (length t) (drop at l) (simp length-drop (omega arith)))) in
+    record {
+      puts = record { next-is = behind-far at t w; after_is = made };
+      reached = omega arith;
+      size = same_len_mid at n l m as_long;
+    }

@@ -1,7 +1,11 @@
 // Bytes and decimals.
-ghost use Rattle.std.specs.Prelude.{◌≡◌, ◌+◌, ◌/◌, ◌%◌, ◌<◌, ◌≤◌, [], ◌∷◌, length};
+ghost use Rattle.std.specs.Prelude.{◌≡◌, ◌+◌, ◌/◌, ◌%◌, ◌<◌, ◌≤◌, true, [], ◌∷◌, length};
 ghost use Rattle.model.specs.Dimacs.{figure as figure_of, decimal};
 ghost use Rattle.clauses_bytes.specs.Putting.{Puts, Sets, packed_to, packed_text};
+
+// Puts write whatever the room: a byte past the buffer's end is counted and not written. Sets want room for what they
+// write. The place of the next byte goes beside the buffer, by value: in a struct that each function is lent it is
+// stored and loaded at each step, and a line takes a tenth longer.
 
 // ---- bytes
 
@@ -13,78 +17,55 @@ pub fn put(out: &mut [u8], at: usize, b: u8) -> usize
         out[at] = b;
         return at + 1;
     }
-    std::num::wrapping_add_usize(at, 1)
+    at.wrapping_add(1)
+}
+
+// Puts some bytes.
+pub fn put_all(out: &mut [u8], at: usize, bytes: &[u8]) -> usize
+    ensures { Puts out.old at bytes.now out.new result }
+{
+    let mut next = at;
+    for &b in bytes {
+        next = put(out, next, b);
+    }
+    next
+}
+
+// There is room for so many bytes.
+pub fn has_room(out: &[u8], at: usize, size: usize) -> bool
+    ensures { result ≡ true → at + size ≤ length out.now }
+{
+    size <= out.len() && at <= out.len() - size
+}
+
+// There is room for no byte, and a text of a length that a buffer may have ends at a number of 64 bits.
+pub fn is_full(out: &[u8], at: usize) -> bool
+    ensures { result ≡ true → (length out.now ≤ at) × (at < 9223372036854775808) }
+{
+    out.len() <= at && at < 9223372036854775808
+}
+
+// Sets some bytes.
+#[inline(always)]
+pub fn set_all(out: &mut [u8], at: usize, bytes: &[u8]) -> usize
+    requires { at + length bytes.now ≤ length out.old }
+    ensures { Sets out.old at (length bytes.now) bytes.now out.new result }
+{
+    let end = at + bytes.len();
+    out[at..end].copy_from_slice(bytes);
+    end
 }
 
 // The last digit of a number, in ASCII.
 fn figure(n: usize) -> u8
     ensures { result ≡ figure_of n }
 {
-    48 + (n % 10) as u8
-}
-
-// Puts two bytes.
-pub fn put_two(out: &mut [u8], at: usize, a: u8, b: u8) -> usize
-    ensures { Puts out.old at (a ∷ b ∷ []) out.new result }
-{
-    let next = put(out, at, a);
-    put(out, next, b)
-}
-
-// Puts three bytes.
-pub fn put_three(out: &mut [u8], at: usize, a: u8, b: u8, c: u8) -> usize
-    ensures { Puts out.old at (a ∷ b ∷ c ∷ []) out.new result }
-{
-    let next = put(out, at, a);
-    let last = put(out, next, b);
-    put(out, last, c)
-}
-
-// ---- bytes for which there is room
-
-// Sets one byte.
-pub fn set_one(out: &mut [u8], at: usize, a: u8) -> usize
-    requires { at + 1 ≤ length out.old }
-    ensures { Sets out.old at 1 (a ∷ []) out.new result }
-{
-    out[at] = a;
-    at + 1
-}
-
-// Sets two bytes.
-pub fn set_two(out: &mut [u8], at: usize, a: u8, b: u8) -> usize
-    requires { at + 2 ≤ length out.old }
-    ensures { Sets out.old at 2 (a ∷ b ∷ []) out.new result }
-{
-    out[at] = a;
-    out[at + 1] = b;
-    at + 2
-}
-
-// Sets three bytes.
-pub fn set_three(out: &mut [u8], at: usize, a: u8, b: u8, c: u8) -> usize
-    requires { at + 3 ≤ length out.old }
-    ensures { Sets out.old at 3 (a ∷ b ∷ c ∷ []) out.new result }
-{
-    out[at] = a;
-    out[at + 1] = b;
-    out[at + 2] = c;
-    at + 3
-}
-
-// Sets four bytes.
-fn set_four(out: &mut [u8], at: usize, a: u8, b: u8, c: u8, d: u8) -> usize
-    requires { at + 4 ≤ length out.old }
-    ensures { Sets out.old at 4 (a ∷ b ∷ c ∷ d ∷ []) out.new result }
-{
-    out[at] = a;
-    out[at + 1] = b;
-    out[at + 2] = c;
-    out[at + 3] = d;
-    at + 4
+    b'0' + (n % 10) as u8
 }
 
 // ---- packed texts: up to five bytes as one number, the first lowest
+
+// A text in an array would be lent to every function that puts a line (docs/DECISIONS.md 141).
 
 // The lowest byte.
 fn low_byte(p: usize) -> u8
@@ -100,25 +81,25 @@ pub fn set_packed(out: &mut [u8], at: usize, p: usize) -> usize
 {
     let a = low_byte(p);
     if p < 256 {
-        return set_one(out, at, a);
+        return set_all(out, at, &[a]);
     }
     let b = low_byte(p / 256);
     if p < 65536 {
-        return set_two(out, at, a, b);
+        return set_all(out, at, &[a, b]);
     }
     let c = low_byte(p / 256 / 256);
     if p < 16777216 {
-        return set_three(out, at, a, b, c);
+        return set_all(out, at, &[a, b, c]);
     }
-    let next = set_four(out, at, a, b, c, low_byte(p / 256 / 256 / 256));
+    let d = low_byte(p / 256 / 256 / 256);
     if p < 4294967296 {
-        return next;
+        return set_all(out, at, &[a, b, c, d]);
     }
-    set_one(out, next, low_byte(p / 256 / 256 / 256 / 256))
+    set_all(out, at, &[a, b, c, d, low_byte(p / 256 / 256 / 256 / 256)])
 }
 
 // Puts the bytes of a number byte by byte, at most k and one more.
-pub fn put_each(out: &mut [u8], at: usize, k: usize, p: usize) -> usize
+fn put_each(out: &mut [u8], at: usize, k: usize, p: usize) -> usize
     ensures { Puts out.old at (packed_to k p) out.new result }
 {
     let next = put(out, at, low_byte(p));
@@ -135,10 +116,8 @@ pub fn put_each(out: &mut [u8], at: usize, k: usize, p: usize) -> usize
 pub fn put_packed(out: &mut [u8], at: usize, p: usize) -> usize
     ensures { Puts out.old at (packed_text p) out.new result }
 {
-    if at < 9223372036854775808 {
-        if at + 5 <= out.len() {
-            return set_packed(out, at, p);
-        }
+    if has_room(out, at, 5) {
+        return set_packed(out, at, p);
     }
     put_each(out, at, 4, p)
 }
@@ -197,9 +176,9 @@ fn put_low(out: &mut [u8], at: usize, n: usize) -> usize
         return put(out, at, figure(n));
     }
     if n < 100 {
-        return put_two(out, at, figure(n / 10), figure(n));
+        return put_all(out, at, &[figure(n / 10), figure(n)]);
     }
-    put_three(out, at, figure(n / 10 / 10), figure(n / 10), figure(n))
+    put_all(out, at, &[figure(n / 10 / 10), figure(n / 10), figure(n)])
 }
 
 // Puts a number in decimal, three digits at a time, byte by byte.
@@ -210,7 +189,7 @@ pub fn put_long(out: &mut [u8], at: usize, n: usize) -> usize
         return put_low(out, at, n);
     }
     let next = put_long(out, at, n / 10 / 10 / 10);
-    put_three(out, next, figure(n / 10 / 10), figure(n / 10), figure(n))
+    put_all(out, next, &[figure(n / 10 / 10), figure(n / 10), figure(n)])
 }
 
 // Sets the last three digits of a number.
@@ -220,7 +199,11 @@ fn set_last(out: &mut [u8], at: usize, n: usize) -> usize
 {
     let low = n % 1000;
     let rest = low % 100;
-    set_three(out, at, figure(low / 100), figure(rest / 10), figure(rest))
+    set_all(
+        out,
+        at,
+        &[figure(low / 100), figure(rest / 10), figure(rest)],
+    )
 }
 
 // Sets a number below 1,000 in decimal.
@@ -229,10 +212,10 @@ fn set_low(out: &mut [u8], at: usize, n: usize) -> usize
     ensures { Sets out.old at 3 (decimal n) out.new result }
 {
     if n < 10 {
-        return set_one(out, at, figure(n));
+        return set_all(out, at, &[figure(n)]);
     }
     if n < 100 {
-        return set_two(out, at, figure(n / 10), figure(n));
+        return set_all(out, at, &[figure(n / 10), figure(n)]);
     }
     set_last(out, at, n)
 }
@@ -247,17 +230,6 @@ pub fn set_six(out: &mut [u8], at: usize, n: usize) -> usize
     }
     let next = set_low(out, at, n / 10 / 10 / 10);
     set_last(out, next, n)
-}
-
-// Sets a number in decimal where there is room for six digits; a longer one is put byte by byte.
-pub fn set_decimal(out: &mut [u8], at: usize, n: usize) -> usize
-    requires { at + 6 ≤ length out.old }
-    ensures { Puts out.old at (decimal n) out.new result }
-{
-    if n < 1000000 {
-        return set_six(out, at, n);
-    }
-    put_long(out, at, n)
 }
 
 // How many digits a number below 1,000 has.

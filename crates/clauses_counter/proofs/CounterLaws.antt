@@ -20,6 +20,9 @@ use Rattle.model_laws.proofs.SetLaws.{has_beyond}
 use Rattle.sets.specs.Members.{without, Lowest}
 use Rattle.sets.proofs.Taken.{without_gone, without_other, count-without, lowest_least}
 use Rattle.clauses_lines.specs.Lines.{line_of, lines_of}
+use Rattle.std.proofs.lemmas.List.{get_or-map}
+use Rattle.query_reduced.specs.declared.reduced.ReducedExclusion.{ReducedExclusion}
+use Rattle.query_reduced.specs.Met.{masks_of, ns_of}
 use Rattle.clauses_counter.specs.Counters.{counters}
 use Rattle.clauses_bytes.specs.Putting.{Puts}
 use Rattle.clauses_bytes.proofs.WritingLaws.{put_nothing, put2, put3, Along, along_starts, along_goes}
@@ -132,9 +135,6 @@ pub behind-next : (n a b s k less : ℕ) → n ≤ 4294967295 → s < 2 ^ 64 →
     → b + n + 4294967295 * count 64 less ≤ a + 274877906880
 behind-next n a b s k less h f low e i = omega (arith, ap (count 64) e, count-without 64 s k f low.small low.member)
 
-pub one_fewer : (s k less : ℕ) → s < 2 ^ 64 → Lowest s k → less ≡ without s k → count 64 less < count 64 s
-one_fewer s k less f low e = omega (arith, ap (count 64) e, count-without 64 s k f low.small low.member)
-
 -- there is a number for each helper of the members
 pub rows_fit : (a s : ℕ) → a + 4294967295 * count 64 s ≤ a + 274877906880
 rows_fit a s = omega (arith, count-le s)
@@ -170,6 +170,18 @@ pub counters_goes :
     → i < count → n ≡ get_or ns i 0 → more ≡ length (variables_in (get_or masks i 0)) * n
     → Along l at whole (lines_of w (counters masks ns (count - (i + 1)) (i + 1) (a + more))) b r
 counters_goes w masks ns count i a n more p s h en e = along_goes (counters-next w masks ns count i a n more h en e) s p
+
+-- the same of the exclusions as a list
+pub exclusion_goes :
+    {l m b whole : List ℕ} {at next r : ℕ} (w : ℕ) (xs : List ReducedExclusion) (i a n more : ℕ) (d : ReducedExclusion)
+    → Puts m next (lines_of w (counter n a (variables_in (get_or xs i d).members))) b r
+    → Along l at whole (lines_of w (counters (masks_of xs) (ns_of xs) (length xs - i) i a)) m next
+    → i < length xs → n ≡ (get_or xs i d).n → more ≡ length (variables_in (get_or xs i d).members) * n
+    → Along l at whole (lines_of w (counters (masks_of xs) (ns_of xs) (length xs - (i + 1)) (i + 1) (a + more))) b r
+exclusion_goes w xs i a n more d p s h en e =
+    let em : get_or (masks_of xs) i 0 ≡ (get_or xs i d).members = get_or-map (λ (x : ReducedExclusion). x.members) xs i d 0 h in
+    let ens : get_or (ns_of xs) i 0 ≡ (get_or xs i d).n = get_or-map (λ (x : ReducedExclusion). x.n) xs i d 0 h in
+    counters_goes w (masks_of xs) (ns_of xs) (length xs) i a n more (rw em p) s h (en ∙ sym ens) (rw em e)
 
 pub counters-start : (l : List ℕ) (at w : ℕ) (masks ns : List ℕ) (count a : ℕ)
     → Along l at (lines_of w (counters masks ns count 0 a)) (lines_of w (counters masks ns (count - 0) 0 a)) l at

@@ -4,10 +4,14 @@ ghost use Rattle.std.specs.Prelude.{◌≡◌, ◌+◌, ◌*◌, ◌≤◌, ◌<
 ghost use Rattle.model.specs.Clauses.{keeping, adding, row, rows, counter, variables_in};
 ghost use Rattle.clauses_bytes.specs.Putting.{Puts};
 ghost use Rattle.clauses_lines.specs.Lines.{lines_of};
+ghost use Rattle.query_reduced.specs.Met.{masks_of, ns_of};
 ghost use Rattle.clauses_counter.specs.Counters.{counters};
 
 use clauses_lines::lines::{put_both_imply, put_implies, put_must_not};
-use query_reduced::exclusions::Reduced;
+use query_reduced::reduced::ReducedExclusion;
+
+// The length n of a row is a size, though it fits in 32 bits: every use adds it to a variable, and a u32 would be
+// converted at each.
 
 // Puts that what the row behind a counts, the next row counts too.
 fn put_keeping(out: &mut [u8], at: usize, w: usize, n: usize, a: usize) -> usize
@@ -15,10 +19,8 @@ fn put_keeping(out: &mut [u8], at: usize, w: usize, n: usize, a: usize) -> usize
     ensures { Puts out.old at (lines_of w (keeping n a)) out.new result }
 {
     let mut next = at;
-    let mut j: usize = 0;
-    while j < n {
+    for j in 0..n {
         next = put_implies(out, next, w, a + j + 1, a + n + j + 1);
-        j += 1;
     }
     next
 }
@@ -29,10 +31,9 @@ fn put_adding(out: &mut [u8], at: usize, w: usize, n: usize, a: usize, x: usize)
     ensures { Puts out.old at (lines_of w (adding n a x)) out.new result }
 {
     let mut next = at;
-    let mut j: usize = 0;
-    while j + 1 < n {
+    let end = n.saturating_sub(1);
+    for j in 0..end {
         next = put_both_imply(out, next, w, x, a + j + 1, a + n + j + 2);
-        j += 1;
     }
     next
 }
@@ -53,13 +54,10 @@ fn put_rows(out: &mut [u8], at: usize, w: usize, n: usize, a: usize, members: u6
     ensures { Puts out.old at (lines_of w (rows n a (variables_in members))) out.new result }
 {
     let mut next = at;
-    let mut left = members;
     let mut behind = a;
-    while left != 0 {
-        let r = sets::lowest(left);
-        next = put_row(out, next, w, n, behind, r.0 as usize + 1);
+    for r in sets::members(members) {
+        next = put_row(out, next, w, n, behind, r as usize + 1);
         behind += n;
-        left = sets::without(left, r);
     }
     put_must_not(out, next, w, behind + n)
 }
@@ -93,22 +91,23 @@ pub fn helpers(n: usize, members: u64) -> usize
 }
 
 // Puts the counters of the reduced exclusions, their helpers behind a.
-pub fn put_counters(out: &mut [u8], at: usize, w: usize, a: usize, x: Reduced) -> usize
-    requires { (x.count ≤ 32) × (a ≤ 1125899906842624) }
-    ensures { Puts out.old at (lines_of w (counters x.masks x.ns x.count 0 a)) out.new result }
+pub fn put_counters(
+    out: &mut [u8],
+    at: usize,
+    w: usize,
+    a: usize,
+    exclusions: &[ReducedExclusion],
+) -> usize
+    requires { (length exclusions.now ≤ 32) × (a ≤ 1125899906842624) }
+    ensures { Puts out.old at (lines_of w (counters (masks_of exclusions.now) (ns_of exclusions.now) (length exclusions.now) 0 a)) out.new
+        result }
 {
-    let masks = x.masks;
-    let ns = x.ns;
-    let count = x.count;
     let mut next = at;
     let mut behind = a;
-    let mut i: usize = 0;
-    while i < count {
-        let n = wide(ns[i]);
-        let members = masks[i];
-        next = put_counter(out, next, w, n, behind, members);
-        behind += helpers(n, members);
-        i += 1;
+    for x in exclusions {
+        let n = wide(x.n);
+        next = put_counter(out, next, w, n, behind, x.members);
+        behind += helpers(n, x.members);
     }
     next
 }

@@ -106,6 +106,3 @@ pub count_more : (s from rest m n t : ℕ) → Rest s from rest → m ≤ 64 - f
 unfolding count
 count_more s from rest m n t part small e f =
     omega (arith, count_split (has s) from m, count_cong (λ k. has s (from + k)) (has rest) m (λ k h. part.same k (omega arith)))
-
-pub smaller_some : (a b r : ℕ) → 0 < a → 0 < b → Smaller a b r → 0 < r
-smaller_some a b r ha hb h = elim (dec_lt r b) [ yes q ↦ omega (arith, h.reached q) | no q ↦ omega arith ]

@@ -13,7 +13,12 @@ use lib.ListN.{length, get_or, length-append}
 use Rattle.model.specs.Sets.{has, one, count_to, count}
 use Rattle.model.specs.Clauses.{list_to, when, must, must_not, gives, give, role_variable, keeping, adding, row, rows, counter, variables_in}
 use Rattle.model_clauses.proofs.ClauseLaws.{length_singles}
-use Rattle.clauses_hard.specs.Parts.{barred, barring_to, carried_as, carrying_row, carrying_to, carried_one, carried_to, lower as lower_of, lower_bound_to, upper as upper_of, upper_bound_to, hard_by}
+use Rattle.clauses_hard.specs.Parts.{rows_of, barred, barring_to, carried_as, carrying_row, carrying_to, carried_one, carried_to, lower as lower_of, lower_bound_to, upper as upper_of, upper_bound_to, hard_by}
+use Rattle.std.proofs.Common.{take, length-take-le}
+use Rattle.std.proofs.lemmas.List.{get_or-map, get_or-take}
+use Rattle.sets.specs.Words.{value}
+use Rattle.query_reduced.specs.declared.reduced.ReducedExclusion.{ReducedExclusion}
+use Rattle.query_reduced.specs.Met.{masks_of, ns_of}
 use Rattle.clauses_counter.specs.Counters.{counters}
 use Rattle.clauses_hard.specs.Sizes.{sum_to, row_size, tallied, counter_size, counters_size, carrying_size, hard_size}
 use Rattle.clauses_counter.proofs.CounterLaws.{listed_length, variables_length}
@@ -34,6 +39,30 @@ sum-next f i n t e g = let h : i + 1 ≡ suc i = add-one i in rw h (omega arith)
 
 pub sum_done : (f : ℕ → ℕ) (i n t : ℕ) → t ≡ sum_to f i → i ≤ n → n ≤ i → t ≡ sum_to f n
 sum_done f i n t e g h = let q : i ≡ n = omega arith in rw q at e
+
+-- a row among the first n is one of them all
+pub row_taken : (rows : List (List ℕ)) (n k i t : ℕ) → n ≤ length rows → i < length (take n rows) → t ≡ count k (value (get_or (take n rows) i []))
+    → t ≡ count k (rows_of rows i)
+row_taken rows n k i t h l e =
+    let g : i < n = omega (arith, l, length-take-le n rows h) in
+    e ∙ ap (λ (x : List ℕ). count k (value x)) (get_or-take n rows i [] g)
+
+-- the next of the exclusions counted
+pub exclusion_helpers : (xs : List ReducedExclusion) (i n t m : ℕ) (d : ReducedExclusion) → i < length xs
+    → n ≡ sum_to (λ k. length (variables_in (get_or (masks_of xs) k 0)) * get_or (ns_of xs) k 0) i → m ≡ (get_or xs i d).n
+    → t ≡ length (variables_in (get_or xs i d).members) * m
+    → n + t ≡ sum_to (λ k. length (variables_in (get_or (masks_of xs) k 0)) * get_or (ns_of xs) k 0) (i + 1)
+exclusion_helpers xs i n t m d h en em et =
+    sum-next (λ k. length (variables_in (get_or (masks_of xs) k 0)) * get_or (ns_of xs) k 0) i n t en
+    (rw (get_or-map (λ (x : ReducedExclusion). x.members) xs i d 0 h, get_or-map (λ (x : ReducedExclusion). x.n) xs i d 0 h) (rw em at et))
+
+pub exclusion_counter : (xs : List ReducedExclusion) (i n t m : ℕ) (d : ReducedExclusion) → i < length xs
+    → n ≡ sum_to (λ k. counter_size (get_or (ns_of xs) k 0) (get_or (masks_of xs) k 0)) i → m ≡ (get_or xs i d).n
+    → t ≡ counter_size m (get_or xs i d).members
+    → n + t ≡ sum_to (λ k. counter_size (get_or (ns_of xs) k 0) (get_or (masks_of xs) k 0)) (i + 1)
+exclusion_counter xs i n t m d h en em et =
+    sum-next (λ k. counter_size (get_or (ns_of xs) k 0) (get_or (masks_of xs) k 0)) i n t en
+    (rw (get_or-map (λ (x : ReducedExclusion). x.members) xs i d 0 h, get_or-map (λ (x : ReducedExclusion). x.n) xs i d 0 h) (rw em at et))
 
 -- ---- a counter
 

@@ -9,9 +9,11 @@ ghost use Rattle.clauses_hard.specs.Parts.{rows_of, barred, barring_to, carrying
 
 use crate::members::{low_members, next_member};
 use clauses_bytes::bytes::put_packed;
-use clauses_lines::lines::{put_end, put_fails, put_holds, put_implies, put_must, put_must_not};
+use clauses_lines::lines::{Literal, put_end, put_implies, put_literal, put_must, put_must_not};
 use model::{Permission, Role};
 use query::carriers::carriers;
+
+// The numbers of roles and permissions are two parameters, and not a struct: half of the functions take only the one.
 
 // ---- own roles
 
@@ -32,10 +34,8 @@ pub fn put_barring(out: &mut [u8], at: usize, w: usize, authorized: u64, roles: 
     ensures { Puts out.old at (lines_of w (barring_to roles authorized)) out.new result }
 {
     let mut next = at;
-    let mut r: usize = 0;
-    while r < roles {
+    for r in 0..roles {
         next = put_barred(out, next, w, authorized, Role(r as u8));
-        r += 1;
     }
     next
 }
@@ -58,6 +58,7 @@ fn put_carrying_row(
     let mut next = at;
     let x = r.0 as usize + 1;
     let mut q = next_member(row, 0, permissions);
+    // An iterator would hold the set, its place and the end beside what is here.
     while q < permissions {
         next = put_implies(out, next, w, x, roles + q + 1);
         q = next_member(row, q + 1, permissions);
@@ -78,10 +79,8 @@ pub fn put_carrying(
     ensures { Puts out.old at (lines_of w (carrying_to roles permissions (rows_of rows.now))) out.new result }
 {
     let mut next = at;
-    let mut r: usize = 0;
-    while r < roles {
+    for r in 0..roles {
         next = put_carrying_row(out, next, w, rows[r], Role(r as u8), roles, permissions);
-        r += 1;
     }
     next
 }
@@ -92,11 +91,8 @@ fn put_roles(out: &mut [u8], at: usize, set: u64, roles: usize) -> usize
     ensures { Puts out.old at (literals_text (roles_in roles set)) out.new result }
 {
     let mut next = at;
-    let mut left = low_members(set, roles);
-    while left != 0 {
-        let r = sets::lowest(left);
-        next = put_holds(out, next, r.0 as usize + 1);
-        left = sets::without(left, r);
+    for r in sets::members(low_members(set, roles)) {
+        next = put_literal(out, next, Literal::Holds(r as usize + 1));
     }
     next
 }
@@ -114,7 +110,7 @@ fn put_carried_one(
     ensures { Puts out.old at (line_of w (fails (roles + q.0 + 1) ∷ roles_in roles set)) out.new result }
 {
     let a = put_packed(out, at, w);
-    let b = put_fails(out, a, roles + q.0 as usize + 1);
+    let b = put_literal(out, a, Literal::Fails(roles + q.0 as usize + 1));
     let c = put_roles(out, b, set, roles);
     put_end(out, c)
 }
@@ -146,10 +142,8 @@ pub fn put_carried(
 {
     let table = carriers_of(rows, roles);
     let mut next = at;
-    let mut q: usize = 0;
-    while q < permissions {
+    for q in 0..permissions {
         next = put_carried_one(out, next, w, table[q], Permission(q as u8), roles);
-        q += 1;
     }
     next
 }
@@ -170,6 +164,7 @@ pub fn put_lower_bound(
 {
     let mut next = at;
     let mut q = next_member(lower, 0, permissions);
+    // As in `put_carrying_row`.
     while q < permissions {
         next = put_must(out, next, w, roles + q + 1);
         q = next_member(lower, q + 1, permissions);
@@ -208,10 +203,8 @@ pub fn put_upper_bound(
     ensures { Puts out.old at (lines_of w (upper_bound_to roles permissions (value upper))) out.new result }
 {
     let mut next = at;
-    let mut q: usize = 0;
-    while q < permissions {
+    for q in 0..permissions {
         next = put_absent(out, next, w, upper, roles, Permission(q as u8));
-        q += 1;
     }
     next
 }

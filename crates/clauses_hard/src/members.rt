@@ -2,7 +2,7 @@
 ghost use Rattle.std.specs.Prelude.{◌≡◌, ◌+◌, ◌%◌, ◌^◌, ◌≤◌, ◌<◌};
 ghost use Rattle.model.specs.Sets.{count as count_of};
 ghost use Rattle.sets.specs.Words.{value};
-ghost use Rattle.clauses_hard.specs.Members.{Rest, Next, Smaller};
+ghost use Rattle.clauses_hard.specs.Members.{Rest, Next};
 
 // The permissions from a number on that stand in its word, each by how far behind the number it is.
 fn rest(set: [u64; 4], from: usize) -> u64
@@ -13,16 +13,6 @@ fn rest(set: [u64; 4], from: usize) -> u64
     set[place] >> (from % 64)
 }
 
-// The smaller of two numbers.
-fn smaller(a: usize, b: usize) -> usize
-    ensures { Smaller a b result }
-{
-    if b < a {
-        return b;
-    }
-    a
-}
-
 // The first permission of the set from a number on, or the end where none is before it. A word without one is passed
 // at once.
 pub fn next_member(set: [u64; 4], from: usize, end: usize) -> usize
@@ -30,10 +20,11 @@ pub fn next_member(set: [u64; 4], from: usize, end: usize) -> usize
     ensures { Next (value set) from end result }
 {
     let mut at = from;
+    // The place goes on to the next word, and not by one: a `for` has no such step.
     while at < end {
         let left = rest(set, at);
         if left != 0 {
-            return smaller(at + sets::lowest_bit(left) as usize, end);
+            return (at + sets::lowest_bit(left) as usize).min(end);
         }
         at += 64 - at % 64;
     }
@@ -66,8 +57,9 @@ pub fn permissions_below(set: [u64; 4], n: usize) -> usize
 {
     let mut total: usize = 0;
     let mut from: usize = 0;
+    // Each step goes on to the next word, or to n.
     while from < n {
-        let more = smaller(64 - from % 64, n - from);
+        let more = (64 - from % 64).min(n - from);
         total += members_below(rest(set, from), more);
         from += more;
     }

@@ -1,7 +1,8 @@
 // What is asked, as its clauses need it.
+use query_rank::objective::Objective;
 
 // How many roles and permissions there are, the roles that the user may activate, the bounds, and the objectives for
-// permissions and then for roles (01: aims): 0 is any, 1 the fewest, 2 the most.
+// permissions and then for roles (01: aims).
 #[derive(Clone, Copy)]
 pub struct Question {
     pub roles: usize,
@@ -9,6 +10,6 @@ pub struct Question {
     pub authorized: u64,
     pub lower: [u64; 4],
     pub upper: [u64; 4],
-    pub first: u8,
-    pub second: u8,
+    pub first: Objective,
+    pub second: Objective,
 }

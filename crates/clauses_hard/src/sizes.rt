@@ -1,13 +1,16 @@
 // How many helpers and hard clauses an ask has.
-ghost use Rattle.std.specs.Prelude.{◌≡◌, ◌+◌, ◌-◌, ◌*◌, ◌≤◌, ◌<◌};
+ghost use Rattle.std.specs.Prelude.{◌≡◌, ◌+◌, ◌-◌, ◌*◌, ◌≤◌, length};
 ghost use Rattle.sets.specs.Words.{value};
+ghost use Rattle.query_reduced.specs.Met.{masks_of, ns_of};
 ghost use Rattle.clauses_hard.specs.Parts.{rows_of};
 ghost use Rattle.clauses_hard.specs.Sizes.{row_size as row_size_of, tallied, counter_size as counter_size_of, helpers_to, counters_size as counters_size_of, carrying_size as carrying_size_of, hard_size as hard_size_of};
 
 use crate::members::{members_below, permissions_below};
 use crate::question::Question;
 use clauses_counter::counter::{helpers, wide};
-use query_reduced::exclusions::Reduced;
+use query_reduced::reduced::ReducedExclusion;
+
+// The numbers of roles and permissions are two parameters, as in module carries.
 
 // How many clauses say what roles carry.
 fn carrying_size(rows: &[[u64; 4]; 64], roles: usize, permissions: usize) -> usize
@@ -15,27 +18,20 @@ fn carrying_size(rows: &[[u64; 4]; 64], roles: usize, permissions: usize) -> usi
     ensures { (result ≡ carrying_size_of roles permissions (rows_of rows.now)) × (result ≤ 16384) }
 {
     let mut total: usize = 0;
-    let mut r: usize = 0;
-    while r < roles {
-        total += permissions_below(rows[r], permissions);
-        r += 1;
+    for row in &rows[..roles] {
+        total += permissions_below(*row, permissions);
     }
     total
 }
 
 // How many helpers the exclusions have.
-pub fn helpers_of(x: Reduced) -> usize
-    requires { x.count ≤ 32 }
-    ensures { (result ≡ helpers_to x.masks x.ns x.count) × (result ≤ 8796093020160) }
+pub fn helpers_of(exclusions: &[ReducedExclusion]) -> usize
+    requires { length exclusions.now ≤ 32 }
+    ensures { (result ≡ helpers_to (masks_of exclusions.now) (ns_of exclusions.now) (length exclusions.now)) × (result ≤ 8796093020160) }
 {
-    let masks = x.masks;
-    let ns = x.ns;
-    let count = x.count;
     let mut total: usize = 0;
-    let mut i: usize = 0;
-    while i < count {
-        total += helpers(wide(ns[i]), masks[i]);
-        i += 1;
+    for x in exclusions {
+        total += helpers(wide(x.n), x.members);
     }
     total
 }
@@ -71,27 +67,23 @@ fn counter_size(n: usize, members: u64) -> usize
 }
 
 // How many clauses the exclusions have.
-fn counters_size(x: Reduced) -> usize
-    requires { x.count ≤ 32 }
-    ensures { (result ≡ counters_size_of x.masks x.ns x.count) × (result ≤ 17592186040384) }
+fn counters_size(exclusions: &[ReducedExclusion]) -> usize
+    requires { length exclusions.now ≤ 32 }
+    ensures { (result ≡ counters_size_of (masks_of exclusions.now) (ns_of exclusions.now) (length exclusions.now))
+        × (result ≤ 17592186040384) }
 {
-    let masks = x.masks;
-    let ns = x.ns;
-    let count = x.count;
     let mut total: usize = 0;
-    let mut i: usize = 0;
-    while i < count {
-        total += counter_size(wide(ns[i]), masks[i]);
-        i += 1;
+    for x in exclusions {
+        total += counter_size(wide(x.n), x.members);
     }
     total
 }
 
 // How many hard clauses there are.
-pub fn hard_size(rows: &[[u64; 4]; 64], q: Question, x: Reduced) -> usize
-    requires { (q.roles ≤ 64) × (q.permissions ≤ 256) × (x.count ≤ 32) }
+pub fn hard_size(rows: &[[u64; 4]; 64], q: Question, exclusions: &[ReducedExclusion]) -> usize
+    requires { (q.roles ≤ 64) × (q.permissions ≤ 256) × (length exclusions.now ≤ 32) }
     ensures { (result ≡ hard_size_of q.roles q.permissions q.authorized (rows_of rows.now) (value q.lower) (value q.upper)
-        x.masks x.ns x.count) × (result ≤ 35184372088832) }
+        (masks_of exclusions.now) (ns_of exclusions.now) (length exclusions.now)) × (result ≤ 35184372088832) }
 {
     let roles = q.roles;
     let permissions = q.permissions;
@@ -101,5 +93,5 @@ pub fn hard_size(rows: &[[u64; 4]; 64], q: Question, x: Reduced) -> usize
     let carried = carrying_size(rows, roles, permissions);
     let low = permissions_below(lower, permissions);
     let high = permissions - permissions_below(upper, permissions);
-    barred + carried + permissions + low + high + counters_size(x)
+    barred + carried + permissions + low + high + counters_size(exclusions)
 }

@@ -7,7 +7,7 @@ use Prim.Native.Nat.{ℕ, suc, ◌+◌, ◌^◌, ◌≤◌, ◌<◌}
 use native.Mathlib.Numerals.{add-one}
 use native.Mathlib.Omega.{arith}
 use lib.ListN.{length, length-append}
-use Rattle.model.specs.Clauses.{Literal, holds, fails, Clause, Weighted, gives, give, list_to, when}
+use Rattle.model.specs.Clauses.{Literal, holds, fails, Clause, Weighted, list_to, when}
 use Rattle.model.specs.Dimacs.{decimal, literal_text, literals_text, clause_text, clauses_text, weighing}
 use Rattle.clauses_bytes.specs.Putting.{Puts, Sets, packed_text}
 use Rattle.clauses_lines.specs.Lines.{line_of, lines_of}
@@ -24,35 +24,38 @@ pub fails_put : {l m a : List ℕ} {at n r : ℕ} (x : ℕ) → Puts m n (decima
 unfolding literal_text
 fails_put x q p = put2 q p refl
 
--- behind the end of a buffer, by the variable's width
-module _ (l : List ℕ) (at : ℕ) (g : length l ≤ at) (h : at < 2 ^ 63) where
-  pub holds-far : (x w : ℕ) → w ≡ length (decimal x) → w ≤ 6 → Puts l at (literal_text (holds x)) l (at + 1 + w)
-  unfolding literal_text
-  holds-far x w e f = put_far l at (32 ∷ decimal x) (at + 1 + w) g (omega arith) (omega arith)
+-- how long it is, by its variable's digits
+pub holds_width : (x w : ℕ) → w ≡ length (decimal x) → 1 + w ≡ length (literal_text (holds x))
+unfolding literal_text
+holds_width x w e = omega (arith, e)
 
-  pub fails_far : (x w : ℕ) → w ≡ length (decimal x) → w ≤ 6 → Puts l at (literal_text (fails x)) l (at + 2 + w)
-  unfolding literal_text
-  fails_far x w e f = put_far l at (32 ∷ 45 ∷ decimal x) (at + 2 + w) g (omega arith) (omega arith)
+pub fails_width : (x w : ℕ) → w ≡ length (decimal x) → 2 + w ≡ length (literal_text (fails x))
+unfolding literal_text
+fails_width x w e = omega (arith, e)
+
+-- behind the end of a buffer, by its width
+module _ (l : List ℕ) (at : ℕ) (g : length l ≤ at) (h : at < 2 ^ 63) where
+  pub literal_far : (t : Literal) (a : ℕ) → a ≡ length (literal_text t) → a ≤ 8 → Puts l at (literal_text t) l (at + a)
+  literal_far t a e f = put_far l at (literal_text t) (at + a) g (omega arith) (omega arith)
 
   pub end_far : Puts l at (32 ∷ 48 ∷ 10 ∷ []) l (at + 3)
   end_far = put_far l at (32 ∷ 48 ∷ 10 ∷ []) (at + 3) g (omega arith) refl
 
-  -- lines there, by the widths of the weight and the variables
-  module _ (w x y u a b : ℕ) (eu : u ≡ length (packed_text w)) (fu : u ≤ 5) (ea : a ≡ length (decimal x)) (fa : a ≤ 6)
-      (eb : b ≡ length (decimal y)) (fb : b ≤ 6) where
-    pub implies_far : Puts l at (line_of w (gives x y)) l (at + u + a + b + 6)
-    unfolding line_of literals_text literal_text
-    implies_far =
-        put_far l at _ (at + u + a + b + 6) g (simp length-append (omega arith)) (simp length-append (omega arith))
+  -- lines there, by the widths of the weight and the literals
+  module _ (w p a b : ℕ) (t u : Literal) (ep : p ≡ length (packed_text w)) (fp : p ≤ 5) (ea : a ≡ length (literal_text t)) (fa : a ≤ 8)
+      (eb : b ≡ length (literal_text u)) (fb : b ≤ 8) where
+    pub two_far : Puts l at (line_of w (t ∷ u ∷ [])) l (at + p + a + b + 3)
+    unfolding line_of literals_text
+    two_far = put_far l at _ (at + p + a + b + 3) g (simp length-append (omega arith)) (simp length-append (omega arith))
 
-    pub both_far : (z d : ℕ) → d ≡ length (decimal z) → d ≤ 6 → Puts l at (line_of w (give x y z)) l (at + u + a + b + d + 8)
-    unfolding line_of literals_text literal_text
-    both_far z d ed fd =
-        put_far l at _ (at + u + a + b + d + 8) g (simp length-append (omega arith)) (simp length-append (omega arith))
+    pub three_far : (c : ℕ) (x : Literal) → c ≡ length (literal_text x) → c ≤ 8 → Puts l at (line_of w (t ∷ u ∷ x ∷ [])) l (at + p + a + b + c + 3)
+    unfolding line_of literals_text
+    three_far c x ec fc =
+        put_far l at _ (at + p + a + b + c + 3) g (simp length-append (omega arith)) (simp length-append (omega arith))
 
 -- a literal that is set
-pub holds-set : {l m a : List ℕ} {at n r : ℕ} (x : ℕ) → Sets m n 6 (decimal x) a r → Sets l at 1 (32 ∷ []) m n → Sets l at 7 (literal_text (holds x)) a r
-holds-set x q p =
+pub holds_set : {l m a : List ℕ} {at n r : ℕ} (x : ℕ) → Sets m n 6 (decimal x) a r → Sets l at 1 (32 ∷ []) m n → Sets l at 8 (literal_text (holds x)) a r
+holds_set x q p =
     record { puts = holds_put x q.puts p.puts; reached = omega (arith, q.reached, p.reached); size = q.size ∙ p.size }
 
 pub fails_set : {l m a : List ℕ} {at n r : ℕ} (x : ℕ) → Sets m n 6 (decimal x) a r → Sets l at 2 (32 ∷ 45 ∷ []) m n → Sets l at 8 (literal_text (fails x)) a r

@@ -2,3 +2,4 @@
 
 -- Helpers of code and proofs: no theorem and no exported contract is stated in these.
 pub mod Lines
+pub mod Literals

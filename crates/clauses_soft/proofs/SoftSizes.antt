@@ -2,7 +2,7 @@
 -- Assumes nothing.
 use mathlib.Core.Path.{◌≡◌, refl, sym, ap, ◌∙◌}
 use mathlib.Core.List.{[], ◌∷◌}
-use Prim.Native.Nat.{ℕ, zero, suc, ◌+◌, ◌*◌, ◌≤◌, ◌<◌}
+use Prim.Native.Nat.{ℕ, zero, suc, ◌+◌, ◌*◌, ◌≤◌}
 use native.Mathlib.Nat.{suc-mul, zero-mul, mul-one, mul-le-mul}
 use native.Mathlib.Omega.{arith}
 use lib.ListN.{length, length-append}
@@ -10,15 +10,6 @@ use Rattle.model.specs.Clauses.{Clause, list_to, must, must_not, wanting, weight
 use Rattle.model_clauses.proofs.ClauseLaws.{length_singles}
 use Rattle.model_clauses.proofs.DimacsSizes.{weight_append}
 use Rattle.clauses_soft.specs.Soft.{wanting_permissions, wanting_roles, where_aimed, soft_by}
-
-pub where_aimed_none : (a n : ℕ) → a < 1 → 0 ≡ where_aimed a n
-unfolding where_aimed
-where_aimed_none a n h = let e : a ≡ 0 = omega arith in rw e
-
-pub where_aimed_some : (a n : ℕ) → 1 ≤ a → n ≡ where_aimed a n
-unfolding where_aimed
-where_aimed_some zero n h = absurd (omega arith)
-where_aimed_some (suc a) n h = refl
 
 module _ (w : ℕ) (x : ℕ → ℕ) where
   empty : (n : ℕ) → list_to n (λ i. wanting 0 w (x i)) ≡ []

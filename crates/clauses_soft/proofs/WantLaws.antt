@@ -2,8 +2,7 @@
 -- Assumes nothing.
 use mathlib.Core.Path.{◌≡◌, refl}
 use mathlib.Core.List.{List}
-use Prim.Native.Nat.{ℕ, zero, suc, ◌≤◌, ◌<◌}
-use native.Mathlib.Omega.{arith}
+use Prim.Native.Nat.{ℕ, zero, suc}
 use Rattle.model.specs.Clauses.{must, must_not, wanting}
 use Rattle.model.specs.Dimacs.{decimal, clauses_text, weighing}
 use Rattle.clauses_bytes.specs.Putting.{Puts, packed_text}
@@ -12,23 +11,18 @@ use Rattle.clauses_soft.specs.Soft.{wanted}
 use Rattle.clauses_bytes.proofs.WritingLaws.{put_nothing, puts_as}
 use Rattle.clauses_lines.proofs.LineLaws.{line_put, lines-weighing}
 
-module _ (aim w x : ℕ) where
-  pub want_nothing : (l : List ℕ) (at : ℕ) → aim < 1 → Puts l at (lines_of w (wanted aim x)) l at
+module _ (w x : ℕ) where
+  pub want_nothing : (l : List ℕ) (at : ℕ) → Puts l at (lines_of w (wanted 0 x)) l at
   unfolding wanted lines_of
-  want_nothing l at h = let e : aim ≡ 0 = omega arith in rw e (put_nothing l at)
+  want_nothing l at = put_nothing l at
 
-  pub want_false : {l a : List ℕ} {at r : ℕ} → 1 ≤ aim → aim < 2 → Puts l at (line_of w (must_not x)) a r → Puts l at (lines_of w (wanted aim x)) a r
+  pub want_false : {l a : List ℕ} {at r : ℕ} → Puts l at (line_of w (must_not x)) a r → Puts l at (lines_of w (wanted 1 x)) a r
   unfolding wanted
-  want_false g h p = let e : aim ≡ 1 = omega arith in rw e (line_put w (must_not x) p)
+  want_false p = line_put w (must_not x) p
 
-  pub want_true : {l a : List ℕ} {at r : ℕ} → 2 ≤ aim → Puts l at (line_of w (must x)) a r → Puts l at (lines_of w (wanted aim x)) a r
+  pub want_true : {l a : List ℕ} {at r : ℕ} → Puts l at (line_of w (must x)) a r → Puts l at (lines_of w (wanted 2 x)) a r
   unfolding wanted
-  want_true {l} {a} {at} {r} g p = go aim g
-    where
-      go : (k : ℕ) → 2 ≤ k → Puts l at (lines_of w (wanted k x)) a r
-      go zero h = absurd (omega arith)
-      go (suc zero) h = absurd (omega arith)
-      go (suc (suc k)) h = line_put w (must x) p
+  want_true p = line_put w (must x) p
 
 -- what is wanted, by its weight
 weighed : (a v x : ℕ) → weighing v (wanted a x) ≡ wanting a v x

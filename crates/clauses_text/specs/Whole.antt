@@ -4,7 +4,9 @@ use Rattle.std.specs.Prelude.{List, ◌++◌, ℕ, ◌+◌, length}
 use Rattle.model.specs.Clauses.{Clause, Weighted, top}
 use Rattle.model.specs.Dimacs.{clauses_text, head_text, weighing}
 use Rattle.sets.specs.Words.{value}
-use Rattle.query_reduced.specs.declared.exclusions.Reduced.{Reduced}
+use Rattle.query_rank.specs.Objectives.{number_of}
+use Rattle.query_reduced.specs.declared.reduced.ReducedExclusion.{ReducedExclusion}
+use Rattle.query_reduced.specs.Met.{masks_of, ns_of}
 use Rattle.clauses_hard.specs.declared.question.Question.{Question}
 use Rattle.clauses_hard.specs.Sizes.{helpers_to}
 use Rattle.clauses_hard.specs.Parts.{rows_of, hard_by}
@@ -21,11 +23,11 @@ text_by R P s row lower upper masks ns k a b =
     ++ clauses_text (clauses_by R P s row lower upper masks ns k a b)
 
 -- the same of a question, by the rows of what roles carry and the reduced exclusions
-abbrev pub hard_for : Question → List (List ℕ) → Reduced → List Clause
-hard_for q rows x =
-    hard_by q.roles q.permissions q.authorized (rows_of rows) (value q.lower) (value q.upper) x.masks x.ns x.count
+abbrev pub hard_for : Question → List (List ℕ) → List ReducedExclusion → List Clause
+hard_for q rows xs =
+    hard_by q.roles q.permissions q.authorized (rows_of rows) (value q.lower) (value q.upper) (masks_of xs) (ns_of xs) (length xs)
 
-abbrev pub text_for : Question → List (List ℕ) → Reduced → List ℕ
-text_for q rows x =
-    text_by q.roles q.permissions q.authorized (rows_of rows) (value q.lower) (value q.upper) x.masks x.ns x.count
-    q.first q.second
+abbrev pub text_for : Question → List (List ℕ) → List ReducedExclusion → List ℕ
+text_for q rows xs =
+    text_by q.roles q.permissions q.authorized (rows_of rows) (value q.lower) (value q.upper) (masks_of xs) (ns_of xs) (length xs)
+    (number_of q.first) (number_of q.second)

@@ -1,12 +1,13 @@
 // The head, all clauses, and the whole text of an ask.
-ghost use Rattle.std.specs.Prelude.{[], ◌∷◌, ◌+◌, ◌≤◌};
+ghost use Rattle.std.specs.Prelude.{◌∷◌, ◌+◌, ◌≤◌, length};
 ghost use Rattle.model.specs.Dimacs.{ascii, decimal, head_text, clauses_text};
 ghost use Rattle.clauses_bytes.specs.Putting.{Puts};
 ghost use Rattle.clauses_lines.specs.Lines.{lines_of};
+ghost use Rattle.query_rank.specs.Objectives.{number_of};
 ghost use Rattle.clauses_soft.specs.Soft.{soft_by};
 ghost use Rattle.clauses_text.specs.Whole.{hard_for, text_for};
 
-use clauses_bytes::bytes::{packed, put, put_long};
+use clauses_bytes::bytes::{packed, put, put_all, put_long};
 use clauses_counter::counter::put_counters;
 use clauses_hard::carries::{
     put_barring, put_carried, put_carrying, put_lower_bound, put_upper_bound,
@@ -15,39 +16,22 @@ use clauses_hard::question::Question;
 use clauses_hard::sizes::{hard_size, helpers_of};
 use clauses_soft::sizes::{soft_size, top_weight};
 use clauses_soft::soft::{put_wanting_permissions, put_wanting_roles};
-use query_reduced::exclusions::Reduced;
+use query_reduced::reduced::ReducedExclusion;
 
 // ---- the head
 
-fn put_p(out: &mut [u8], at: usize) -> usize
-    ensures { Puts out.old at (112 ∷ 32 ∷ []) out.new result }
-{
-    let a = put(out, at, 112);
-    put(out, a, 32)
-}
-
-fn put_wcnf(out: &mut [u8], at: usize) -> usize
-    ensures { Puts out.old at (119 ∷ 99 ∷ 110 ∷ 102 ∷ 32 ∷ []) out.new result }
-{
-    let a = put(out, at, 119);
-    let b = put(out, a, 99);
-    let c = put(out, b, 110);
-    let d = put(out, c, 102);
-    put(out, d, 32)
-}
-
+// Puts the mark of the head line.
 fn put_mark(out: &mut [u8], at: usize) -> usize
     ensures { Puts out.old at (ascii "p wcnf ") out.new result }
 {
-    let a = put_p(out, at);
-    put_wcnf(out, a)
+    put_all(out, at, b"p wcnf ")
 }
 
 // Puts a blank and a number.
 fn put_number(out: &mut [u8], at: usize, n: usize) -> usize
     ensures { Puts out.old at (32 ∷ decimal n) out.new result }
 {
-    let a = put(out, at, 32);
+    let a = put(out, at, b' ');
     put_long(out, a, n)
 }
 
@@ -59,7 +43,7 @@ fn put_head(out: &mut [u8], at: usize, variables: usize, clauses: usize, top: us
     let b = put_long(out, a, variables);
     let c = put_number(out, b, clauses);
     let d = put_number(out, c, top);
-    put(out, d, 10)
+    put(out, d, b'\n')
 }
 
 // ---- the clauses
@@ -71,10 +55,10 @@ fn put_hard(
     w: usize,
     rows: &[[u64; 4]; 64],
     q: Question,
-    x: Reduced,
+    exclusions: &[ReducedExclusion],
 ) -> usize
-    requires { (q.roles ≤ 64) × (q.permissions ≤ 256) × (x.count ≤ 32) }
-    ensures { Puts out.old at (lines_of w (hard_for q rows.now x)) out.new result }
+    requires { (q.roles ≤ 64) × (q.permissions ≤ 256) × (length exclusions.now ≤ 32) }
+    ensures { Puts out.old at (lines_of w (hard_for q rows.now exclusions.now)) out.new result }
 {
     let roles = q.roles;
     let permissions = q.permissions;
@@ -85,41 +69,40 @@ fn put_hard(
     let c = put_carried(out, b, w, rows, roles, permissions);
     let d = put_lower_bound(out, c, w, lower, roles, permissions);
     let e = put_upper_bound(out, d, w, upper, roles, permissions);
-    put_counters(out, e, w, roles + permissions, x)
+    put_counters(out, e, w, roles + permissions, exclusions)
 }
 
 // Puts the soft clauses.
-fn put_soft(
-    out: &mut [u8],
-    at: usize,
-    first: u8,
-    second: u8,
-    roles: usize,
-    permissions: usize,
-) -> usize
-    requires { (roles ≤ 64) × (permissions ≤ 256) }
-    ensures { Puts out.old at (clauses_text (soft_by roles permissions first second)) out.new result }
+fn put_soft(out: &mut [u8], at: usize, q: Question) -> usize
+    requires { (q.roles ≤ 64) × (q.permissions ≤ 256) }
+    ensures { Puts out.old at (clauses_text (soft_by q.roles q.permissions (number_of q.first) (number_of q.second))) out.new result }
 {
-    let a = put_wanting_permissions(out, at, first, roles, permissions);
-    put_wanting_roles(out, a, second, roles)
+    let a = put_wanting_permissions(out, at, q.first, q.roles, q.permissions);
+    put_wanting_roles(out, a, q.second, q.roles)
 }
 
 // ---- the text
 
 // Puts the whole text.
-pub fn put_text(out: &mut [u8], at: usize, rows: &[[u64; 4]; 64], q: Question, x: Reduced) -> usize
-    requires { (q.roles ≤ 64) × (q.permissions ≤ 256) × (x.count ≤ 32) }
-    ensures { Puts out.old at (text_for q rows.now x) out.new result }
+pub fn put_text(
+    out: &mut [u8],
+    at: usize,
+    rows: &[[u64; 4]; 64],
+    q: Question,
+    exclusions: &[ReducedExclusion],
+) -> usize
+    requires { (q.roles ≤ 64) × (q.permissions ≤ 256) × (length exclusions.now ≤ 32) }
+    ensures { Puts out.old at (text_for q rows.now exclusions.now) out.new result }
 {
     let roles = q.roles;
     let permissions = q.permissions;
     let first = q.first;
     let second = q.second;
     let w = top_weight(first, second, roles, permissions);
-    let variables = roles + permissions + helpers_of(x);
-    let hard = hard_size(rows, q, x);
+    let variables = roles + permissions + helpers_of(exclusions);
+    let hard = hard_size(rows, q, exclusions);
     let clauses = hard + soft_size(first, second, roles, permissions);
     let a = put_head(out, at, variables, clauses, w);
-    let b = put_hard(out, a, packed(w), rows, q, x);
-    put_soft(out, b, first, second, roles, permissions)
+    let b = put_hard(out, a, packed(w), rows, q, exclusions);
+    put_soft(out, b, q)
 }

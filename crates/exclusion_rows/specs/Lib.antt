@@ -2,3 +2,4 @@
 
 -- Believed: theorems or the contracts of exported functions are stated in these.
 pub mod Rows
+pub mod Table

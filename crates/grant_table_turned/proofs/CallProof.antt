@@ -1,14 +1,14 @@
 -- The calls on tables of 2,048 bytes, a law for each way that they go, and both round trips.
 -- Assumes nothing.
 use mathlib.Core.Path.{◌≡◌, refl, sym, ap, ◌∙◌}
-use mathlib.Core.Bool.{Bool, true, false, ◌&&◌, not}
+use mathlib.Core.Bool.{Bool, true, false, ◌&&◌}
 use mathlib.Core.List.{List}
 use Prim.Native.Nat.{ℕ}
 use native.Mathlib.Omega.{arith}
 use lib.Dec.{eqb}
 use lib.Pow.{are_bytes}
 use lib.ListN.{length, replicate}
-use borrow.Author.Tests.{eq-eqb, eqb-true, not-true, not-false}
+use borrow.Author.Tests.{eq-eqb, eqb-true}
 use Rattle.model.specs.Session.{Reply, refuse}
 use Rattle.model.specs.Run.{returned, filled_with, answered}
 use Rattle.model_laws.proofs.Bools.{and_l, and_r, both}
@@ -51,35 +51,33 @@ module _ (source room : List ℕ) where
   unfolding unturn_call
   by_unturn b e = ap (λ (x : Bool). sized x (unturned source)) e
 
-  -- by what the test of both sizes gave
-  module _ {t : Bool} (e : t ≡ fit) where
-    pub source_size : not t ≡ false → length source ≡ 2048
-    source_size q = eqb-true (length source) 2048 (and_l (eqb (length source) 2048) (eqb (length room) 2048) (sym e ∙ not-false t q))
+  pub source_size : fit ≡ true → length source ≡ 2048
+  source_size e = eqb-true (length source) 2048 (and_l (eqb (length source) 2048) (eqb (length room) 2048) e)
 
-    pub target_size : not t ≡ false → length room ≡ 2048
-    target_size q = eqb-true (length room) 2048 (and_r (eqb (length source) 2048) (eqb (length room) 2048) (sym e ∙ not-false t q))
+  pub target_size : fit ≡ true → length room ≡ 2048
+  target_size e = eqb-true (length room) 2048 (and_r (eqb (length source) 2048) (eqb (length room) 2048) e)
 
-    pub turn_19 : not t ≡ true → (19 ≡ returned (turn_call source (length room))) × (room ≡ answered room (turn_call source (length room)))
-    turn_19 q =
-        let r = left_by_lem room (turned source) (turn_call source (length room)) (by_turn false (sym e ∙ not-true t q)) in
-        (r.number, r.bytes)
+  pub turn_19 : fit ≡ false → (19 ≡ returned (turn_call source (length room))) × (room ≡ answered room (turn_call source (length room)))
+  turn_19 e =
+      let r = left_by_lem room (turned source) (turn_call source (length room)) (by_turn false e) in
+      (r.number, r.bytes)
 
-    pub turn-done : not t ≡ false → (after : List ℕ) → after ≡ turned source
-        → (0 ≡ returned (turn_call source (length room))) × (after ≡ answered room (turn_call source (length room)))
-    turn-done q after w =
-        let r = done_by room (turned source) (turn_call source (length room)) (turn-length 32 8 source) after (by_turn true (sym e ∙ not-false t q)) w in
-        (r.number, r.bytes)
+  pub turn-done : fit ≡ true → (after : List ℕ) → after ≡ turned source
+      → (0 ≡ returned (turn_call source (length room))) × (after ≡ answered room (turn_call source (length room)))
+  turn-done e after w =
+      let r = done_by room (turned source) (turn_call source (length room)) (turn-length 32 8 source) after (by_turn true e) w in
+      (r.number, r.bytes)
 
-    pub unturn_19 : not t ≡ true → (19 ≡ returned (unturn_call source (length room))) × (room ≡ answered room (unturn_call source (length room)))
-    unturn_19 q =
-        let r = left_by_lem room (unturned source) (unturn_call source (length room)) (by_unturn false (sym e ∙ not-true t q)) in
-        (r.number, r.bytes)
+  pub unturn_19 : fit ≡ false → (19 ≡ returned (unturn_call source (length room))) × (room ≡ answered room (unturn_call source (length room)))
+  unturn_19 e =
+      let r = left_by_lem room (unturned source) (unturn_call source (length room)) (by_unturn false e) in
+      (r.number, r.bytes)
 
-    pub unturn_done : not t ≡ false → (after : List ℕ) → after ≡ unturned source
-        → (0 ≡ returned (unturn_call source (length room))) × (after ≡ answered room (unturn_call source (length room)))
-    unturn_done q after w =
-        let r = done_by room (unturned source) (unturn_call source (length room)) (turn-length 8 32 source) after (by_unturn true (sym e ∙ not-false t q)) w in
-        (r.number, r.bytes)
+  pub unturn_done : fit ≡ true → (after : List ℕ) → after ≡ unturned source
+      → (0 ≡ returned (unturn_call source (length room))) × (after ≡ answered room (unturn_call source (length room)))
+  unturn_done e after w =
+      let r = done_by room (unturned source) (unturn_call source (length room)) (turn-length 8 32 source) after (by_unturn true e) w in
+      (r.number, r.bytes)
 
 -- both round trips
 pub round_trips : (bs : List ℕ) → are_bytes bs ≡ true → length bs ≡ 2048 → RoundTrips bs

@@ -20,13 +20,13 @@ use Rattle.sets.proofs.Machine.{value-has}
 use Rattle.octets.specs.Splice.{splice, number_at, bytes_of_all}
 use Rattle.grant_table_turned.specs.Turned.{row_at, having, joined, turn, unturned}
 use Rattle.grant_table_words.specs.Stages.{column_of, Transposed}
-use Rattle.grant_table_turned.specs.Columns.{Group, Part}
+use Rattle.grant_table_turned.specs.Columns.{Numbers, Part}
 use Rattle.grant_table_words.proofs.SetTests.{set_of_bit, set_of-members, set_of_same}
 use Rattle.grant_table_turned.proofs.Rows.{joined_put}
 use Rattle.grant_table_turned.proofs.Words.{all-joined}
 
 -- ---- 64 of the rows, transposed
-pub part_is : (src : List ℕ) (w : ℕ) (words rows : List ℕ) → Group src w words → Transposed words rows → Part src w rows
+pub part_is : (src : List ℕ) (w : ℕ) (words rows : List ℕ) → Numbers src (512 * w) 8 words → Transposed words rows → Part src w rows
 unfolding column_of row_at line_at number_at
 part_is src w words rows g t r h =
     t r h

@@ -21,7 +21,7 @@ use Rattle.model_laws.proofs.RoundTrip.{bytes_drop}
 use Rattle.octets.specs.Splice.{splice, number_at, bytes_of_all}
 use Rattle.grant_table_turned.specs.Turned.{row_at, having, joined, turn, turned}
 use Rattle.grant_table_words.specs.Stages.{column_of, Transposed}
-use Rattle.grant_table_turned.specs.Columns.{Column, turned_bytes}
+use Rattle.grant_table_turned.specs.Columns.{Numbers, turned_bytes}
 use Rattle.grant_table_words.proofs.SetTests.{set_of_same}
 use Rattle.grant_table_turned.proofs.Rows.{joined_put}
 
@@ -92,12 +92,14 @@ column_bytes words rows s t at e x n =
 -- ---- a table turned, 64 of its 256 rows at a time
 module _ (src : List ℕ) (h : are_bytes src ≡ true) (w : ℕ) (l : w < 4) where
   -- the words w of the rows, transposed, are the turned rows from 64 * w on
-  pub column_turned : (a : List ℕ) → ((r : ℕ) → r < 64 → get_or a r 0 ≡ number_at src (32 * r + 8 * w)) → (i : ℕ) → i < 64
+  pub column_turned : (a : List ℕ) → Numbers src (8 * w) 32 a → (i : ℕ) → i < 64
       → column_of a i ≡ having 32 64 src (64 * w + i)
   unfolding column_of having row_at line_at number_at
   column_turned a e i k =
       set_of_same (λ r. has (get_or a r 0) i) (λ r. has (number (take 32 (drop (32 * r) src))) (64 * w + i)) 64
-      (λ r m. ap (λ (x : ℕ). has x i) (e r m ∙ ap (λ (x : List ℕ). number (take 8 x)) (sym (drop-drop (8 * w) (32 * r) src)))
+      (λ r m. let p : 8 * w + 32 * r ≡ 32 * r + 8 * w = omega arith in
+      ap (λ (x : ℕ). has x i) (e r m ∙ ap (λ (x : ℕ). number (take 8 (drop x src))) p
+      ∙ ap (λ (x : List ℕ). number (take 8 x)) (sym (drop-drop (8 * w) (32 * r) src)))
       ∙ word_bit 32 w i (drop (32 * r) src) (bytes_drop (32 * r) src h) k (omega arith))
 
 -- ---- a target filled with 64 turned rows at a time
@@ -111,14 +113,14 @@ module _ (src room : List ℕ) where
   row_size_lem k = length-bytes_of 8 (having 32 64 src k)
 
   -- the first 64 * w rows are in place, and behind them the target is as it was
-  turned_to : ℕ → List ℕ
+  pub turned_to : ℕ → List ℕ
   turned_to w = joined turned_row 0 (64 * w) ++ drop (512 * w) room
 
-  turn-start : room ≡ turned_to 0
+  pub turn-start : room ≡ turned_to 0
   unfolding turned_to joined
   turn-start = refl
 
-  turn-next : are_bytes src ≡ true → (w : ℕ) → w < 4 → (words s t : List ℕ) → Column src w words
+  pub turn-next : are_bytes src ≡ true → (w : ℕ) → w < 4 → (words s t : List ℕ) → Numbers src (8 * w) 32 words
       → s ≡ turned_to w → t ≡ splice s (512 * w) (turned_bytes words) → t ≡ turned_to (w + 1)
   unfolding turned_to turned_row turned_bytes
   turn-next h w l words s t c e d =
@@ -131,20 +133,9 @@ module _ (src room : List ℕ) where
       ∙ joined_put turned_row 8 row_size_lem room s (64 * w) 64 (e ∙ ap (λ (x : ℕ). joined turned_row 0 (64 * w) ++ drop x room) p)
       ∙ ap₂ {C = List ℕ} (λ (x y : ℕ). joined turned_row 0 x ++ drop y room) q o
 
-  turn_last : length room ≡ 2048 → (w : ℕ) → w ≤ 4 → 4 ≤ w → (s : List ℕ) → s ≡ turned_to w → s ≡ turned src
+  pub turn_last : length room ≡ 2048 → (w : ℕ) → w ≤ 4 → 4 ≤ w → (s : List ℕ) → s ≡ turned_to w → s ≡ turned src
   unfolding turned_to turned_row turn
   turn_last n w a b s e =
       let q : w ≡ 4 = omega arith in
       e ∙ ap (λ (x : ℕ). joined turned_row 0 (64 * x) ++ drop (512 * x) room) q
       ∙ ap (λ (x : List ℕ). joined turned_row 0 256 ++ x) (drop_of_length-le room {i = 2048} (omega arith)) ∙ append-nil (joined turned_row 0 256)
-
-  -- the four columns, each turned and put behind the one before, the last one first
-  pub turn-all : (a b c d s t u v : List ℕ) → v ≡ splice u 1536 (turned_bytes d) → u ≡ splice t 1024 (turned_bytes c)
-      → t ≡ splice s 512 (turned_bytes b) → s ≡ splice room 0 (turned_bytes a) → are_bytes src ≡ true → Column src 0 a → Column src 1 b → Column src 2 c
-      → Column src 3 d → length room ≡ 2048 → v ≡ turned src
-  turn-all a b c d s t u v ev eu et es h ca cb cc' cd n =
-      let e1 : s ≡ turned_to 1 = turn-next h 0 (omega arith) a room s ca turn-start es in
-      let e2 : t ≡ turned_to 2 = turn-next h 1 (omega arith) b s t cb e1 et in
-      let e3 : u ≡ turned_to 3 = turn-next h 2 (omega arith) c t u cc' e2 eu in
-      let e4 : v ≡ turned_to 4 = turn-next h 3 (omega arith) d u v cd e3 ev in
-      turn_last n 4 (omega arith) (omega arith) v e4

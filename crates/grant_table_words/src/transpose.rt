@@ -3,6 +3,8 @@ ghost use Rattle.std.specs.Prelude.{◌≡◌, true, ◌+◌, ◌≤◌, ◌<◌
 ghost use Rattle.model.specs.Sets.{has};
 ghost use Rattle.grant_table_words.specs.Stages.{marks, low_row as low_row_of, high_row as high_row_of, paired, MarkedFrom, Blocked, Exchanged, Transposed};
 
+// The distance j and the marks m go as two numbers: a struct of both would be taken apart at each shift.
+
 // A marked row after an exchange with the one j further.
 fn low_row(own: u64, other: u64, j: usize, m: u64) -> u64
     requires { (j < 64) × (marks j m ≡ true) }
@@ -21,7 +23,7 @@ fn high_row(own: u64, other: u64, j: usize, m: u64) -> u64
 
 // The marked row k and the one j further, after an exchange.
 fn pair(a: &[u64; 64], k: usize, j: usize, m: u64, out: &mut [u64; 64])
-    requires { (k + j < 64) × (marks j m ≡ true) × (has m k ≡ true) × (length out.old ≡ 64) }
+    requires { (k + j < 64) × (marks j m ≡ true) × (has m k ≡ true) }
     ensures { out.new ≡ paired j m a.now k out.old }
 {
     let low = a[k];
@@ -32,7 +34,7 @@ fn pair(a: &[u64; 64], k: usize, j: usize, m: u64, out: &mut [u64; 64])
 
 // The j marked rows from a place on and the j behind them, after an exchange.
 fn block(a: &[u64; 64], from: usize, j: usize, m: u64, out: &mut [u64; 64])
-    requires { (0 < j) × (from + j + j ≤ 64) × (marks j m ≡ true) × (MarkedFrom j m from) × (length out.old ≡ 64) }
+    requires { (0 < j) × (from + j + j ≤ 64) × (marks j m ≡ true) × (MarkedFrom j m from) }
     ensures { Blocked j m from (from + j) a.now out.old out.new }
 {
     for k in from..from + j {
@@ -42,13 +44,11 @@ fn block(a: &[u64; 64], from: usize, j: usize, m: u64, out: &mut [u64; 64])
 
 // All rows after an exchange, block by block: rows that stand together are exchanged together.
 fn exchange(a: &[u64; 64], j: usize, m: u64, out: &mut [u64; 64])
-    requires { (0 < j) × (j < 64) × (marks j m ≡ true) × (length out.old ≡ 64) }
+    requires { (0 < j) × (j < 64) × (marks j m ≡ true) }
     ensures { (Exchanged j m a.now out.new) × (length out.new ≡ 64) }
 {
-    let mut from: usize = 0;
-    while from < 64 {
+    for from in (0..64usize).step_by(2 * j) {
         block(a, from, j, m, out);
-        from = from + j + j;
     }
 }
 

@@ -2,13 +2,14 @@
 -- Assumes nothing.
 use mathlib.Core.Path.{◌≡◌, refl, sym, ap, ap₂, ◌∙◌}
 use mathlib.Core.Bool.{Bool, true, false}
-use mathlib.Core.List.{List, [], ◌∷◌, map}
+use mathlib.Core.List.{List, [], ◌∷◌, ◌++◌, map}
 use Prim.Native.Nat.{ℕ, zero, suc, ◌+◌, ◌≤◌, ◌<◌, suc-le-suc}
 use native.Mathlib.Omega.{arith}
 use native.Mathlib.Numerals.{add-one}
 use native.Mathlib.Nat.{le_of_suc-le-suc, not-suc-le-zero}
 use lib.Bits.{or_zero_r}
-use lib.ListN.{length, get_or, set, length-map, get_or-eq_default}
+use lib.ListN.{length, get_or, set, take, drop, length-map, get_or-eq_default}
+use Rattle.std.proofs.lemmas.List.{map-append, take-append-drop, get_or-drop}
 use Rattle.model.specs.Tests.{pick}
 use Rattle.model.specs.Sets.{has, union}
 use Rattle.model.specs.Policy.{taking, through, closure_by}
@@ -55,16 +56,29 @@ mapped_at f e [] (suc r) = sym e
 mapped_at f e (x ∷ l) zero = refl
 mapped_at f e (x ∷ l) (suc r) = mapped_at f e l r
 
-module _ (k other : ℕ) (rows₀ rows : List ℕ) (i : ℕ) (e : rows ≡ map_to (taking k other) i rows₀) where
-  pub row_taken : (row : ℕ) → i < length rows₀ → row ≡ taking k other (get_or rows i 0) → set rows i row ≡ map_to (taking k other) (i + 1) rows₀
-  row_taken row h er =
-      rw (er, e, map_to_at (taking k other) i rows₀, add-one) (map_to_set (taking k other) i rows₀ h)
+-- rows that are empty stay so
+map_empty : (f : ℕ → ℕ) → f 0 ≡ 0 → (l : List ℕ) → EmptyFrom 0 l → map f l ≡ l
+map_empty f e [] z = refl
+map_empty f e (x ∷ l) z =
+    let q : x ≡ 0 = z 0 (omega arith) in
+    ap₂ (λ (y : ℕ) (t : List ℕ). y ∷ t) (ap f q ∙ e ∙ sym q) (map_empty f e l (λ r h. z (suc r) (omega arith)))
 
-  pub all_taken : (m : ℕ) → EmptyFrom m rows₀ → i ≤ m → m ≤ i → other ≡ get_or rows₀ k 0 → rows ≡ through k rows₀
-  unfolding through
-  all_taken m z l g eo =
-      let h : i ≡ m = omega arith in
-      e ∙ ap (λ (j : ℕ). map_to (taking k other) j rows₀) h ∙ map_to_rest (taking k other) (taking_none k other) m rows₀ z ∙ rw eo
+pub row_taken : (k other : ℕ) (rows₀ rows : List ℕ) (i row : ℕ) → rows ≡ map_to (taking k other) i rows₀ → i < length rows₀
+    → row ≡ taking k other (get_or rows i 0) → set rows i row ≡ map_to (taking k other) (i + 1) rows₀
+row_taken k other rows₀ rows i row e h er =
+    rw (er, e, map_to_at (taking k other) i rows₀, add-one) (map_to_set (taking k other) i rows₀ h)
+
+-- the rows below m are taken in, and those from m on are empty
+pub all_taken : (k : ℕ) (rows₀ : List ℕ) (m i : ℕ) (rows : List ℕ) → EmptyFrom m rows₀ → length (take m rows₀) ≤ i
+    → rows ≡ map_to (taking k (get_or rows₀ k 0)) i (take m rows₀) → rows ++ drop m rows₀ ≡ through k rows₀
+unfolding through
+all_taken k rows₀ m i rows z g e =
+    let f = taking k (get_or rows₀ k 0) in
+    let none = taking_none k (get_or rows₀ k 0) in
+    let upper : map f (drop m rows₀) ≡ drop m rows₀ = map_empty f none (drop m rows₀) (λ r h. get_or-drop m rows₀ r 0 ∙ z (m + r) (omega arith)) in
+    let lower : rows ≡ map f (take m rows₀)
+    = e ∙ map_to_rest f none i (take m rows₀) (λ r h. get_or-eq_default (take m rows₀) 0 (omega arith)) in
+    ap₂ (λ (x y : List ℕ). x ++ y) lower (sym upper) ∙ sym (map-append f (take m rows₀) (drop m rows₀)) ∙ ap (map f) (take-append-drop m rows₀)
 
 pub length_closure : (n : ℕ) (rows : List ℕ) → length (closure_by n rows) ≡ length rows
 unfolding closure_by through

@@ -3,4 +3,3 @@ pub mod Closing
 pub mod Naming
 pub mod Joining
 pub mod Filling
-pub mod Lowest

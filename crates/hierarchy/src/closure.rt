@@ -1,5 +1,5 @@
 // The table of direct juniors closed by Warshall's rule, in place.
-ghost use Rattle.std.specs.Prelude.{◌≡◌, length, ◌≤◌, ◌<◌};
+ghost use Rattle.std.specs.Prelude.{◌≡◌, ◌≤◌, ◌<◌};
 ghost use Rattle.model.specs.Policy.{taking, through as through_of, closure_by};
 ghost use Rattle.hierarchy.specs.Upper.{EmptyFrom};
 
@@ -18,7 +18,7 @@ fn take_in(row: u64, other: u64, k: Role) -> u64
 
 // Each of the first m rows that has k takes in row k; the others are empty. An empty row k changes none.
 fn through_first(rows: &mut [u64; 64], m: usize, k: Role)
-    requires { (k.0 < 64) × (m ≤ 64) × (length rows.old ≡ 64) × EmptyFrom m rows.old }
+    requires { (k.0 < 64) × (m ≤ 64) × EmptyFrom m rows.old }
     ensures { rows.new ≡ through_of k.0 rows.old }
 {
     let at = k.0 as usize;
@@ -26,15 +26,14 @@ fn through_first(rows: &mut [u64; 64], m: usize, k: Role)
     if other == 0 {
         return;
     }
-    for i in 0..m {
-        let row = take_in(rows[i], other, k);
-        rows[i] = row;
+    for row in &mut rows[..m] {
+        *row = take_in(*row, other, k);
     }
 }
 
 // Warshall's closure, by the roles below n, of a table whose rows from m on are empty.
 pub fn close_first(rows: &mut [u64; 64], m: usize, n: usize)
-    requires { (n ≤ 64) × (m ≤ 64) × (length rows.old ≡ 64) × EmptyFrom m rows.old }
+    requires { (n ≤ 64) × (m ≤ 64) × EmptyFrom m rows.old }
     ensures { rows.new ≡ closure_by n rows.old }
 {
     for k in 0..n {
@@ -44,7 +43,7 @@ pub fn close_first(rows: &mut [u64; 64], m: usize, n: usize)
 
 // Warshall's closure, by the roles below n.
 pub fn close(rows: &mut [u64; 64], n: usize)
-    requires { (n ≤ 64) × (length rows.old ≡ 64) }
+    requires { n ≤ 64 }
     ensures { rows.new ≡ closure_by n rows.old }
 {
     close_first(rows, 64, n);

@@ -5,7 +5,6 @@ ghost use Rattle.model.specs.Sets.{has, union_at};
 ghost use Rattle.model.specs.Policy.{with_selves, granter_by};
 ghost use Rattle.hierarchy.specs.Names.{name_of};
 
-use crate::member::rest;
 use model::Role;
 
 // The roles that role r reaches: itself and those of its row.
@@ -21,33 +20,20 @@ pub fn reach(below: &[u64; 64], r: Role) -> u64
 pub fn reached_by(below: &[u64; 64], set: u64) -> u64
     ensures { result ≡ union_at (with_selves below.now) set }
 {
-    let mut left = set;
     let mut all: u64 = 0;
-    while left != 0 {
-        let r = sets::lowest(left);
-        let next = sets::union(all, reach(below, r));
-        all = next;
-        left = rest(left);
+    for k in sets::members(set) {
+        all = sets::union(all, reach(below, Role(k)));
     }
     all
 }
 
-// The name of a granting role, where there is one.
-#[derive(Clone, Copy)]
-pub enum Named {
-    By(Role),
-    Nobody,
-}
-
 // The granting role of a permission for role r, by the roles that hold its grant: the lowest that r reaches, itself
 // among them. There is one exactly if role r carries the permission.
-pub fn granter(below: &[u64; 64], holding: u64, r: Role) -> Named
+pub fn granter(below: &[u64; 64], holding: u64, r: Role) -> Option<Role>
     requires { r.0 < 64 }
     ensures { name_of result ≡ granter_by (with_selves below.now) (has holding) r.0 }
 {
     let both = sets::inter(reach(below, r), holding);
-    if both == 0 {
-        return Named::Nobody;
-    }
-    Named::By(sets::lowest(both))
+    let lowest = sets::members(both).next()?;
+    Some(Role(lowest))
 }

@@ -1,38 +1,34 @@
 -- An image judged by the loops of its policy and by what its users reach, a law for each way that it goes.
 -- Assumes nothing.
 use mathlib.Core.Path.{◌≡◌, refl, sym, ap, ap₂, subst, ◌∙◌}
-use mathlib.Core.Bool.{Bool, true, false}
 use mathlib.Core.Option.{Option, none as unfound, some}
+use Rattle.std.proofs.Common.{Result, Ok, Err}
 use mathlib.Core.List.{List}
 use Prim.Native.Nat.{ℕ, zero, suc, ◌≤◌, ◌<◌}
 use native.Mathlib.Decide.{dec_lt}
 use native.Mathlib.Omega.{arith}
-use lib.Dec.{ltb}
 use lib.ListN.{get_or}
-use borrow.Author.Tests.{lt-ltb, le-ltb}
 use Rattle.model.specs.declared.Head.{Head}
-use Rattle.model.specs.declared.Checked.{Checked}
-use Rattle.model.specs.declared.Checked.TheVariants.{Accepted, Refused}
+use Rattle.model.specs.declared.Checked.TheVariants.{Accepted}
+use Rattle.reasons.specs.declared.Reason.TheVariants.{Loop, Reach}
+use Rattle.reasons.specs.declared.Refusal.{Refusal}
+use Rattle.reasons.specs.Numbers.{checked_of}
 use Rattle.model.specs.Tests.{lowest, if_below}
 use Rattle.model.specs.Sets.{has}
 use Rattle.model.specs.Policy.{Policy, below_table, reached, authorized, closure_by}
 use Rattle.model.specs.Judgement.{lowest_on_loop, lowest_over_reach, refusing, judge_meaning}
-use Rattle.model_laws.proofs.Accepted.{not_accepted}
 use Rattle.model_laws.proofs.Bools.{not_both}
 use Rattle.model_laws.proofs.LowestLaws.{lowest_is}
 use Rattle.model_laws.proofs.UnionLaws.{has_none}
 use Rattle.hierarchy.proofs.Closing.{passed_over}
 use Rattle.hierarchy_judged.specs.Loops.{Fit, Gives, Judged}
 use Rattle.hierarchy_judged.specs.Reach.{reach_at, wide_at, Authorizes}
+use Rattle.hierarchy_judged.proofs.Lowest.{below_none}
 use Rattle.hierarchy_judged.proofs.Reaching.{flat_alone}
 
 -- the lowest role that stands below itself in a table
 abbrev pub on_loop : List ℕ → ℕ → ℕ
 on_loop below roles = lowest (λ a. has (get_or below a 0) a) 0 roles
-
--- the order of the tests: a role on a loop, then a user with more than 16 roles
-abbrev verdict : Bool → Bool → ℕ → ℕ → Checked → Checked
-verdict a b r u v = refusing 22 (elim a [ true ↦ some r | false ↦ unfound ]) (refusing 23 (elim b [ true ↦ some u | false ↦ unfound ]) v)
 
 -- a table whose first n rows are empty is closed as it is
 flat_closed : (n : ℕ) (rows : List ℕ) → ((r : ℕ) → r < n → get_or rows r 0 ≡ 0) → rows ≡ closure_by n rows
@@ -43,13 +39,13 @@ flat_closed (suc n) rows z =
     e ∙ passed_over n (closure_by n rows) (ap (λ (x : List ℕ). get_or x n 0) (sym e) ∙ z n (omega arith))
 
 -- an image that its words refuse stays refused
-pub judged-refused : (p : Policy) (c : Checked) (own below : List ℕ) (n place : ℕ) → c ≡ Refused n place → Judged p c c own below
+pub judged-refused : (p : Policy) (x : Refusal) (c r : Result Head Refusal) (own below : List ℕ) → c ≡ Err x → r ≡ Err x → Judged p c r own below
 unfolding judge_meaning
-judged-refused p c own below n place e =
+judged-refused p x c r own below e f =
     record {
-      verdict = e ∙ sym (ap (judge_meaning p) e);
-      below_is = λ h q. not_accepted n place h (sym e ∙ q);
-      own_is = λ h q. not_accepted n place h (sym e ∙ q);
+      verdict = ap checked_of f ∙ sym (ap (λ (y : Result Head Refusal). judge_meaning p (checked_of y)) e);
+      below_is = λ h q. cc;
+      own_is = λ h q. cc;
     }
 
 module _ (p : Policy) (h : Head) (juniors below : List ℕ) (eh : p.head ≡ h) (ej : juniors ≡ p.juniors) (eb : below ≡ closure_by h.roles juniors) where
@@ -82,50 +78,37 @@ module _ (p : Policy) (h : Head) (assigned juniors below : List ℕ) (g : Gives 
       ap₂ (λ (l a : List ℕ). if_below h.users (lowest (wide_at l a) 0 h.users)) table_is g.assigned_is
       ∙ ap (λ (x : Head). if_below x.users (lowest (wide_at (below_table p) p.assigned) 0 x.users)) (sym g.head_is)
 
-  module _ (c : Checked) (ec : c ≡ Accepted h) where
-    -- by the two tests
-    judging : (r u : ℕ) (a b : Bool) → r ≡ on_loop below h.roles → u ≡ lowest (wide_at below assigned) 0 h.users → ltb r h.roles ≡ a
-        → ltb u h.users ≡ b → verdict a b r u (Accepted h) ≡ judge_meaning p c
-    unfolding judge_meaning if_below
-    judging r u a b er eu ea eb =
-        ap₂ (λ (x y : Bool). verdict x y r u (Accepted h)) (sym ea) (sym eb)
-        ∙ ap₂ (λ (x y : Option ℕ). refusing 22 x (refusing 23 y (Accepted h))) (ap (if_below h.roles) er ∙ loop-is) (ap (if_below h.users) eu ∙ over_reach)
-        ∙ sym (ap (judge_meaning p) ec)
+  module _ (c : Result Head Refusal) (ec : c ≡ Ok h) where
+    -- by the role and the user that are found
+    judging : (x y : Option ℕ) → x ≡ if_below h.roles (on_loop below h.roles) → y ≡ if_below h.users (lowest (wide_at below assigned) 0 h.users)
+        → refusing 22 x (refusing 23 y (Accepted h)) ≡ judge_meaning p (checked_of c)
+    unfolding judge_meaning
+    judging x y ex ey =
+        ap₂ (λ (a b : Option ℕ). refusing 22 a (refusing 23 b (Accepted h))) (ex ∙ loop-is) (ey ∙ over_reach)
+        ∙ sym (ap (λ (r : Result Head Refusal). judge_meaning p (checked_of r)) ec)
 
-    module _ (r : ℕ) (er : r ≡ on_loop below h.roles) where
-      -- 22 where some role is on a loop
-      pub judged-loop : (own : List ℕ) → r < h.roles → Judged p c (Refused 22 r) own below
+    -- 22 where some role is on a loop
+    pub judged-loop : (r : ℕ) (own : List ℕ) → some r ≡ if_below h.roles (on_loop below h.roles)
+        → Judged p c (Err (record { reason = Loop; extra = r })) own below
+    unfolding refusing
+    judged-loop r own e = record { verdict = judging (some r) _ e refl; below_is = λ k q. cc; own_is = λ k q. cc }
+
+    module _ (el : unfound ≡ if_below h.roles (on_loop below h.roles)) (u : Option ℕ) (own : List ℕ) (w : Authorizes below h.users assigned u own) where
+      -- 23 where some user may activate more than 16 roles
+      pub judged_reach : (v : ℕ) → u ≡ some v → Judged p c (Err (record { reason = Reach; extra = v })) own below
       unfolding refusing
-      judged-loop own l =
+      judged_reach v e =
+          record { verdict = judging unfound (some v) el (sym e ∙ w.lowest_is); below_is = λ k q. cc; own_is = λ k q. cc }
+
+      -- else the image is accepted
+      pub judged_ordered : u ≡ unfound → Judged p c (Ok h) own below
+      unfolding refusing
+      judged_ordered e =
           record {
-            verdict = judging r (lowest (wide_at below assigned) 0 h.users) true _ er refl (lt-ltb r h.roles l) refl;
-            below_is = λ k q. not_accepted 22 r k q;
-            own_is = λ k q. not_accepted 22 r k q;
+            verdict = judging unfound unfound el (sym e ∙ w.lowest_is);
+            below_is = λ x q. table_is;
+            own_is = λ x q v i. w.rows e v (subst (λ (y : Head). v < y.users) g.head_is i) ∙ reach_is v;
           }
-
-      module _ (l : h.roles ≤ r) (u : ℕ) (own : List ℕ) (w : Authorizes below h.users assigned u own) where
-        judged_by : (b : Bool) → ltb u h.users ≡ b → verdict false b r u (Accepted h) ≡ judge_meaning p c
-        judged_by b e = judging r u false b er w.lowest_is (le-ltb r h.roles l) e
-
-        -- 23 where some user may activate more than 16 roles
-        pub judged_reach : u < h.users → Judged p c (Refused 23 u) own below
-        unfolding refusing
-        judged_reach k =
-            record {
-              verdict = judged_by true (lt-ltb u h.users k);
-              below_is = λ x q. not_accepted 23 u x q;
-              own_is = λ x q. not_accepted 23 u x q;
-            }
-
-        -- else the image is accepted
-        pub judged_ordered : h.users ≤ u → Judged p c (Accepted h) own below
-        unfolding refusing
-        judged_ordered k =
-            record {
-              verdict = judged_by false (le-ltb u h.users k);
-              below_is = λ x q. table_is;
-              own_is = λ x q v i. w.rows k v (subst (λ (y : Head). v < y.users) g.head_is i) ∙ reach_is v;
-            }
 
 -- where no role stands over another, the image is accepted, and both tables are right as they are
 module _ (p : Policy) (h : Head) (assigned juniors : List ℕ) (g : Gives p h assigned juniors) (f : Fit h assigned juniors)
@@ -140,8 +123,8 @@ module _ (p : Policy) (h : Head) (assigned juniors : List ℕ) (g : Gives p h as
         | no q ↦ omega arith
       ]
 
-  pub judged_flat : (c : Checked) → c ≡ Accepted h → Judged p c c assigned juniors
+  pub judged_flat : (c : Result Head Refusal) → c ≡ Ok h → Judged p c c assigned juniors
   judged_flat c e =
-      subst (λ (x : Checked). Judged p c x assigned juniors) (sym e)
-      (judged_ordered p h assigned juniors juniors g (flat_closed h.roles juniors flat) c e (on_loop juniors h.roles) refl none h.users assigned
-      (flat_alone juniors h.users assigned h.roles f.roles flat f.few) (omega arith))
+      subst (λ (x : Result Head Refusal). Judged p c x assigned juniors) (sym e)
+      (judged_ordered p h assigned juniors juniors g (flat_closed h.roles juniors flat) c e (below_none h.roles _ none) unfound assigned
+      (flat_alone juniors h.users assigned h.roles f.roles flat f.few) refl)

@@ -2,10 +2,12 @@
 -- Assumes nothing.
 use mathlib.Core.Path.{◌≡◌, sym, ap, ◌∙◌}
 use mathlib.Core.Bool.{Bool, true, false}
+use mathlib.Core.Option.{none, some}
 use Prim.Native.Nat.{ℕ, suc, ◌+◌, ◌-◌, ◌≤◌, ◌<◌}
 use native.Mathlib.Omega.{arith}
 use native.Mathlib.Numerals.{add-one}
-use Rattle.model.specs.Tests.{lowest}
+use borrow.Author.Tests.{lt-ltb, le-ltb}
+use Rattle.model.specs.Tests.{lowest, if_below}
 
 -- from k up to n
 module _ (f : ℕ → Bool) where
@@ -30,3 +32,13 @@ module _ (f : ℕ → Bool) where
     pub lowest_ends : n ≤ k → k ≡ lowest f k (n - k)
     unfolding lowest
     lowest_ends l = let z : n - k ≡ 0 = omega arith in sym (ap (lowest f k) z)
+
+-- a lowest number below the bound, and none below it
+pub below_found : (n r k : ℕ) → r < n → r ≡ k → some r ≡ if_below n k
+unfolding if_below
+below_found n r k l e =
+    sym (ap (if_below n) (sym e) ∙ ap (λ (b : Bool). elim b [ true ↦ some r | false ↦ none ]) (lt-ltb r n l))
+
+pub below_none : (n k : ℕ) → n ≤ k → none ≡ if_below n k
+unfolding if_below
+below_none n k l = sym (ap (λ (b : Bool). elim b [ true ↦ some k | false ↦ none ]) (le-ltb k n l))

@@ -1,11 +1,11 @@
 -- An image judged by what its words mean together: by the loops of its policy, and by what its users reach.
 -- Assumes nothing.
-use Rattle.std.specs.Prelude.{◌≡◌, List, ℕ, ◌≤◌, ◌<◌, get_or, length}
+use Rattle.std.specs.Prelude.{◌≡◌, List, ℕ, ◌≤◌, ◌<◌, get_or, length, Result, Ok}
 use Rattle.model.specs.declared.Head.{Head}
-use Rattle.model.specs.declared.Checked.{Checked}
-use Rattle.model.specs.declared.Checked.TheVariants.{Accepted}
 use Rattle.model.specs.Policy.{Policy, below_table, authorized}
 use Rattle.model.specs.Judgement.{judge_meaning}
+use Rattle.reasons.specs.declared.Refusal.{Refusal}
+use Rattle.reasons.specs.Numbers.{checked_of}
 use Rattle.hierarchy_judged.specs.Reach.{Few}
 
 -- the tables of assigned roles and of direct juniors fit the head's numbers
@@ -23,12 +23,12 @@ pub record Gives (p : Policy) (h : Head) (assigned juniors : List ℕ) : Type 0 
   pub juniors_is : juniors ≡ p.juniors
 
 -- where the words pass, they are
-abbrev pub Passed : Policy → Checked → List ℕ → List ℕ → Type 0
-Passed p c assigned juniors = (h : Head) → c ≡ Accepted h → Gives p h assigned juniors
+abbrev pub Passed : Policy → Result Head Refusal → List ℕ → List ℕ → Type 0
+Passed p c assigned juniors = (h : Head) → c ≡ Ok h → Gives p h assigned juniors
 
 -- r is the judgement of an image whose words are judged c, and where it accepts, the one table has the roles that each
 -- user may activate, and the other is the closed one
-pub record Judged (p : Policy) (c r : Checked) (own below : List ℕ) : Type 0 where
-  pub verdict : r ≡ judge_meaning p c
-  pub below_is : (h : Head) → r ≡ Accepted h → below ≡ below_table p
-  pub own_is : (h : Head) → r ≡ Accepted h → (u : ℕ) → u < p.head.users → get_or own u 0 ≡ authorized p u
+pub record Judged (p : Policy) (c r : Result Head Refusal) (own below : List ℕ) : Type 0 where
+  pub verdict : checked_of r ≡ judge_meaning p (checked_of c)
+  pub below_is : (h : Head) → r ≡ Ok h → below ≡ below_table p
+  pub own_is : (h : Head) → r ≡ Ok h → (u : ℕ) → u < p.head.users → get_or own u 0 ≡ authorized p u

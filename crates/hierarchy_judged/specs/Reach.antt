@@ -2,7 +2,8 @@
 -- activate.
 -- Assumes nothing.
 use Rattle.std.specs.Prelude.{◌≡◌, Bool, true, false, not, List, ℕ, ◌^◌, ◌≤◌, ◌<◌, eqb, ltb, get_or}
-use Rattle.model.specs.Tests.{lowest}
+use Rattle.std.proofs.Math.Option.{Option, none}
+use Rattle.model.specs.Tests.{lowest, if_below}
 use Rattle.model.specs.Sets.{has, count, union_at}
 use Rattle.model.specs.Policy.{with_selves}
 
@@ -26,8 +27,8 @@ reach_at below assigned u = union_at (with_selves below) (get_or assigned u 0)
 abbrev pub wide_at : List ℕ → List ℕ → ℕ → Bool
 wide_at below assigned u = ltb 16 (count 64 (reach_at below assigned u))
 
--- u is the lowest of so many users with more than 16, or their number; then each row of the table has what its user
+-- u is the lowest of so many users with more than 16, if there is one; else each row of the table has what its user
 -- reaches
-pub record Authorizes (below : List ℕ) (users : ℕ) (assigned : List ℕ) (u : ℕ) (authorized : List ℕ) : Type 0 where
-  pub lowest_is : u ≡ lowest (wide_at below assigned) 0 users
-  pub rows : users ≤ u → (v : ℕ) → v < users → get_or authorized v 0 ≡ reach_at below assigned v
+pub record Authorizes (below : List ℕ) (users : ℕ) (assigned : List ℕ) (u : Option ℕ) (authorized : List ℕ) : Type 0 where
+  pub lowest_is : u ≡ if_below users (lowest (wide_at below assigned) 0 users)
+  pub rows : u ≡ none → (v : ℕ) → v < users → get_or authorized v 0 ≡ reach_at below assigned v

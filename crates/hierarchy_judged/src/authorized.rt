@@ -1,8 +1,9 @@
 // The roles that users may activate, by the closed table: those assigned, and those that they reach. A user may have at
 // most 16.
-ghost use Rattle.std.specs.Prelude.{◌≡◌, length, ◌≤◌};
+ghost use Rattle.std.specs.Prelude.{◌≡◌, ◌≤◌};
 ghost use Rattle.model.specs.Sets.{set_of, union_at};
 ghost use Rattle.model.specs.Policy.{with_selves};
+ghost use Rattle.hierarchy.specs.Names.{found_of};
 ghost use Rattle.hierarchy_judged.specs.Reach.{stands_over, Over, Few, Authorizes};
 
 use hierarchy::member::joined;
@@ -32,21 +33,26 @@ fn reach_of(below: &[u64; 64], seniors: u64, set: u64) -> u64
 }
 
 // The roles assigned to each of so many users become those that the user may activate. The lowest user who may activate
-// more than 16, or the number of users where none may. Where no role stands over another, the table is right as it is.
-pub fn authorize(below: &[u64; 64], roles: usize, users: usize, assigned: &mut [u64; 64]) -> usize
-    requires { (roles ≤ 64) × (users ≤ 64) × (length assigned.old ≡ 64) × Few roles assigned.old }
-    ensures { Authorizes below.now users assigned.old result assigned.new }
+// more than 16, if one may. Where no role stands over another, the table is right as it is.
+pub fn authorize(
+    below: &[u64; 64],
+    roles: usize,
+    users: usize,
+    assigned: &mut [u64; 64],
+) -> Option<usize>
+    requires { (roles ≤ 64) × (users ≤ 64) × Few roles assigned.old }
+    ensures { Authorizes below.now users assigned.old (found_of result) assigned.new }
 {
     let seniors = seniors_in(below, roles);
     if seniors == 0 {
-        return users;
+        return None;
     }
-    for u in 0..users {
-        let reached = reach_of(below, seniors, assigned[u]);
+    for (u, row) in assigned[..users].iter_mut().enumerate() {
+        let reached = reach_of(below, seniors, *row);
         if 16 < sets::size(reached) {
-            return u;
+            return Some(u);
         }
-        assigned[u] = reached;
+        *row = reached;
     }
-    users
+    None
 }

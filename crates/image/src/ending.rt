@@ -1,37 +1,39 @@
 // The last word of an image and the sum of all words.
-ghost use Rattle.std.specs.Prelude.{◌≡◌, ℕ, ◌*◌, ◌≤◌, true, List, length};
-ghost use Rattle.model.specs.declared.Head.{Head as HeadOf};
+ghost use Rattle.std.specs.Prelude.{◌≡◌, ℕ, ◌-◌, true, List};
 ghost use Rattle.model.specs.Image.{fault};
+ghost use Rattle.reasons.specs.Numbers.{fault_of, checked_of};
 ghost use Rattle.image.specs.Ending.{Closing};
 
-use image_faults::fault::{spared, wrong_kind};
+use image_faults::fault::{at_place, spared, wrong_kind};
 use image_words::word::decode;
-use model::{Checked, Entry, Head, Scan, Word, layout, refusals};
+use image_words::words::ImageWords;
+use model::{Entry, Head, Scan, Word, layout};
+use reasons::{Reason, Refusal};
 
 // The last word, where so many members are due: it is the end, or is refused.
-fn end_fault(due: u32, w: Word) -> u8
-    ensures { ((h : HeadOf) (rows : List ℕ) (t : Scan) → t.due ≡ due → result ≡ fault h rows t true w) × (result ≡ 0 → w.entry ≡ Entry.End) }
+fn end_fault(due: u32, w: Word) -> Result<(), Reason>
+    ensures { ((h : Head) (rows : List ℕ) (t : Scan) → t.due ≡ due → fault_of result ≡ fault h rows t true w)
+        × (fault_of result ≡ 0 → w.entry ≡ Entry.End) }
 {
     let e = w.entry;
     if wrong_kind(true, due, e) {
-        return refusals::KIND;
+        return Err(Reason::Kind);
     }
-    spared(w.spare, 0)
+    spared(w.spare, Ok(()))
 }
 
 // The last word, where so many members are due, and the sum of all words; `sum` is that of the words before it.
-pub fn closing(image: &[u8], words: usize, h: Head, due: u32, sum: u32) -> Checked
-    requires { (4 * words ≤ length image.now) × (1 ≤ words) × (words ≤ 4096) }
-    ensures { Closing image.now h words due sum result }
+pub fn closing(image: &ImageWords, h: Head, due: u32, sum: u32) -> Result<Head, Refusal>
+    ensures { Closing image.now.bytes.now h image.now.count due sum (checked_of result) }
 {
-    let end = words - 1;
-    let w = octets::word_at(image, end);
-    let number = end_fault(due, decode(w));
-    if number != 0 {
-        return Checked::Refused(number, end as u16);
+    let end = image.last();
+    let w = image.word(end);
+    at_place(end_fault(due, decode(w)), end)?;
+    if sum.wrapping_add(w) % layout::KIND_UNIT != 0 {
+        return Err(Refusal {
+            reason: Reason::Balance,
+            extra: end as u16,
+        });
     }
-    if std::num::wrapping_add_u32(sum, w) % layout::KIND_UNIT != 0 {
-        return Checked::Refused(refusals::BALANCE, end as u16);
-    }
-    Checked::Accepted(h)
+    Ok(h)
 }

@@ -1,10 +1,12 @@
-// The faults of a word behind the head, by their numbers; `assigned` has the roles assigned so far, a row a user.
-ghost use Rattle.std.specs.Prelude.{◌≡◌, List, ℕ, ◌<◌};
+// The faults of a word behind the head; `assigned` has the roles assigned so far, a row a user.
+ghost use Rattle.std.specs.Prelude.{◌≡◌, List, ℕ, ◌^◌, ◌<◌, Ok, Err, IfOk, IfErr};
 ghost use Rattle.model.specs.Image.{wrong_kind as wrong_kind_of, sparing, entry_fault};
+ghost use Rattle.reasons.specs.Numbers.{fault_of};
 
-use model::{Entry, Exclusion, Head, Permission, Role, Scan, User, refusals};
+use model::{Entry, Exclusion, Head, Permission, Role, Scan, User};
+use reasons::{Reason, Refusal};
 
-// 3
+// The word is of a kind that cannot stand at its place.
 pub fn wrong_kind(last: bool, due: u32, e: Entry) -> bool
     ensures { result ≡ wrong_kind_of last due e }
 {
@@ -12,118 +14,126 @@ pub fn wrong_kind(last: bool, due: u32, e: Entry) -> bool
         Entry::Member(_) => last | (due == 0),
         Entry::End => !last | (due != 0),
         Entry::Unknown => true,
-        Entry::Assignment(_, _) => last | (due != 0),
-        Entry::Grant(_, _) => last | (due != 0),
-        Entry::Senior(_, _) => last | (due != 0),
-        Entry::Exclude(_, _) => last | (due != 0),
-        Entry::Limit(_, _) => last | (due != 0),
+        _ => last | (due != 0),
     }
 }
 
-// 5 to 7, or 0
-pub fn assignment_fault(h: Head, assigned: &[u64; 64], u: User, r: Role) -> u8
+// The user and the role are in range, and the role is not a 17th of the user.
+pub fn assignment_fault(h: Head, assigned: &[u64; 64], u: User, r: Role) -> Result<(), Reason>
     requires { (u.0 < 64) × (r.0 < 64) }
-    ensures { (t : Scan) → result ≡ entry_fault h assigned.now t (Entry.Assignment u r) }
+    ensures { (t : Scan) → fault_of result ≡ entry_fault h assigned.now t (Entry.Assignment u r) }
 {
     if h.users <= u.0 {
-        return refusals::RANGE;
+        return Err(Reason::Range);
     }
     if h.roles <= r.0 {
-        return refusals::RANGE;
+        return Err(Reason::Range);
     }
     let who = u.0 as usize;
     let mine = assigned[who];
     if sets::has(mine, r) {
-        return 0;
+        return Ok(());
     }
     if sets::size(mine) < 16 {
-        return 0;
+        return Ok(());
     }
-    refusals::CROWD
+    Err(Reason::Crowd)
 }
 
-pub fn grant_fault(h: Head, r: Role, p: Permission) -> u8
-    ensures { (rows : List ℕ) (t : Scan) → result ≡ entry_fault h rows t (Entry.Grant r p) }
+pub fn grant_fault(h: Head, r: Role, p: Permission) -> Result<(), Reason>
+    ensures { (rows : List ℕ) (t : Scan) → fault_of result ≡ entry_fault h rows t (Entry.Grant r p) }
 {
     if h.roles <= r.0 {
-        return refusals::RANGE;
+        return Err(Reason::Range);
     }
     if h.permissions <= p.0 as u16 {
-        return refusals::RANGE;
+        return Err(Reason::Range);
     }
-    0
+    Ok(())
 }
 
-pub fn senior_fault(h: Head, a: Role, b: Role) -> u8
-    ensures { (rows : List ℕ) (t : Scan) → result ≡ entry_fault h rows t (Entry.Senior a b) }
+pub fn senior_fault(h: Head, a: Role, b: Role) -> Result<(), Reason>
+    ensures { (rows : List ℕ) (t : Scan) → fault_of result ≡ entry_fault h rows t (Entry.Senior a b) }
 {
     if h.roles <= a.0 {
-        return refusals::RANGE;
+        return Err(Reason::Range);
     }
     if h.roles <= b.0 {
-        return refusals::RANGE;
+        return Err(Reason::Range);
     }
-    if a.0 == b.0 {
-        return refusals::REPEAT;
+    if a == b {
+        return Err(Reason::Repeat);
     }
-    0
+    Ok(())
 }
 
-pub fn exclusion_fault(h: Head, t: Scan, x: Exclusion, m: u8) -> u8
-    ensures { (rows : List ℕ) → result ≡ entry_fault h rows t (Entry.Exclude x m) }
+pub fn exclusion_fault(h: Head, t: Scan, x: Exclusion, m: u8) -> Result<(), Reason>
+    ensures { (rows : List ℕ) → fault_of result ≡ entry_fault h rows t (Entry.Exclude x m) }
 {
     if m < 1 {
-        return refusals::RANGE;
+        return Err(Reason::Range);
     }
     if h.roles < m {
-        return refusals::RANGE;
+        return Err(Reason::Range);
     }
     if x.n < 2 {
-        return refusals::RANGE;
+        return Err(Reason::Range);
     }
     if m < x.n {
-        return refusals::RANGE;
+        return Err(Reason::Range);
     }
     if 32 <= t.exclusions {
-        return refusals::CROWD;
+        return Err(Reason::Crowd);
     }
-    0
+    Ok(())
 }
 
-pub fn member_fault(h: Head, t: Scan, r: Role) -> u8
+pub fn member_fault(h: Head, t: Scan, r: Role) -> Result<(), Reason>
     requires { r.0 < 64 }
-    ensures { (rows : List ℕ) → result ≡ entry_fault h rows t (Entry.Member r) }
+    ensures { (rows : List ℕ) → fault_of result ≡ entry_fault h rows t (Entry.Member r) }
 {
     if h.roles <= r.0 {
-        return refusals::RANGE;
+        return Err(Reason::Range);
     }
     if sets::has(t.members, r) {
-        return refusals::REPEAT;
+        return Err(Reason::Repeat);
     }
-    0
+    Ok(())
 }
 
-pub fn limit_fault(h: Head, r: Role, t: u16) -> u8
-    ensures { (rows : List ℕ) (s : Scan) → result ≡ entry_fault h rows s (Entry.Limit r t) }
+pub fn limit_fault(h: Head, r: Role, t: u16) -> Result<(), Reason>
+    ensures { (rows : List ℕ) (s : Scan) → fault_of result ≡ entry_fault h rows s (Entry.Limit r t) }
 {
     if h.roles <= r.0 {
-        return refusals::RANGE;
+        return Err(Reason::Range);
     }
     if t < 2 {
-        return refusals::RANGE;
+        return Err(Reason::Range);
     }
     if 256 < t {
-        return refusals::RANGE;
+        return Err(Reason::Range);
     }
-    0
+    Ok(())
 }
 
-// 4 where there are spare bits, else the number.
-pub fn spared(spare: u32, number: u8) -> u8
-    ensures { result ≡ sparing spare number }
+// Spare bits are the fault, else the one that is given.
+pub fn spared(spare: u32, fault: Result<(), Reason>) -> Result<(), Reason>
+    ensures { fault_of result ≡ sparing spare (fault_of fault) }
 {
     if spare != 0 {
-        return refusals::SPARE;
+        return Err(Reason::Spare);
     }
-    number
+    fault
+}
+
+// What a word comes to, where a fault is refused at the word's place.
+pub fn at_place<A>(outcome: Result<A, Reason>, place: usize) -> Result<A, Refusal>
+    requires { place < 2 ^ 16 }
+    ensures done { IfOk result (λ a. outcome ≡ Ok a) }
+    ensures refused { IfErr result (λ r. (outcome ≡ Err r.reason) × (r.extra ≡ place)) }
+{
+    outcome.map_err(|reason| Refusal {
+        reason,
+        extra: place as u16,
+    })
 }

@@ -6,7 +6,8 @@ use mathlib.Core.List.{List}
 use Prim.Native.Nat.{ℕ, suc, ◌+◌, ◌-◌, ◌<◌, ◌≤◌}
 use native.Mathlib.Omega.{arith}
 use Rattle.model.specs.Image.{behind_head}
-use Rattle.image_reader.specs.declared.Found.{Found}
+use Rattle.std.proofs.Common.{Option}
+use Rattle.model.specs.declared.Word.{Word}
 use Rattle.image_reader.specs.Places.{found_at, is_exclusion, exclusion_among, exclusion_after}
 
 -- the walk over the next place and the n places behind it, where t says whether an exclusion stands there
@@ -23,12 +24,12 @@ unfolding exclusion_after
 walk_begins s b place e = ap (λ (n : ℕ). exclusion_among s (n - place) place) e
 
 -- an exclusion at the next place ends it there
-pub walk_stops : (s : List ℕ) (b at : ℕ) (f : Found) (t : Bool) (r : ℕ) → at < b → f ≡ found_at s (at + 1) → t ≡ is_exclusion f → t ≡ true
+pub walk_stops : (s : List ℕ) (b at : ℕ) (f : Option Word) (t : Bool) (r : ℕ) → at < b → f ≡ found_at s (at + 1) → t ≡ is_exclusion f → t ≡ true
     → exclusion_among s (b - at) at ≡ r → at + 1 ≡ r
 walk_stops s b at f t r l e k h i = sym (opened s b at l ∙ ap (turn s (b - (at + 1)) at) (ap is_exclusion (sym e) ∙ (sym k ∙ h))) ∙ i
 
 -- anything else there leaves it to the rest
-pub walk_goes : (s : List ℕ) (b at : ℕ) (f : Found) (t : Bool) (r : ℕ) → at < b → f ≡ found_at s (at + 1) → t ≡ is_exclusion f → t ≡ false
+pub walk_goes : (s : List ℕ) (b at : ℕ) (f : Option Word) (t : Bool) (r : ℕ) → at < b → f ≡ found_at s (at + 1) → t ≡ is_exclusion f → t ≡ false
     → exclusion_among s (b - at) at ≡ r → exclusion_among s (b - (at + 1)) (at + 1) ≡ r
 walk_goes s b at f t r l e k h i = sym (opened s b at l ∙ ap (turn s (b - (at + 1)) at) (ap is_exclusion (sym e) ∙ (sym k ∙ h))) ∙ i
 

@@ -3,30 +3,31 @@
 use mathlib.Core.Path.{◌≡◌, refl, sym, ◌∙◌}
 use mathlib.Core.Bool.{Bool, true, false}
 use mathlib.Core.List.{List}
-use Prim.Native.Nat.{ℕ, ◌+◌, ◌*◌, ◌<◌, ◌≤◌, ◌^◌}
+use Prim.Native.Nat.{ℕ, ◌+◌, ◌-◌, ◌*◌, ◌<◌, ◌≤◌, ◌^◌}
 use lib.Dec.{leb}
+use Rattle.std.proofs.Common.{Some, None}
 use lib.ListN.{length}
+use native.Mathlib.Decide.{dec_le}
 use native.Mathlib.Omega.{arith}
 use borrow.Author.Tests.{le-leb, lt-leb, leb-false}
 use Rattle.model.specs.declared.Word.{Word}
 use Rattle.model.specs.Tests.{pick}
 use Rattle.model.specs.Image.{word_at, behind_head, decode}
-use Rattle.image_reader.specs.declared.Found.TheVariants.{Decoded, Nothing}
 use Rattle.image_reader.specs.Places.{found_at, place_after}
 
 -- before the first word behind the head there is nothing
-pub before-first : (s : List ℕ) (place : ℕ) → place < 1 → Nothing ≡ found_at s place
+pub before-first : (s : List ℕ) (place : ℕ) → place < 1 → None ≡ found_at s place
 unfolding found_at pick
 before-first s place h = simp (lt-leb 1 place h)
 
 -- behind the last word there is nothing
-pub behind_last : (s : List ℕ) (b place : ℕ) → b ≡ behind_head s → b < place → Nothing ≡ found_at s place
+pub behind_last : (s : List ℕ) (b place : ℕ) → b ≡ behind_head s → b < place → None ≡ found_at s place
 unfolding found_at pick
 behind_last s b place e h = simp (le-leb 1 place (omega (arith, h)), lt-leb place (behind_head s) (omega (arith, e, h)))
 
 -- between them stands the word w decoded, d
 pub word_found : (s : List ℕ) (b place w : ℕ) (d : Word) → b ≡ behind_head s → 1 ≤ place → place ≤ b → w ≡ word_at s place → d ≡ decode w
-    → Decoded d ≡ found_at s place
+    → Some d ≡ found_at s place
 unfolding found_at pick
 word_found s b place w d e f h g k = simp (le-leb 1 place f, le-leb place (behind_head s) (omega (arith, e, h)), k, g)
 
@@ -60,3 +61,12 @@ found_after s place = go (leb place (behind_head s)) refl
     go false e =
         let h = leb-false place (behind_head s) e in
         sym (behind_last s (behind_head s) place refl h) ∙ behind_last s (behind_head s) (place + 1) refl (omega (arith, h))
+
+-- where a word stands at a place, the place moves on, and fewer are left
+pub fewer_left : (s : List ℕ) (place after : ℕ) (w : Word) → Some w ≡ found_at s place → after ≡ place_after s place
+    → behind_head s + 1 - after < behind_head s + 1 - place
+fewer_left s place after w e f =
+    elim (dec_le place (behind_head s)) [
+      | yes h ↦ omega (arith, f, place_moves s (behind_head s) place refl h)
+      | no h ↦ let none = behind_last s (behind_head s) place refl (omega arith) in cc
+    ]

@@ -44,6 +44,17 @@ own_first (Limit r n) es rest x xs h q = absurd (true≢false (sym h))
 own_first End es rest x xs h q = absurd (true≢false (sym h))
 own_first Unknown es rest x xs h q = absurd (true≢false (sym h))
 
+some_first : (e : Entry) (es : List Entry) (rest : List Exclusion) → excludes e ≡ true → exclusion_by e es ++ rest ≡ [] → ⊥
+unfolding excludes exclusion_by
+some_first (Assignment u r) es rest h q = true≢false (sym h)
+some_first (Grant r p) es rest h q = true≢false (sym h)
+some_first (Senior a b) es rest h q = true≢false (sym h)
+some_first (Exclude y m) es rest h q = cc
+some_first (Member r) es rest h q = true≢false (sym h)
+some_first (Limit r n) es rest h q = true≢false (sym h)
+some_first End es rest h q = true≢false (sym h)
+some_first Unknown es rest h q = true≢false (sym h)
+
 -- nothing is read from place 0
 visited : (f : ℕ → List Exclusion) (q : ℕ) (x : Exclusion) (xs : List Exclusion) → visiting f q ≡ x ∷ xs → (0 < q) × (f q ≡ x ∷ xs)
 unfolding visiting
@@ -137,6 +148,15 @@ module _ (s : List ℕ) where
       let f = found_excludes n place refl v.0 in
       let o = own_first (entry_at s q) (entries_behind s q) (exclusions_of (entries_behind s q)) x xs f.0 v.1 in
       record { before = v.0; inside = f.1; first = o.0; rest = o.1 }
+
+  -- where the walk goes on, there is an exclusion behind the place
+  pub visits_some : (place : ℕ) → 0 < exclusion_after s place → exclusions_of (entries_behind s place) ≡ [] → ⊥
+  unfolding entries_behind exclusion_after
+  visits_some place h e =
+      let n = behind_head s - place in
+      let q = exclusion_among s n place in
+      some_first (entry_at s q) (entries_behind s q) (exclusions_of (entries_behind s q)) (found_excludes n place refl h).0
+      (visiting-one onward q h ∙ sym (first-behind n place refl) ∙ e)
 
   -- the walk starts before all of them
   pub visits_start : exclusions_of (entries_behind s 0) ≡ exclusions_of (entries_of s)

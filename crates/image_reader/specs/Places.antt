@@ -1,19 +1,18 @@
 -- The places behind an image's head: what stands at one, which comes after it, where the next exclusion stands, and
 -- what a walk from one exclusion to the next reads.
 -- Assumes nothing.
-use Rattle.std.specs.Prelude.{Bool, true, false, List, [], ◌∷◌, ◌++◌, ℕ, zero, suc, ◌+◌, ◌-◌, leb, take}
+use Rattle.std.specs.Prelude.{Bool, true, false, List, [], ◌∷◌, ◌++◌, ℕ, zero, suc, ◌+◌, ◌-◌, leb, take, Option, Some, None}
+use Rattle.model.specs.declared.Word.{Word}
 use Rattle.model.specs.declared.Exclusion.{Exclusion}
 use Rattle.model.specs.declared.Entry.{Entry}
 use Rattle.model.specs.Tests.{pick, between}
 use Rattle.model.specs.Kinds.{on_exclude}
 use Rattle.model.specs.Image.{word_at, behind_head, decode}
 use Rattle.model.specs.Policy.{entry_at, entries_from, with_members}
-use Rattle.image_reader.specs.declared.Found.{Found}
-use Rattle.image_reader.specs.declared.Found.TheVariants.{Decoded, Nothing}
 
--- the word at a place behind the head decoded, or nothing where the image has no such place
-unfoldable pub found_at : List ℕ → ℕ → Found
-found_at s place = pick (between 1 place (behind_head s)) (Decoded (decode (word_at s place))) Nothing
+-- the word at a place behind the head decoded, none where the image has no such place
+unfoldable pub found_at : List ℕ → ℕ → Option Word
+found_at s place = pick (between 1 place (behind_head s)) (Some (decode (word_at s place))) None
 
 -- the place after, which stays behind the last word
 unfoldable pub place_after : List ℕ → ℕ → ℕ
@@ -24,9 +23,14 @@ unfoldable pub excludes : Entry → Bool
 excludes e = on_exclude false (λ x m. true) e
 
 -- what was found is an exclusion's word
-unfoldable pub is_exclusion : Found → Bool
-is_exclusion (Decoded w) = excludes w.entry
-is_exclusion Nothing = false
+unfoldable pub is_exclusion : Option Word → Bool
+is_exclusion (Some w) = excludes w.entry
+is_exclusion None = false
+
+-- the place of an exclusion, 0 where there is none
+abbrev pub place_of : Option ℕ → ℕ
+place_of (Some q) = q
+place_of None = 0
 
 -- the place of the first exclusion among the n places behind the place, or 0
 unfoldable pub exclusion_among : List ℕ → ℕ → ℕ → ℕ

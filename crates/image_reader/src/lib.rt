@@ -1,21 +1,15 @@
-// A reader over a policy image: a struct that holds the image's bytes and the place of the next word, and thin
-// functions over it. The work is done by functions of a slice and a place. A place is a word's number in the image, and
-// the head has place 0.
+// A reader over a policy image: a struct that holds the image's bytes and the place of the next word, and gives the
+// words behind the head one by one. The work is done by functions of a slice and a place. A place is a word's number in
+// the image, and the head has place 0.
 #![tactic(auto)]
 
-ghost use Rattle.std.specs.Prelude.{◌≡◌, ◌+◌};
+ghost use Rattle.std.specs.Prelude.{◌≡◌, ◌+◌, ◌-◌, ◌<◌, IfSome};
+ghost use Rattle.std.specs.Iterator.{at_most};
 ghost use Rattle.model.specs.Image.{behind_head as behind_head_of};
-ghost use Rattle.image_reader.specs.Places.{found_at, place_after as place_after_of, is_exclusion as is_exclusion_of, exclusion_after as exclusion_after_of};
-ghost use Rattle.image_reader.specs.Readers.{moved_on};
+ghost use Rattle.image_reader.specs.Places.{found_at, place_after as place_after_of, is_exclusion as is_exclusion_of, place_of, exclusion_after as exclusion_after_of};
+ghost use Rattle.image_reader.specs.Readers.{Reads};
 
 use model::{Entry, Word};
-
-// What stands at a place behind the head: a word decoded, or nothing where the image has no such place.
-#[derive(Clone, Copy)]
-pub enum Found {
-    Decoded(Word),
-    Nothing,
-}
 
 // ---- by slice and place
 
@@ -23,25 +17,21 @@ pub enum Found {
 fn behind_head(image: &[u8]) -> usize
     ensures { result ≡ behind_head_of image.now }
 {
-    let words = image.len() / 4;
-    if words < 1 {
-        return 0;
-    }
-    words - 1
+    (image.len() / 4).saturating_sub(1)
 }
 
-// What stands at the place.
-pub fn entry_at(image: &[u8], place: usize) -> Found
+// The word at a place behind the head, decoded, if the image has such a place.
+pub fn entry_at(image: &[u8], place: usize) -> Option<Word>
     ensures { result ≡ found_at image.now place }
 {
     if place < 1 {
-        return Found::Nothing;
+        return None;
     }
     let last = behind_head(image);
     if last < place {
-        return Found::Nothing;
+        return None;
     }
-    Found::Decoded(image_words::word::decode(octets::word_at(image, place)))
+    Some(image_words::word::decode(octets::word_at(image, place)))
 }
 
 // The place after the one given; behind the last word there is none, and it stays.
@@ -64,54 +54,55 @@ pub struct Reader<'a> {
     pub at: usize,
 }
 
-// What stands at the reader's place.
-pub fn next<'a>(r: Reader<'a>) -> Found
-    ensures { result ≡ found_at r.entry.image.now r.entry.at }
-{
-    entry_at(r.image, r.at)
-}
+// What stands at the reader's place, which moves on; behind the last word it stays.
+impl Iterator for Reader<'_> {
+    type Item = Word;
 
-// The reader at the place after; behind the last word it stays.
-pub fn moved<'a>(r: Reader<'a>) -> Reader<'a>
-    ensures { result ≡ moved_on r.entry }
-{
-    let at = place_after(r.image, r.at);
-    Reader { image: r.image, at }
+    ghost next_gives = { Reads };
+
+    ghost remaining = { λ r. at_most (behind_head_of r.image.now + 1 - r.at) };
+
+    fn next(&mut self) -> Option<Word> {
+        let found = entry_at(self.image, self.at);
+        self.at = place_after(self.image, self.at);
+        found
+    }
 }
 
 // ---- for callers that hold no reader
 
 // The entry behind the place.
-pub fn entry_after(image: &[u8], place: usize) -> Found
+pub fn entry_after(image: &[u8], place: usize) -> Option<Word>
     ensures { result ≡ found_at image.now (place + 1) }
 {
-    next(moved(Reader { image, at: place }))
+    let at = place_after(image, place);
+    let mut reader = Reader { image, at };
+    reader.next()
 }
 
 // What was found is an exclusion's word.
-fn is_exclusion(f: Found) -> bool
-    ensures { result ≡ is_exclusion_of f }
+fn is_exclusion(found: Option<Word>) -> bool
+    ensures { result ≡ is_exclusion_of found }
 {
-    let Found::Decoded(w) = f else {
+    let Some(word) = found else {
         return false;
     };
-    let e = w.entry;
+    let e = word.entry;
     let Entry::Exclude(_, _) = e else {
         return false;
     };
     true
 }
 
-// The place of the first exclusion behind the place, or 0 where there is none: from one to the next, the exclusions in
-// image order.
-pub fn exclusion_after(image: &[u8], place: usize) -> usize
-    ensures { result ≡ exclusion_after_of image.now place }
+// The place of the first exclusion behind the place: from one to the next, the exclusions in image order.
+pub fn exclusion_after(image: &[u8], place: usize) -> Option<usize>
+    ensures { (place_of result ≡ exclusion_after_of image.now place) × IfSome result (λ q. place < q) }
 {
     let last = behind_head(image);
     for at in place..last {
         if is_exclusion(entry_after(image, at)) {
-            return at + 1;
+            return Some(at + 1);
         }
     }
-    0
+    None
 }

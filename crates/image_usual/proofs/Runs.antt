@@ -1,6 +1,7 @@
 -- The fast way is the general one on a usual word, and so on a run of them.
 -- Assumes nothing.
 use Rattle.std.proofs.Common.{◌≡◌, ℕ, suc, ◌+◌, ◌-◌, ◌*◌, ◌/◌, ◌%◌, ◌^◌, ◌<◌, ◌≤◌, Bool, true, false, not, ◌&&◌, leb, List, get_or, set, sym, refl, ap, ◌∙◌, arith, get_or-set_same, set-set, lt-ltb, eq-eqb}
+use Rattle.std.specs.Prelude.{Option, Some, None, MatchOption}
 use lib.Seq.{set-get_or}
 use borrow.Author.Tests.{lt-leb}
 use Rattle.model.specs.declared.Head.{Head}
@@ -11,13 +12,19 @@ use Rattle.model.specs.declared.Entry.TheVariants.{Assignment, Grant, Senior, Ex
 use Rattle.model.specs.Tests.{pick}
 use Rattle.model.specs.Image.{word_at, decode, says, user, role, permission, wrong_kind, in_range, repeats, crowds, entry_fault, fault, assigning, next}
 use Rattle.model.specs.Sets.{has, with, count}
-use Rattle.model.specs.Policy.{entry_at, granting, ordering, limiting}
+use Rattle.model.specs.Policy.{entry_at, ordering, limiting}
 use Rattle.model_laws.proofs.SetLaws.{count-with, count-within}
 use Rattle.model_laws.proofs.Inclusion.{within_union_l}
-use Rattle.image_usual.specs.Usual.{Usual, Quick, placed, places_from, Passed, Filled, Gathers}
+use Rattle.image_usual.specs.Usual.{Usual, Quick, placed, places_from, Passed, FilledBy, Gathers}
 use Rattle.image_words.proofs.Folds.{fold_next}
 use Rattle.image_words.proofs.Scans.{before_last, goes}
 use Rattle.image_usual.proofs.Words.{assigned_said}
+
+-- what is known of a run where there is one, or where there is none, by what follows from it
+pub mapped : {A : Type 0} (o : Option A) (P P' : Type 0) (Q Q' : A → Type 0) → (P → P') → ((x : A) → Q x → Q' x)
+    → MatchOption o P Q → MatchOption o P' Q'
+mapped None P P' Q Q' f g k = f k
+mapped (Some x) P P' Q Q' f g k = g x k
 
 -- ---- such a word, by the general way
 
@@ -145,27 +152,26 @@ places_by s n p w l ew k =
     ∙ ap (λ (x : ℕ). places_from s x p) (sym one)
 
 module _ {s : List ℕ} {h : Head} {n p sum : ℕ} {a g j : List ℕ} where
-  pub filled_none : {due : ℕ} → p ≤ n - 1 → Filled s h n due p sum a g j p sum a g j
-  filled_none l = record { passed = passed_none; inside = l; granted_is = refl; limits_is = λ x. refl; places_are = refl }
+  pub filled_none : {due : ℕ} {step : List ℕ → Entry → List ℕ} → FilledBy step s h n due p sum a g j p sum a g j
+  filled_none = record { passed = passed_none; granted_is = refl; limits_is = λ x. refl; places_are = refl }
 
-  pub filled_one : (w : ℕ) {sum' : ℕ} {a' g' j' : List ℕ} → p + 1 < n → w ≡ word_at s p → Quick h w a j a' j' → g' ≡ granting g (decode w).entry
-      → sum' ≡ (sum + w) % 2 ^ 32 → Filled s h n 0 p sum a g j (p + 1) sum' a' g' j'
-  filled_one w {sum'} {a'} {g'} {j'} l ew q eg em =
+  pub filled_one : (w : ℕ) {step : List ℕ → Entry → List ℕ} {sum' : ℕ} {a' g' j' : List ℕ} → p + 1 < n → w ≡ word_at s p → Quick h w a j a' j'
+      → g' ≡ step g (decode w).entry → sum' ≡ (sum + w) % 2 ^ 32 → FilledBy step s h n 0 p sum a g j (p + 1) sum' a' g' j'
+  filled_one w {step} {sum'} {a'} {g'} {j'} l ew q eg em =
       let m : p < n = omega arith in
       record {
         passed = passed_one w l ew q em;
-        inside = omega arith;
-        granted_is = fold_next granting s n p g w (decode w) g' _ m ew refl eg refl;
+        granted_is = fold_next step s n p g w (decode w) g' _ m ew refl eg refl;
         limits_is = λ x. fold_next limiting s n p x w (decode w) x _ m ew refl (unlimited (decode w).entry q.usual x) refl;
         places_are = places_by s n p w m ew (unplaced (decode w).entry q.usual p);
       }
 
-  pub filled_then : {due from sum₀ : ℕ} {a₀ g₀ j₀ : List ℕ} {p' sum' : ℕ} {a' g' j' : List ℕ} → Filled s h n due from sum₀ a₀ g₀ j₀ p sum a g j
-      → due ≡ 0 → Filled s h n 0 p sum a g j p' sum' a' g' j' → Filled s h n due from sum₀ a₀ g₀ j₀ p' sum' a' g' j'
+  pub filled_then : {step : List ℕ → Entry → List ℕ} {due from sum₀ : ℕ} {a₀ g₀ j₀ : List ℕ} {p' sum' : ℕ} {a' g' j' : List ℕ}
+      → FilledBy step s h n due from sum₀ a₀ g₀ j₀ p sum a g j → due ≡ 0
+      → FilledBy step s h n 0 p sum a g j p' sum' a' g' j' → FilledBy step s h n due from sum₀ a₀ g₀ j₀ p' sum' a' g' j'
   filled_then k z k' =
       record {
         passed = passed_then k.passed z k'.passed;
-        inside = k'.inside;
         granted_is = k'.granted_is ∙ k.granted_is;
         limits_is = λ x. k'.limits_is x ∙ k.limits_is x;
         places_are = k'.places_are ∙ k.places_are;
@@ -173,8 +179,8 @@ module _ {s : List ℕ} {h : Head} {n p sum : ℕ} {a g j : List ℕ} where
 
 -- ---- the assignments to one user
 
-pub gathers_none : (s : List ℕ) (n from roles u sum₀ own : ℕ) → from ≤ n - 1 → Gathers s n from roles u sum₀ own from sum₀ own
-gathers_none s n from roles u sum₀ own l = λ h a j er lu el eo c g. rw (sym eo, set-get_or a u 0) (filled_none l)
+pub gathers_none : (s : List ℕ) (n from roles u sum₀ own : ℕ) → Gathers s n from roles u sum₀ own from sum₀ own
+gathers_none s n from roles u sum₀ own = λ h a j er lu el eo c step un g. rw (sym eo, set-get_or a u 0) filled_none
 
 -- one word further
 module _ {s : List ℕ} {n from roles u sum₀ own : ℕ} {p sum row : ℕ} where
@@ -182,13 +188,13 @@ module _ {s : List ℕ} {n from roles u sum₀ own : ℕ} {p sum row : ℕ} wher
       → (w / 2 ^ 16 + w % 2 ^ 16 * 2 ^ 16) / 2 ^ 6 ≡ u + 128 → (w / 2 ^ 16 + w % 2 ^ 16 * 2 ^ 16) % 2 ^ 6 < roles
       → row' ≡ with row ((w / 2 ^ 16 + w % 2 ^ 16 * 2 ^ 16) % 2 ^ 6) → sum' ≡ (sum + w) % 2 ^ 32
       → Gathers s n from roles u sum₀ own (p + 1) sum' row'
-  unfolding granting
-  gathers_on w {sum'} {row'} k lu l ew lw ek lr er em = λ h a j eh eu el eo c g.
+  gathers_on w {sum'} {row'} k lu l ew lw ek lr er em = λ h a j eh eu el eo c step un g.
       let r : ℕ = (w / 2 ^ 16 + w % 2 ^ 16 * 2 ^ 16) % 2 ^ 6 in
       let said = assigned_said w u lw lu ek in
       let few : count 64 (with row r) ≤ 16 = rw er at c in
       let fewer : count 64 row ≤ 16 = omega (arith, few, count-within 64 row (with row r) (within_union_l row (2 ^ r))) in
       let at : get_or (set a u row) u 0 ≡ row = get_or-set_same a u row 0 (omega (arith, el)) in
       rw (er, ← set-set a u row (with row r))
-      (filled_then (k h a j eh eu el eo fewer g) refl
-      (filled_one w l ew (quick_assignment u r row said eu (rw eh lr) (omega arith) at few) (sym (ap (λ (y : Word). granting g y.entry) said)) em))
+      (filled_then (k h a j eh eu el eo fewer step un g) refl
+      (filled_one w l ew (quick_assignment u r row said eu (rw eh lr) (omega arith) at few)
+      (sym (ap (λ (y : Word). step g y.entry) said ∙ un.assignment g (user u) (role r))) em))

@@ -4,10 +4,10 @@ use Rattle.std.specs.Prelude.{◌≡◌, ℕ, zero, suc, ◌+◌, ◌-◌, ◌/�
 use Rattle.model.specs.declared.Head.{Head}
 use Rattle.model.specs.declared.Role.{Role}
 use Rattle.model.specs.declared.Scan.{Scan}
+use Rattle.model.specs.declared.User.{User}
 use Rattle.model.specs.declared.Entry.{Entry}
 use Rattle.model.specs.declared.Entry.TheVariants.{Assignment, Grant, Senior, Exclude, Member, Limit, End, Unknown}
-use Rattle.image_usual.specs.declared.usual.Granting.{Granting}
-use Rattle.image_usual.specs.declared.usual.Granting.TheVariants.{To, Nobody}
+use Rattle.image_usual.specs.declared.taking.UsualGrant.{UsualGrant}
 use Rattle.model.specs.Image.{field, role, permission, kind_of, says, in_range, decode, fault, assigning, next, scan}
 use Rattle.model.specs.Sets.{count}
 use Rattle.model.specs.Policy.{entry_at, entries_from, fold, granting, ordering, limiting}
@@ -23,12 +23,12 @@ Usual (Limit r t) = 1 < 0
 Usual End = 1 < 0
 Usual Unknown = 1 < 0
 
--- what a word grants, where it is a grant in range with no spare bit
-unfoldable pub Grants : Head → ℕ → Granting → Type 0
-Grants h w (To r p) =
-    (decode w ≡ says (Grant (role r.0) (permission p.0)) 0) × (in_range h (Grant (role r.0) (permission p.0)) ≡ true) × (r.0 < 64)
-    × (p.0 < 256)
-Grants h w Nobody = 0 < 1
+-- what a word grants that is a grant in range with no spare bit
+pub record Grants (h : Head) (w : ℕ) (g : UsualGrant) : Type 0 where
+  pub said : decode w ≡ says (Grant (role g.role.0) (permission g.permission.0)) 0
+  pub within : in_range h (Grant (role g.role.0) (permission g.permission.0)) ≡ true
+  pub role_small : g.role.0 < 64
+  pub permission_small : g.permission.0 < 256
 
 -- a usual word that, before the last and where no member is due, has no fault, taken into the roles assigned and the
 -- direct juniors so far
@@ -64,7 +64,22 @@ pub record Passed
   pub assigned_is : fold assigning assigned (entries_from s (words - place) place) ≡ fold assigning assigned₀ (entries_from s (words - from) from)
   pub juniors_is : fold ordering juniors (entries_from s (words - place) place) ≡ fold ordering juniors₀ (entries_from s (words - from) from)
 
--- the same with the permissions granted, the limits and the places of exclusion words, and not beyond the last word
+-- a step leaves what it has at a word that grants nothing
+pub record Ungranting (step : List ℕ → Entry → List ℕ) : Type 0 where
+  pub assignment : (x : List ℕ) (u : User) (r : Role) → step x (Assignment u r) ≡ x
+  pub senior : (x : List ℕ) (a b : Role) → step x (Senior a b) ≡ x
+
+-- the same with what a step takes in of grants, the limits and the places of exclusion words
+pub record FilledBy
+    (step : List ℕ → Entry → List ℕ) (s : List ℕ) (h : Head) (words due from sum₀ : ℕ) (assigned₀ granted₀ juniors₀ : List ℕ)
+    (place sum : ℕ) (assigned granted juniors : List ℕ) : Type 0 where
+  pub passed : Passed s h words due from sum₀ assigned₀ juniors₀ place sum assigned juniors
+  pub granted_is : fold step granted (entries_from s (words - place) place) ≡ fold step granted₀ (entries_from s (words - from) from)
+  pub limits_is : (limits : List ℕ)
+      → fold limiting limits (entries_from s (words - place) place) ≡ fold limiting limits (entries_from s (words - from) from)
+  pub places_are : places_from s (words - place) place ≡ places_from s (words - from) from
+
+-- the same with the permissions granted, and not beyond the last word
 pub record Filled
     (s : List ℕ) (h : Head) (words due from sum₀ : ℕ) (assigned₀ granted₀ juniors₀ : List ℕ) (place sum : ℕ)
     (assigned granted juniors : List ℕ) : Type 0 where
@@ -78,7 +93,8 @@ pub record Filled
 -- the same over words that grant nothing, where no member is due
 abbrev pub Led : List ℕ → Head → ℕ → ℕ → ℕ → List ℕ → List ℕ → ℕ → ℕ → List ℕ → List ℕ → Type 0
 Led s h words from sum₀ assigned₀ juniors₀ place sum assigned juniors =
-    (granted : List ℕ) → Filled s h words 0 from sum₀ assigned₀ granted juniors₀ place sum assigned granted juniors
+    (step : List ℕ → Entry → List ℕ) → Ungranting step → (granted : List ℕ)
+    → FilledBy step s h words 0 from sum₀ assigned₀ granted juniors₀ place sum assigned granted juniors
 
 -- the roles that the words assign to u, gathered into the row of u's roles: where they are 16 at most, the words are
 -- led through

@@ -2,3 +2,4 @@
 #![tactic(auto)]
 
 pub mod word; // word.rt: the head, and a word behind it
+pub mod words; // words.rt: an image as words

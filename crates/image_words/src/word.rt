@@ -23,6 +23,7 @@ fn exclusion_word(w: u32) -> Word
 }
 
 // A word behind the head: what it says, and its spare bits.
+// A From of Word or of Head may stand in their own crate alone, the model's, so these are functions.
 pub fn decode(w: u32) -> Word
     ensures { (result ≡ decode_of w) × Small result.entry }
 {

@@ -2,14 +2,13 @@
 -- the same.
 -- Assumes nothing.
 use mathlib.Core.Path.{◌≡◌, refl, sym, ap, ap₂, ◌∙◌}
-use mathlib.Core.Bool.{Bool, true, false, ◌&&◌, not}
-use mathlib.Core.List.{List, [], ◌∷◌}
-use Prim.Native.Nat.{ℕ, ◌+◌, ◌≤◌, ◌<◌}
+use mathlib.Core.Bool.{Bool, true, false, ◌&&◌}
+use mathlib.Core.List.{List, [], ◌∷◌, map}
+use Prim.Native.Nat.{ℕ, zero, suc, ◌+◌, ◌≤◌, ◌<◌}
 use native.Mathlib.Numerals.{add-one}
 use native.Mathlib.Omega.{arith}
-use lib.ListN.{length, get_or, take, drop, length-take, drop_of_length-le}
-use lib.Seq.{drop-cons, get_or-take, length-take-le}
-use borrow.Author.Tests.{not-true, not-false}
+use lib.ListN.{length, get_or, take, drop, drop_of_length-le}
+use lib.Seq.{drop-cons}
 use Rattle.model.specs.Tests.{all}
 use Rattle.model_laws.proofs.Bools.{and_l, and_r, both}
 
@@ -19,36 +18,22 @@ module _ {A : Type 0} (f : A → Bool) (d : A) (xs : List A) (k : ℕ) where
   unfolding all
   all-at h = rw (add-one k, drop-cons xs k d h)
 
-  pub all-next : {b : Bool} → k < length xs → b ≡ f (get_or xs k d) → not b ≡ false → all f (drop (k + 1) xs) ≡ all f (drop k xs)
-  all-next h e t = sym (all-at h ∙ ap (λ (x : Bool). x && all f (drop (k + 1) xs)) (sym e ∙ not-false _ t))
+  pub all-next : {b : Bool} → k < length xs → b ≡ f (get_or xs k d) → b ≡ true → all f (drop (k + 1) xs) ≡ all f (drop k xs)
+  all-next h e t = sym (all-at h ∙ ap (λ (x : Bool). x && all f (drop (k + 1) xs)) (sym e ∙ t))
 
-  pub all-stop : {b : Bool} → k < length xs → b ≡ f (get_or xs k d) → not b ≡ true → false ≡ all f (drop k xs)
-  all-stop h e t = sym (all-at h ∙ ap (λ (x : Bool). x && all f (drop (k + 1) xs)) (sym e ∙ not-true _ t))
+  pub all-stop : {b : Bool} → k < length xs → b ≡ f (get_or xs k d) → b ≡ false → false ≡ all f (drop k xs)
+  all-stop h e t = sym (all-at h ∙ ap (λ (x : Bool). x && all f (drop (k + 1) xs)) (sym e ∙ t))
 
   pub all_end : length xs ≤ k → true ≡ all f (drop k xs)
   unfolding all
   all_end h = rw (drop_of_length-le xs h)
 
--- the first n of a list, by a test b of y, the member at k
-module _ {A : Type 0} (f : A → Bool) (d : A) (xs : List A) (n k : ℕ) {b : Bool} {y : A} (fits : n ≤ length xs) (h : k < n)
-    (at : y ≡ get_or xs k d) (e : b ≡ f y) where
-  inside : k < length (take n xs)
-  inside = rw (length-take-le n xs fits) h
-
-  tested : b ≡ f (get_or (take n xs) k d)
-  tested = e ∙ ap f (at ∙ sym (get_or-take n xs k d h))
-
-  pub listed_next : not b ≡ false → all f (drop (k + 1) (take n xs)) ≡ all f (drop k (take n xs))
-  listed_next = all-next f d (take n xs) k inside tested
-
-  pub listed_stop : not b ≡ true → false ≡ all f (drop k (take n xs))
-  listed_stop = all-stop f d (take n xs) k inside tested
-
-pub listed_end : {A : Type 0} (f : A → Bool) (xs : List A) (n k : ℕ) → n ≤ k → true ≡ all f (drop k (take n xs))
+-- the first n of a list, each by what a map gives for it
+pub all_mapped : {A B : Type 0} (f : B → Bool) (g : A → B) (n : ℕ) (xs : List A) → all (λ x. f (g x)) (take n xs) ≡ all f (take n (map g xs))
 unfolding all
-listed_end f xs n k h =
-    let l : length (take n xs) ≤ k = omega (arith, length-take n xs) in
-    rw (drop_of_length-le (take n xs) l)
+all_mapped f g zero xs = refl
+all_mapped f g (suc n) [] = refl
+all_mapped f g (suc n) (x ∷ xs) = ap (λ (b : Bool). f (g x) && b) (all_mapped f g n xs)
 
 pub all_cong : {A : Type 0} (f g : A → Bool) (xs : List A) → ((x : A) → f x ≡ g x) → all f xs ≡ all g xs
 unfolding all

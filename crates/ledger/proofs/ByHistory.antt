@@ -2,13 +2,13 @@
 -- exclusion that the history meets is met at every session.
 -- Assumes nothing.
 use mathlib.Core.Path.{◌≡◌, refl, sym, ap, ◌∙◌}
-use mathlib.Core.Bool.{Bool, true, false, ◌&&◌, ◌||◌, not}
+use mathlib.Core.Bool.{Bool, true, ◌&&◌, ◌||◌}
 use mathlib.Core.List.{List, [], ◌∷◌}
 use Prim.Native.Nat.{ℕ, suc, ◌^◌}
 use native.Mathlib.Omega.{arith}
 use lib.Dec.{eqb, ltb}
 use lib.ListN.{take, drop}
-use borrow.Author.Tests.{ltb-true, lt-ltb, not-false}
+use borrow.Author.Tests.{ltb-true, lt-ltb}
 use Rattle.model.specs.declared.Exclusion.{Exclusion}
 use Rattle.model.specs.declared.Exclusions.{Exclusions}
 use Rattle.model.specs.declared.Session.{Session}
@@ -24,6 +24,10 @@ use Rattle.ledger.specs.Held.{met_at, named_in, named_by, few_in, Held}
 use Rattle.ledger.proofs.All.{all_then}
 use Rattle.ledger.proofs.Named.{met_by_all_lem}
 use Rattle.ledger.proofs.Soundness.{by_exclusion}
+
+-- fewer than n members of the exclusion are in the set
+abbrev pub few : ℕ → Exclusion → Bool
+few set x = ltb (count 64 (inter x.members set)) x.n
 
 -- ---- what sound sessions name
 module _ (m : Meaning) (l : Line) where
@@ -67,14 +71,14 @@ all_plain W roles authorized xs m l h opens below formed few =
 
 -- by the tests that code makes of a line's bytes
 pub plain-line : (W roles authorized : ℕ) (xs : Exclusions) (bs : List ℕ) {opened history : ℕ} {a b s r : Bool} → opened ≡ number_at bs 0
-    → history ≡ number_at bs 8 → a ≡ ltb opened (2 ^ W) → b ≡ ltb history (2 ^ roles) → not (a && b) ≡ false
+    → history ≡ number_at bs 8 → a ≡ ltb opened (2 ^ W) → b ≡ ltb history (2 ^ roles) → (a && b) ≡ true
     → ((m : Meaning) (l : Line) → m.authorized ≡ authorized → l.opened ≡ opened → l.history ≡ history
-    → s ≡ sessions_sound m l 0 (read_sessions W (drop 16 bs))) → not s ≡ false → r ≡ few_in history xs → r ≡ true
+    → s ≡ sessions_sound m l 0 (read_sessions W (drop 16 bs))) → s ≡ true → r ≡ few_in history xs → r ≡ true
     → (m : Meaning) → Held roles authorized xs m → sound W m (read_line W bs) ≡ true
 unfolding read_line number_at
 plain-line W roles authorized xs bs {a = a} {b = b} eo eh ea eb ab es ns er t m h =
     let l = read_line W bs in
-    let two = not-false _ ab in
+    let two = ab in
     all_plain W roles authorized xs m l h (ap (λ (x : ℕ). ltb x (2 ^ W)) (sym eo) ∙ sym ea ∙ and_l a b two)
     (ap (λ (x : ℕ). ltb x (2 ^ roles)) (sym eh) ∙ sym eb ∙ and_r a b two)
-    (sym (es m l h.allowed (sym eo) (sym eh)) ∙ not-false _ ns) (ap (λ (x : ℕ). few_in x xs) (sym eh) ∙ sym er ∙ t)
+    (sym (es m l h.allowed (sym eo) (sym eh)) ∙ ns) (ap (λ (x : ℕ). few_in x xs) (sym eh) ∙ sym er ∙ t)

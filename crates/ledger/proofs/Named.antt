@@ -3,8 +3,10 @@
 use mathlib.Core.Path.{◌≡◌, refl, sym, ap, ◌∙◌}
 use mathlib.Core.Bool.{Bool, true}
 use mathlib.Core.List.{List, [], ◌∷◌}
-use Prim.Native.Nat.{ℕ, suc, ◌-◌, ◌≤◌, ◌<◌}
+use Prim.Native.Nat.{ℕ, suc, ◌+◌, ◌≤◌, ◌<◌}
 use native.Mathlib.Omega.{arith}
+use native.Mathlib.Numerals.{add-one}
+use lib.Bits.{or_zero_r}
 use lib.Dec.{ltb}
 use lib.ListN.{length, get_or, drop, drop_of_length-le}
 use lib.Seq.{drop-cons}
@@ -22,20 +24,19 @@ use Rattle.model_laws.proofs.Bools.{both}
 use Rattle.model_laws.proofs.SetLaws.{count-within}
 use Rattle.model_laws.proofs.Inclusion.{within_refl, within_trans, none_within, within_union_l, within_union_r, union-within, inter-within}
 use Rattle.ledger.specs.Held.{met_at, named_in, named_by}
+use Rattle.ledger.proofs.Soundness.{or_assoc}
 
--- ---- the roles named by the sessions from k on
-pub named-next : (ss : List Session) (d : Session) (k : ℕ) → 0 < k → k ≤ length ss
-    → union (union (get_or ss (k - 1) d).active (get_or ss (k - 1) d).history) (named_in (drop k ss)) ≡ named_in (drop (k - 1) ss)
+-- ---- the roles named by the sessions from k on, put to those before
+pub named-next : (ss : List Session) (d : Session) (k r : ℕ) → k < length ss
+    → union (union r (union (get_or ss k d).active (get_or ss k d).history)) (named_in (drop (k + 1) ss)) ≡ union r (named_in (drop k ss))
 unfolding named_in
-named-next ss d k h i =
-    let e : k ≡ suc (k - 1) = omega arith in
-    let l : k - 1 < length ss = omega arith in
-    let s = get_or ss (k - 1) d in
-    ap (λ (j : ℕ). union (union s.active s.history) (named_in (drop j ss))) e ∙ sym (ap named_in (drop-cons ss (k - 1) d l))
+named-next ss d k r h =
+    let s = get_or ss k d in
+    rw (add-one k, drop-cons ss k d h) (or_assoc r (union s.active s.history) (named_in (drop (suc k) ss)))
 
-pub named_none : (ss : List Session) (k : ℕ) → length ss ≤ k → 0 ≡ named_in (drop k ss)
+pub named_end : (ss : List Session) (k r : ℕ) → length ss ≤ k → union r (named_in (drop k ss)) ≡ r
 unfolding named_in
-named_none ss k h = rw (drop_of_length-le ss h)
+named_end ss k r h = rw (drop_of_length-le ss h, or_zero_r r)
 
 -- ---- what is named
 module _ (s : Session) (ss : List Session) where

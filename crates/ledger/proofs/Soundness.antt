@@ -2,16 +2,16 @@
 -- the exclusions one by one.
 -- Assumes nothing.
 use mathlib.Core.Path.{◌≡◌, refl, sym, ap, ◌∙◌}
-use mathlib.Core.Bool.{Bool, true, false, ◌&&◌, ◌||◌, not}
+use mathlib.Core.Bool.{Bool, true, false, ◌&&◌, ◌||◌}
 use mathlib.Core.List.{List}
-use Prim.Native.Nat.{ℕ, suc, ◌+◌, ◌-◌, ◌≤◌, ◌<◌}
+use Prim.Native.Nat.{ℕ, suc, ◌+◌, ◌≤◌, ◌<◌}
 use native.Mathlib.Omega.{arith}
 use native.Mathlib.Numerals.{add-one}
-use lib.Bits.{bit_or, bit_and, and_zero_r}
+use lib.Bits.{bit_or, bit_and, and_zero_r, or_comm, or_zero_r}
 use lib.Dec.{eqb, ltb}
 use lib.ListN.{length, get_or, take, drop, drop_of_length-le}
 use lib.Seq.{drop-cons}
-use borrow.Author.Tests.{eqb-true, not-true, not-false}
+use borrow.Author.Tests.{eqb-true}
 use Rattle.model.specs.declared.Kind.{Kind}
 use Rattle.model.specs.declared.Exclusion.{Exclusion}
 use Rattle.model.specs.declared.Exclusions.{Exclusions}
@@ -23,22 +23,23 @@ use Rattle.model.specs.Policy.{Meaning, met}
 use Rattle.model.specs.Line.{is_open, active_in, counted, exclusions_met, session_sound, sessions_sound}
 use Rattle.model_laws.proofs.Bools.{and_l, and_r, or_r, all_four}
 use Rattle.model_laws.proofs.Inclusion.{none_within}
+use Rattle.model_laws.proofs.AnyWidth.{union_swap}
 use Rattle.model_laws.proofs.TableLaws.{count_empty}
 use Rattle.ledger.specs.Held.{met_at, Listed}
 use Rattle.ledger.proofs.All.{all_cong, all_same, all_swap}
 
--- ---- the roles active in the sessions from k on
-pub active_next : (ss : List Session) (d : Session) (k : ℕ) → 0 < k → k ≤ length ss
-    → bit_or (get_or ss (k - 1) d).active (active_in (drop k ss)) ≡ active_in (drop (k - 1) ss)
-unfolding active_in
-active_next ss d k h i =
-    let e : k ≡ suc (k - 1) = omega arith in
-    let l : k - 1 < length ss = omega arith in
-    ap (λ (j : ℕ). bit_or (get_or ss (k - 1) d).active (active_in (drop j ss))) e ∙ sym (ap active_in (drop-cons ss (k - 1) d l))
+pub or_assoc : (a b c : ℕ) → bit_or (bit_or a b) c ≡ bit_or a (bit_or b c)
+or_assoc a b c = or_comm (bit_or a b) c ∙ union_swap c a b ∙ ap (bit_or a) (or_comm c b)
 
-pub active_none : (ss : List Session) (k : ℕ) → length ss ≤ k → 0 ≡ active_in (drop k ss)
+-- ---- the roles active in the sessions from k on, put to those before
+pub active_next : (ss : List Session) (d : Session) (k r : ℕ) → k < length ss
+    → bit_or (bit_or r (get_or ss k d).active) (active_in (drop (k + 1) ss)) ≡ bit_or r (active_in (drop k ss))
 unfolding active_in
-active_none ss k h = rw (drop_of_length-le ss h)
+active_next ss d k r h = rw (add-one k, drop-cons ss k d h) (or_assoc r (get_or ss k d).active (active_in (drop (suc k) ss)))
+
+pub active_end : (ss : List Session) (k r : ℕ) → length ss ≤ k → bit_or r (active_in (drop k ss)) ≡ r
+unfolding active_in
+active_end ss k r h = rw (drop_of_length-le ss h, or_zero_r r)
 
 -- ---- a session that is empty, and one that is not
 module _ (m : Meaning) (l : Line) (k : ℕ) (s : Session) where
@@ -74,12 +75,12 @@ module _ (m : Meaning) (l : Line) (d : Session) (ss : List Session) (k : ℕ) wh
   unfolding sessions_sound
   sound_at_lem h = rw (add-one k, drop-cons ss k d h)
 
-  pub sound-next : {b : Bool} → k < length ss → b ≡ session_sound m l k (get_or ss k d) → not b ≡ false
+  pub sound-next : {b : Bool} → k < length ss → b ≡ session_sound m l k (get_or ss k d) → b ≡ true
       → sessions_sound m l (k + 1) (drop (k + 1) ss) ≡ sessions_sound m l k (drop k ss)
-  sound-next h e t = sym (sound_at_lem h ∙ ap (λ (x : Bool). x && sessions_sound m l (k + 1) (drop (k + 1) ss)) (sym e ∙ not-false _ t))
+  sound-next h e t = sym (sound_at_lem h ∙ ap (λ (x : Bool). x && sessions_sound m l (k + 1) (drop (k + 1) ss)) (sym e ∙ t))
 
-  pub sound_stop : {b : Bool} → k < length ss → b ≡ session_sound m l k (get_or ss k d) → not b ≡ true → false ≡ sessions_sound m l k (drop k ss)
-  sound_stop h e t = sym (sound_at_lem h ∙ ap (λ (x : Bool). x && sessions_sound m l (k + 1) (drop (k + 1) ss)) (sym e ∙ not-true _ t))
+  pub sound_stop : {b : Bool} → k < length ss → b ≡ session_sound m l k (get_or ss k d) → b ≡ false → false ≡ sessions_sound m l k (drop k ss)
+  sound_stop h e t = sym (sound_at_lem h ∙ ap (λ (x : Bool). x && sessions_sound m l (k + 1) (drop (k + 1) ss)) (sym e ∙ t))
 
   pub sound_end : length ss ≤ k → true ≡ sessions_sound m l k (drop k ss)
   unfolding sessions_sound

@@ -42,9 +42,8 @@ fn sessions_at(s: &[u8], at: usize) -> [Session; SESSIONS]
         active: 0,
         history: 0,
     }; SESSIONS];
-    for k in 0..SESSIONS {
-        let next = session_at(s, at + 16 * k);
-        sessions[k] = next;
+    for (k, session) in sessions.iter_mut().enumerate() {
+        *session = session_at(s, at + 16 * k);
     }
     sessions
 }
@@ -79,9 +78,8 @@ fn put_sessions(s: &mut [u8], at: usize, sessions: [Session; SESSIONS])
     requires { at + 16 * SESSIONS ≤ length s.old }
     ensures { s.new ≡ splice s.old at (write_sessions sessions) }
 {
-    for k in 0..SESSIONS {
-        let session = sessions[k];
-        put_session(s, at + 16 * k, session);
+    for (k, session) in sessions.iter().enumerate() {
+        put_session(s, at + 16 * k, *session);
     }
 }
 

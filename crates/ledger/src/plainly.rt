@@ -5,13 +5,14 @@ ghost use Rattle.model.specs.declared.Line.{Line as LineOf};
 ghost use Rattle.model.specs.Policy.{Meaning};
 ghost use Rattle.model.specs.Line.{SESSIONS, line_size, read_sessions, read_line, sessions_sound, sound as sound_by};
 ghost use Rattle.model.specs.Run.{line_at};
-ghost use Rattle.exclusion_rows.specs.Rows.{exclusions_in};
+ghost use Rattle.exclusion_rows.specs.Table.{exclusions_of};
 ghost use Rattle.ledger.specs.Held.{few_in as few_in_of, Held};
 
 use crate::bytes::{LINE, line_bytes, line_of, session_at};
 use crate::sound::{below, session_sound, sound};
-use exclusion_rows::exclusion_of;
+use exclusion_rows::{ExclusionTable, exclusion_of};
 use model::SESSIONS;
+use policy_tables::PolicyTables;
 
 // Every session of the line's bytes is sound, by its open bits and the user's history.
 fn sessions_sound_in(
@@ -25,6 +26,7 @@ fn sessions_sound_in(
     ensures { (m : Meaning) (l : LineOf) → m.authorized ≡ authorized → l.opened ≡ opened → l.history ≡ history
         → result ≡ sessions_sound m l 0 (read_sessions sessions (drop 16 bytes.now)) }
 {
+    // The sessions go by number: each has its bytes at an offset, and its open bit.
     for k in 0..sessions {
         let s = session_at(bytes, 16 + 16 * k);
         if !session_sound(opened, history, k, s, authorized) {
@@ -35,12 +37,11 @@ fn sessions_sound_in(
 }
 
 // Of each exclusion fewer than n members are in the set.
-fn few_in(set: u64, xs: &[[u64; 2]; 32], count: usize) -> bool
-    requires { (count ≤ 32) × (length xs.now ≡ 32) }
-    ensures { result ≡ few_in_of set (exclusions_in xs.now count) }
+fn few_in(set: u64, xs: &ExclusionTable) -> bool
+    ensures { result ≡ few_in_of set (exclusions_of xs.now) }
 {
-    for i in 0..count {
-        let x = exclusion_of(xs[i]);
+    for row in xs.listed() {
+        let x = exclusion_of(*row);
         if !sets::fewer(x.members, set, x.n as u32) {
             return false;
         }
@@ -48,48 +49,35 @@ fn few_in(set: u64, xs: &[[u64; 2]; 32], count: usize) -> bool
     true
 }
 
-// The line of so many sessions is plainly sound.
-pub fn plainly_sound(
-    bytes: &[u8],
-    sessions: u8,
-    roles: u8,
-    authorized: u64,
-    xs: &[[u64; 2]; 32],
-    count: usize,
-) -> bool
-    requires { (length bytes.now ≡ line_size sessions) × (sessions ≤ 64) × (count ≤ 32) × (length xs.now ≡ 32) }
-    ensures { result ≡ true → (m : Meaning) → Held roles authorized (exclusions_in xs.now count) m
+// The line of so many sessions, of a user who may activate the roles `own`, is plainly sound.
+pub fn plainly_sound(bytes: &[u8], sessions: u8, tables: &PolicyTables, own: u64) -> bool
+    requires { (length bytes.now ≡ line_size sessions) × (sessions ≤ 64) }
+    ensures { result ≡ true → (m : Meaning) → Held tables.now.head.roles own (exclusions_of tables.now.exclusions) m
         → sound_by sessions m (read_line sessions bytes.now) ≡ true }
 {
     let opened = octets::get_u64(bytes, 0);
     let history = octets::get_u64(bytes, 8);
-    let formed = below(opened, sessions) & below(history, roles);
+    let formed = below(opened, sessions) & below(history, tables.head.roles);
     if !formed {
         return false;
     }
-    if !sessions_sound_in(bytes, sessions as usize, opened, history, authorized) {
+    if !sessions_sound_in(bytes, sessions as usize, opened, history, own) {
         return false;
     }
-    few_in(history, xs, count)
+    few_in(history, &tables.exclusions)
 }
 
-// The user's line of the ledger is sound: plainly, or by all that a line is judged by.
-pub fn sound_at(
-    ledger: &[u8],
-    user: usize,
-    roles: u8,
-    authorized: u64,
-    xs: &[[u64; 2]; 32],
-    count: usize,
-) -> bool
-    requires { (line_size SESSIONS * user + line_size SESSIONS ≤ length ledger.now) × (count ≤ 32) × (length xs.now ≡ 32) }
-    ensures { (m : Meaning) → Held roles authorized (exclusions_in xs.now count) m
+// The user's line of the ledger is sound, where the user may activate the roles `own`: plainly, or by all that a line
+// is judged by.
+pub fn sound_at(ledger: &[u8], user: usize, tables: &PolicyTables, own: u64) -> bool
+    requires { line_size SESSIONS * user + line_size SESSIONS ≤ length ledger.now }
+    ensures { (m : Meaning) → Held tables.now.head.roles own (exclusions_of tables.now.exclusions) m
         → result ≡ sound_by SESSIONS m (read_line SESSIONS (line_at (line_size SESSIONS) user ledger.now)) }
 {
     let bytes = line_bytes(ledger, LINE, user);
-    if plainly_sound(bytes, SESSIONS as u8, roles, authorized, xs, count) {
+    if plainly_sound(bytes, SESSIONS as u8, tables, own) {
         return true;
     }
     let l = line_of(ledger, user);
-    sound(l, roles, authorized, xs, count)
+    sound(l, tables.head.roles, own, &tables.exclusions)
 }

@@ -1,12 +1,12 @@
 // Whether a line is sound: its open bits, histories and sessions have their form, and every exclusion is met.
-ghost use Rattle.std.specs.Prelude.{◌≡◌, ◌≤◌, ◌<◌, ◌^◌, ltb, length};
+ghost use Rattle.std.specs.Prelude.{◌≡◌, ◌≤◌, ◌<◌, ◌^◌, ltb};
 ghost use Rattle.model.specs.declared.Line.{Line as LineOf};
 ghost use Rattle.model.specs.Policy.{Meaning, met};
 ghost use Rattle.model.specs.Line.{SESSIONS, active_in as active_in_of, counted as counted_by, exclusions_met as exclusions_met_of, session_sound as session_sound_of, sessions_sound as sessions_sound_of, sound as sound_by};
-ghost use Rattle.exclusion_rows.specs.Rows.{exclusions_in};
+ghost use Rattle.exclusion_rows.specs.Table.{exclusions_of};
 ghost use Rattle.ledger.specs.Held.{met_at as met_at_of, named_in, named_by, Listed, Held};
 
-use exclusion_rows::exclusion_of;
+use exclusion_rows::{ExclusionTable, exclusion_of};
 use model::{Exclusion, Kind, Line, Role, SESSIONS, Session};
 
 // ---- exclusions
@@ -16,11 +16,8 @@ pub fn active_in(sessions: [Session; SESSIONS]) -> u64
     ensures { result ≡ active_in_of sessions }
 {
     let mut roles = 0u64;
-    let mut k = SESSIONS;
-    while 0 < k {
-        k -= 1;
-        let s = sessions[k];
-        roles = s.active | roles;
+    for s in sessions {
+        roles |= s.active;
     }
     roles
 }
@@ -54,8 +51,7 @@ fn met_at(l: Line, s: Session, x: Exclusion) -> bool
 fn met_at_each(l: Line, x: Exclusion) -> bool
     ensures { result ≡ met_at_of l x }
 {
-    for k in 0..SESSIONS {
-        let s = l.sessions[k];
+    for s in l.sessions {
         if !met_at(l, s, x) {
             return false;
         }
@@ -71,23 +67,19 @@ fn exclusion_met(l: Line, x: Exclusion) -> bool
     let s = l.sessions[0];
     let kind = x.kind;
     match kind {
-        Kind::SsDmer => met_at_each(l, x),
-        Kind::MsDmer => met_at(l, s, x),
-        Kind::SsHmer => met_at_each(l, x),
-        Kind::MsHmer => met_at(l, s, x),
+        Kind::SsDmer | Kind::SsHmer => met_at_each(l, x),
+        Kind::MsDmer | Kind::MsHmer => met_at(l, s, x),
     }
 }
 
-// The roles that the sessions name: active or in their history.
+// The roles that the sessions name: active or in their history. It has a definition of its own, as `active_in` has, and
+// a closure for what is joined would be as long as the loop.
 fn named_in(sessions: [Session; SESSIONS]) -> u64
     ensures { result ≡ named_in sessions }
 {
     let mut roles = 0u64;
-    let mut k = SESSIONS;
-    while 0 < k {
-        k -= 1;
-        let s = sessions[k];
-        roles = (s.active | s.history) | roles;
+    for s in sessions {
+        roles |= s.active | s.history;
     }
     roles
 }
@@ -105,15 +97,13 @@ fn met_by_all(l: Line, all: u64, x: Exclusion) -> bool
 }
 
 // Every exclusion is met at every session.
-pub fn exclusions_met(l: Line, xs: &[[u64; 2]; 32], count: usize) -> bool
-    requires { (count ≤ 32) × (length xs.now ≡ 32) }
-    ensures { (m : Meaning) → Listed (exclusions_in xs.now count) m → result ≡ exclusions_met_of m l }
+pub fn exclusions_met(l: Line, xs: &ExclusionTable) -> bool
+    ensures { (m : Meaning) → Listed (exclusions_of xs.now) m → result ≡ exclusions_met_of m l }
 {
     let sessions = l.sessions;
     let all = l.history | named_in(sessions);
-    for i in 0..count {
-        let x = exclusion_of(xs[i]);
-        if !met_by_all(l, all, x) {
+    for row in xs.listed() {
+        if !met_by_all(l, all, exclusion_of(*row)) {
             return false;
         }
     }
@@ -144,9 +134,8 @@ pub fn session_sound(opened: u64, history: u64, k: usize, s: Session, authorized
 fn sessions_sound(l: Line, authorized: u64) -> bool
     ensures { (m : Meaning) → m.authorized ≡ authorized → result ≡ sessions_sound_of m l 0 l.sessions }
 {
-    for k in 0..SESSIONS {
-        let s = l.sessions[k];
-        if !session_sound(l.opened, l.history, k, s, authorized) {
+    for (k, s) in l.sessions.iter().enumerate() {
+        if !session_sound(l.opened, l.history, k, *s, authorized) {
             return false;
         }
     }
@@ -165,13 +154,12 @@ pub fn below(set: u64, n: u8) -> bool
     true
 }
 
-// The line is sound.
-pub fn sound(l: Line, roles: u8, authorized: u64, xs: &[[u64; 2]; 32], count: usize) -> bool
-    requires { (count ≤ 32) × (length xs.now ≡ 32) }
-    ensures { (m : Meaning) → Held roles authorized (exclusions_in xs.now count) m → result ≡ sound_by SESSIONS m l }
+// The line of a user who may activate the roles `own` is sound.
+pub fn sound(l: Line, roles: u8, own: u64, xs: &ExclusionTable) -> bool
+    ensures { (m : Meaning) → Held roles own (exclusions_of xs.now) m → result ≡ sound_by SESSIONS m l }
 {
     let opened = below(l.opened, SESSIONS as u8);
     let history = below(l.history, roles);
-    let sessions = sessions_sound(l, authorized);
-    opened & history & sessions & exclusions_met(l, xs, count)
+    let sessions = sessions_sound(l, own);
+    opened & history & sessions & exclusions_met(l, xs)
 }

@@ -1,13 +1,13 @@
 -- Laws of the open sessions of a line: an open one's bit, and the lowest closed one.
 -- Assumes nothing.
 use mathlib.Core.Path.{◌≡◌, sym, ap, ◌∙◌}
-use mathlib.Core.Bool.{Bool, true, false, not}
+use mathlib.Core.Bool.{Bool, true, false}
 use Prim.Native.Nat.{ℕ, suc, ◌+◌, ◌-◌, ◌/◌, ◌%◌, ◌^◌, ◌≤◌, ◌<◌}
 use native.Mathlib.Nat.{div-eq_of_lt}
 use native.Mathlib.Numerals.{add-one}
 use native.Mathlib.Omega.{arith}
 use lib.Dec.{leb}
-use borrow.Author.Tests.{eqb-true, leb-true, leb-false, not-true, not-false}
+use borrow.Author.Tests.{eqb-true, leb-true, leb-false}
 use borrow.Table.Steps.{cases}
 use Rattle.model.specs.declared.Line.{Line}
 use Rattle.model.specs.Sets.{has}
@@ -34,16 +34,16 @@ passed l k d o = rw (lowest_closed, o)
 
 -- ---- the lowest closed one of W sessions, looked for from session k on, by a test b of session k
 module _ (l : Line) (W k : ℕ) where
-  pub lowest_here : {b : Bool} → k < W → b ≡ is_open l k → not b ≡ true → k ≡ lowest_closed l k (W - k)
+  pub lowest_here : {b : Bool} → k < W → b ≡ is_open l k → b ≡ false → k ≡ lowest_closed l k (W - k)
   unfolding lowest_closed
   lowest_here h t o =
       let e : W - k ≡ suc (W - (k + 1)) = omega arith in
-      rw (e, lowest_closed, sym t ∙ not-true _ o)
+      rw (e, lowest_closed, sym t ∙ o)
 
-  pub lowest-next : {b : Bool} → k < W → b ≡ is_open l k → not b ≡ false → lowest_closed l (k + 1) (W - (k + 1)) ≡ lowest_closed l k (W - k)
+  pub lowest-next : {b : Bool} → k < W → b ≡ is_open l k → b ≡ true → lowest_closed l (k + 1) (W - (k + 1)) ≡ lowest_closed l k (W - k)
   lowest-next h t o =
       let e : W - k ≡ suc (W - (k + 1)) = omega arith in
-      ap (λ (j : ℕ). lowest_closed l j (W - (k + 1))) (add-one k) ∙ sym (passed l k (W - (k + 1)) (sym t ∙ not-false _ o))
+      ap (λ (j : ℕ). lowest_closed l j (W - (k + 1))) (add-one k) ∙ sym (passed l k (W - (k + 1)) (sym t ∙ o))
       ∙ ap (lowest_closed l k) (sym e)
 
   pub lowest_none : W ≤ k → k ≤ W → W ≡ lowest_closed l k (W - k)

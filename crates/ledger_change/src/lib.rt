@@ -2,7 +2,8 @@
 #![tactic(auto)]
 
 ghost use Rattle.std.specs.Prelude.{◌≡◌, true, ◌+◌, ◌<◌, ◌^◌};
-ghost use Rattle.model.specs.Line.{SESSIONS, is_open as is_open_of, lowest_closed as lowest_closed_of, opening, closing, put_in};
+ghost use Rattle.model.specs.Line.{SESSIONS, is_open as is_open_of, opening, closing, put_in};
+ghost use Rattle.ledger_change.specs.Lowest.{IsLowestClosed};
 
 use model::{Line, SESSIONS, Session};
 
@@ -22,16 +23,16 @@ fn bit(k: usize) -> u64
     1 << k
 }
 
-// The lowest closed session, or the number of sessions where all are open.
-pub fn lowest_closed(l: Line) -> usize
-    ensures { result ≡ lowest_closed_of l 0 SESSIONS }
+// The lowest closed session.
+pub fn lowest_closed(l: Line) -> Option<usize>
+    ensures { IsLowestClosed l result }
 {
     for k in 0..SESSIONS {
         if !is_open(l, k) {
-            return k;
+            return Some(k);
         }
     }
-    SESSIONS
+    None
 }
 
 // Session k opened.
@@ -39,9 +40,10 @@ pub fn opened(l: Line, k: usize) -> Line
     requires { (k < SESSIONS) × (l.opened < 2 ^ SESSIONS) }
     ensures { result ≡ opening k l }
 {
-    let mut next = l;
-    next.opened = l.opened + bit(k);
-    next
+    Line {
+        opened: l.opened + bit(k),
+        ..l
+    }
 }
 
 // Session k closed: it has no role and no history any more, and the user's history stays.

@@ -33,10 +33,8 @@ fn add_sessions(c: Counts, sessions: [Session; SESSIONS]) -> Counts
     ensures { (r : ℕ) → (count_at result r ≡ count_at c r + holding r sessions) × (count_at result r ≤ count_at c r + SESSIONS) }
 {
     let mut all = c;
-    for k in 0..SESSIONS {
-        let s = sessions[k];
-        let next = add(all, s.active);
-        all = next;
+    for s in sessions {
+        all = add(all, s.active);
     }
     all
 }
@@ -51,8 +49,7 @@ pub fn held(ledger: &[u8], users: usize, user: usize, k: usize) -> Counts
         let l = line_of(ledger, v);
         let sessions = l.sessions;
         let counted = without(sessions, v == user, k);
-        let next = add_sessions(all, counted);
-        all = next;
+        all = add_sessions(all, counted);
     }
     all
 }

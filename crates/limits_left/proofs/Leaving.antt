@@ -32,7 +32,7 @@ use Rattle.model_laws.proofs.Barred.{some_limited_lem}
 use Rattle.model_limits.proofs.CardProof.{sum_same, sum_split}
 use Rattle.limits_held.specs.Held.{held_but, held_by_all}
 use Rattle.sets.specs.Members.{without, Lowest}
-use Rattle.sets.proofs.Taken.{without_lt, without_other, count-without}
+use Rattle.sets.proofs.Taken.{without_lt, without_other}
 use Rattle.limits_left.specs.Left.{stays, Unlimited, Left}
 
 -- ---- some role has a limit, from role i on
@@ -178,9 +178,6 @@ module _ (limits : List ℕ) (set left i less : ℕ) (w : Walked limits set left
       go : (r : ℕ) → eqb r i ≡ false → (has left r ≡ true) ⊎ (limited limits r ≡ false) → (has less r ≡ true) ⊎ (limited limits r ≡ false)
       go r x (inr f) = inr f
       go r x (inl h) = inl (ap (λ (s : ℕ). has s r) e ∙ without_other left i r low.member (eqb-false r i x) ∙ h)
-
-  pub walked_less : count 64 less < count 64 left
-  walked_less = omega (arith, ap (count 64) e, count-without 64 left i w.small low.small low.member)
 
 pub one-limited : (limits : List ℕ) (i : ℕ) → (get_or limits i 0 ≡ 0 → ⊥) → any given limits ≡ true
 unfolding limited

@@ -14,17 +14,18 @@ ghost use Rattle.limits_left.specs.Left.{stays as stays_of, Unlimited, Left};
 use hierarchy::member::joined;
 use limits_counts::{Counts, count_at};
 use limits_held::held;
+use policy_tables::PolicyTables;
 use sessions::first::roles_of;
-use sessions::given::{Sizes, UserSession};
+use sessions::given::UserSession;
+use sets::members;
 
 // Some role has a limit: all are joined, and none is tested by itself.
 pub fn has_limits(limits: &[u64; 64]) -> bool
-    requires { length limits.now ≡ 64 }
     ensures { result ≡ any (λ t. not (eqb t 0)) limits.now }
 {
     let mut found: u64 = 0;
-    for r in 0..64 {
-        found = found | limits[r];
+    for t in limits {
+        found |= *t;
     }
     found != 0
 }
@@ -33,14 +34,10 @@ pub fn has_limits(limits: &[u64; 64]) -> bool
 fn some_limited(limits: &[u64; 64], set: u64) -> bool
     ensures { (result ≡ true → any (λ t. not (eqb t 0)) limits.now ≡ true) × (result ≡ false → Unlimited limits.now set) }
 {
-    let mut left = set;
-    while left != 0 {
-        let r = sets::lowest(left);
-        let i = r.0 as usize;
-        if limits[i] != 0 {
+    for r in members(set) {
+        if limits[r as usize] != 0 {
             return true;
         }
-        left = sets::without(left, r);
     }
     false
 }
@@ -64,8 +61,8 @@ fn left_by(own: u64, limits: &[u64; 64], counts: Counts) -> u64
     ensures { result ≡ set_of (λ r. stays_of own (get_or limits.now r 0) (count_at_of counts r) r) 64 }
 {
     let mut found: u64 = 0;
-    for r in 0..64 {
-        found = joined(found, r, stays(own, limits[r], counts, r));
+    for (r, t) in limits.iter().enumerate() {
+        found = joined(found, r, stays(own, *t, counts, r));
     }
     found
 }
@@ -73,8 +70,7 @@ fn left_by(own: u64, limits: &[u64; 64], counts: Counts) -> u64
 // Those of the user's own roles that no limit bars for session k. Where none of them has a limit, no other line is
 // looked at.
 pub fn left(ledger: &[u8], users: usize, user: usize, k: usize, own: u64, limits: &[u64; 64]) -> u64
-    requires { (users ≤ 64) × (user < users) × (length ledger.now ≡ line_size SESSIONS * users)
-        × (k < SESSIONS) × (length limits.now ≡ 64) }
+    requires { (users ≤ 64) × (user < users) × (length ledger.now ≡ line_size SESSIONS * users) × (k < SESSIONS) }
     ensures { (p : Policy) → p.head.users ≡ users → authorized p user ≡ own → p.limits ≡ limits.now
         → Left p ledger.now user k result }
 {
@@ -84,28 +80,22 @@ pub fn left(ledger: &[u8], users: usize, user: usize, k: usize, own: u64, limits
     own
 }
 
-// The same by the table of what users may activate.
-pub fn roles_left(
-    ledger: &[u8],
-    sizes: Sizes,
-    authorized: &[u64; 64],
-    limits: &[u64; 64],
-    who: UserSession,
-) -> u64
-    requires { (sizes.head.users ≤ 64) × (who.user < sizes.head.users)
-        × (length ledger.now ≡ line_size SESSIONS * sizes.head.users) × (who.session < SESSIONS) × (length limits.now ≡ 64) }
-    ensures { (p : Policy) (xs : Exclusions) → Known sizes.head authorized.now xs p → p.limits ≡ limits.now
+// The same by a policy's tables.
+pub fn roles_left(ledger: &[u8], tables: &PolicyTables, who: UserSession) -> u64
+    requires { (who.user < tables.now.head.users) × (length ledger.now ≡ line_size SESSIONS * tables.now.head.users)
+        × (who.session < SESSIONS) }
+    ensures { (p : Policy) (xs : Exclusions) → Known tables.now.head tables.now.authorized xs p → p.limits ≡ tables.now.limits
         → Left p ledger.now who.user who.session result }
 {
-    let head = sizes.head;
+    let head = tables.head;
     let u = who.user as usize;
-    let own = roles_of(authorized, u);
+    let own = roles_of(&tables.authorized, u);
     left(
         ledger,
         head.users as usize,
         u,
         who.session as usize,
         own,
-        limits,
+        &tables.limits,
     )
 }

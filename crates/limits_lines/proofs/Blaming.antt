@@ -12,7 +12,7 @@ use native.Mathlib.Numerals.{add-one}
 use native.Mathlib.Omega.{arith}
 use lib.Dec.{eqb, ltb}
 use lib.ListN.{length}
-use borrow.Author.Tests.{eqb-true, ltb-true, eq-eqb, ne_eqb, lt-ltb, le-ltb, not-true, not-false}
+use borrow.Author.Tests.{eqb-true, ltb-true, eq-eqb, ne_eqb, lt-ltb, le-ltb}
 use borrow.Table.Steps.{cases}
 use Rattle.model.specs.Tests.{pick, any}
 use Rattle.model.specs.Policy.{Policy, has_limits, meaning}
@@ -47,13 +47,13 @@ module _ (W : ℕ) (p : Policy) (ledger : List ℕ) (u : ℕ) where
 
   -- by a test b of the line of v
   module _ {b : Bool} (v n : ℕ) (l : v < n) (t : b ≡ sound W (meaning p v) (line_of W ledger v)) where
-    pub lines_next : not b ≡ false → lines_refusal W p ledger u (v + 1) (n - (v + 1)) ≡ lines_refusal W p ledger u v (n - v)
+    pub lines_next : b ≡ true → lines_refusal W p ledger u (v + 1) (n - (v + 1)) ≡ lines_refusal W p ledger u v (n - v)
     lines_next e =
-        ap (λ (i : ℕ). lines_refusal W p ledger u i (n - (v + 1))) (add-one v) ∙ sym (first-line v (n - (v + 1)) true (sym t ∙ not-false _ e))
+        ap (λ (i : ℕ). lines_refusal W p ledger u i (n - (v + 1))) (add-one v) ∙ sym (first-line v (n - (v + 1)) true (sym t ∙ e))
         ∙ ap (lines_refusal W p ledger u v) (omega arith)
 
-    pub lines_stop : not b ≡ true → blamed u v ≡ lines_refusal W p ledger u v (n - v)
-    lines_stop e = sym (first-line v (n - (v + 1)) false (sym t ∙ not-true _ e)) ∙ ap (lines_refusal W p ledger u v) (omega arith)
+    pub lines_stop : b ≡ false → blamed u v ≡ lines_refusal W p ledger u v (n - v)
+    lines_stop e = sym (first-line v (n - (v + 1)) false (sym t ∙ e)) ∙ ap (lines_refusal W p ledger u v) (omega arith)
 
   pub lines_end : (v n : ℕ) → n ≤ v → 0 ≡ lines_refusal W p ledger u v (n - v)
   unfolding lines_refusal
@@ -112,9 +112,9 @@ module _ (W : ℕ) (p : Policy) (ledger : List ℕ) (u : ℕ) where
   not_looked e = sym (by_looked e)
 
   -- by a test b of the limits, as read
-  pub no_limits : {ls : List ℕ} {b : Bool} → p.limits ≡ ls → b ≡ any given ls → not b ≡ true → 0 ≡ others_refusal W p ledger u
+  pub no_limits : {ls : List ℕ} {b : Bool} → p.limits ≡ ls → b ≡ any given ls → b ≡ false → 0 ≡ others_refusal W p ledger u
   unfolding has_limits
-  no_limits l t e = not_looked (rw (ap (any given) l ∙ sym t ∙ not-true _ e))
+  no_limits l t e = not_looked (rw (ap (any given) l ∙ sym t ∙ e))
 
   -- by the number n of users, as read
   pub no_fit : {n : ℕ} → p.head.users ≡ n → (length ledger ≡ line_size W * n → ⊥) → 0 ≡ others_refusal W p ledger u
@@ -127,11 +127,11 @@ module _ (W : ℕ) (p : Policy) (ledger : List ℕ) (u : ℕ) where
       let k = le-ltb u p.head.users (omega arith) in
       not_looked (rw (k, and-false (eqb (length ledger) (line_size W * p.head.users))) (and-false (has_limits p)))
 
-  pub lines_looked : (r : ℕ) {ls : List ℕ} {b : Bool} {n : ℕ} → p.limits ≡ ls → b ≡ any given ls → not b ≡ false → p.head.users ≡ n
+  pub lines_looked : (r : ℕ) {ls : List ℕ} {b : Bool} {n : ℕ} → p.limits ≡ ls → b ≡ any given ls → b ≡ true → p.head.users ≡ n
       → length ledger ≡ line_size W * n → u < n → r ≡ lines_refusal W p ledger u 0 n → r ≡ others_refusal W p ledger u
   unfolding has_limits
   lines_looked r l t h q f i e =
-      let some = ap (any given) l ∙ sym t ∙ not-false _ h in
+      let some = ap (any given) l ∙ sym t ∙ h in
       let fits = eq-eqb _ _ (f ∙ ap (λ (n : ℕ). line_size W * n) (sym q)) in
       let k = lt-ltb u p.head.users (omega arith) in
       e ∙ ap (lines_refusal W p ledger u 0) (sym q) ∙ sym (by_looked (both (has_limits p) _ some (both _ _ fits k)))

@@ -1,92 +1,72 @@
 // Whether every line is sound, as an ask under a policy with limits goes by.
-ghost use Rattle.std.specs.Prelude.{◌≡◌, ◌*◌, ◌≤◌, ◌<◌, length};
+ghost use Rattle.std.specs.Prelude.{◌≡◌, ◌*◌, ◌<◌, length};
 ghost use Rattle.model.specs.Policy.{Policy, meaning};
 ghost use Rattle.model.specs.Line.{SESSIONS, line_size, sound as sound_by};
 ghost use Rattle.model.specs.Run.{line_of};
-ghost use Rattle.exclusion_rows.specs.Rows.{exclusions_in};
+ghost use Rattle.exclusion_rows.specs.Table.{exclusions_of};
+ghost use Rattle.reasons.specs.Numbers.{code_of, refusal_of};
 ghost use Rattle.sessions.specs.Calls.{Known};
 ghost use Rattle.limits_lines.specs.Lines.{blamed as blamed_for, lines_refusal as lines_refusal_of, others_refusal};
 
 use ledger::bytes::LINE;
 use ledger::plainly::sound_at;
 use limits_left::has_limits;
-use model::refusals;
+use policy_tables::PolicyTables;
+use reasons::{Reason, Refusal};
 use sessions::first::roles_of;
-use sessions::given::Sizes;
 
 // The line of user v is sound.
-pub fn line_sound(
-    ledger: &[u8],
-    sizes: Sizes,
-    authorized: &[u64; 64],
-    xs: &[[u64; 2]; 32],
-    v: usize,
-) -> bool
-    requires { (sizes.head.users ≤ 64) × (sizes.count ≤ 32) × (length xs.now ≡ 32) × (length ledger.now ≡ line_size SESSIONS * sizes.head.users)
-        × (v < sizes.head.users) }
-    ensures { (p : Policy) → Known sizes.head authorized.now (exclusions_in xs.now sizes.count) p
+pub fn line_sound(ledger: &[u8], tables: &PolicyTables, v: usize) -> bool
+    requires { (length ledger.now ≡ line_size SESSIONS * tables.now.head.users) × (v < tables.now.head.users) }
+    ensures { (p : Policy) → Known tables.now.head tables.now.authorized (exclusions_of tables.now.exclusions) p
         → result ≡ sound_by SESSIONS (meaning p v) (line_of SESSIONS ledger.now v) }
 {
-    let own = roles_of(authorized, v);
-    sound_at(ledger, v, sizes.head.roles, own, xs, sizes.count)
+    let own = roles_of(&tables.authorized, v);
+    sound_at(ledger, v, tables, own)
 }
 
-// 11 for the line of user v; the extra is that user plus 1, where it is not the asker.
-fn blamed(user: u64, v: usize) -> u64
+// A refusal for the line of user v, which names that user by v plus 1, where it is not the asker.
+fn blamed(user: u64, v: usize) -> Refusal
     requires { v < 64 }
-    ensures { result ≡ blamed_for user v }
+    ensures { code_of result ≡ blamed_for user v }
 {
     if v as u64 == user {
-        return refusals::LINE;
+        return Refusal::from(Reason::Line);
     }
-    refusals::LINE + 256 * (v as u64 + 1)
+    Refusal {
+        reason: Reason::Line,
+        extra: v as u16 + 1,
+    }
 }
 
-// The refusal for the lowest line that is not sound, else 0.
-fn lines_refusal(
-    ledger: &[u8],
-    sizes: Sizes,
-    authorized: &[u64; 64],
-    xs: &[[u64; 2]; 32],
-    user: u64,
-) -> u64
-    requires { (sizes.head.users ≤ 64) × (sizes.count ≤ 32) × (length xs.now ≡ 32) × (length ledger.now ≡ line_size SESSIONS * sizes.head.users) }
-    ensures { (p : Policy) → Known sizes.head authorized.now (exclusions_in xs.now sizes.count) p
-        → result ≡ lines_refusal_of SESSIONS p ledger.now user 0 sizes.head.users }
+// The lowest line that is not sound.
+fn lines_refusal(ledger: &[u8], tables: &PolicyTables, user: u64) -> Result<(), Refusal>
+    requires { length ledger.now ≡ line_size SESSIONS * tables.now.head.users }
+    ensures { (p : Policy) → Known tables.now.head tables.now.authorized (exclusions_of tables.now.exclusions) p
+        → refusal_of result ≡ lines_refusal_of SESSIONS p ledger.now user 0 tables.now.head.users }
 {
-    let users = sizes.head.users as usize;
-    for v in 0..users {
-        if !line_sound(ledger, sizes, authorized, xs, v) {
-            return blamed(user, v);
+    for v in 0..tables.head.users as usize {
+        if !line_sound(ledger, tables, v) {
+            return Err(blamed(user, v));
         }
     }
-    0
+    Ok(())
 }
 
-// What a line that is not sound refuses an ask with, where some role has a limit; 0 where none has, and where 9 or 10
-// refuses the ask.
-pub fn refusal(
-    ledger: &[u8],
-    sizes: Sizes,
-    authorized: &[u64; 64],
-    limits: &[u64; 64],
-    xs: &[[u64; 2]; 32],
-    user: u64,
-) -> u64
-    requires { (sizes.head.users ≤ 64) × (sizes.count ≤ 32) × (length xs.now ≡ 32) × (length limits.now ≡ 64) }
-    ensures { (p : Policy) → Known sizes.head authorized.now (exclusions_in xs.now sizes.count) p
-        → p.limits ≡ limits.now → result ≡ others_refusal SESSIONS p ledger.now user }
+// What a line that is not sound refuses an ask with, where some role has a limit, and neither 9 nor 10 refuses the ask.
+pub fn refusal(ledger: &[u8], tables: &PolicyTables, user: u64) -> Result<(), Refusal>
+    ensures { (p : Policy) → Known tables.now.head tables.now.authorized (exclusions_of tables.now.exclusions) p
+        → p.limits ≡ tables.now.limits → refusal_of result ≡ others_refusal SESSIONS p ledger.now user }
 {
-    if !has_limits(limits) {
-        return 0;
+    if !has_limits(&tables.limits) {
+        return Ok(());
     }
-    let head = sizes.head;
-    let users = head.users as usize;
+    let users = tables.head.users as usize;
     if ledger.len() != LINE * users {
-        return 0;
+        return Ok(());
     }
     if users as u64 <= user {
-        return 0;
+        return Ok(());
     }
-    lines_refusal(ledger, sizes, authorized, xs, user)
+    lines_refusal(ledger, tables, user)
 }

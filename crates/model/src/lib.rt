@@ -1,22 +1,21 @@
 // The plain data of the session kit. The definitions in specs/ and the code of the other crates use these same types,
-// so that a contract is a plain equation. There is no function here.
+// so that a contract is a plain equation. No function is written here.
 #![tactic(auto)]
 
 pub mod layout; // layout.rt: the kinds and fields of an image's words
-pub mod refusals; // refusals.rt: the numbers that refuse an image or a call
 
 // ---- numbers, one sort for each
 
 // A user's number (01: person).
-#[derive(Clone, Copy)]
+#[derive(Clone, Copy, PartialEq, Eq)]
 pub struct User(pub u8);
 
 // A role's number.
-#[derive(Clone, Copy)]
+#[derive(Clone, Copy, PartialEq, Eq)]
 pub struct Role(pub u8);
 
 // A permission's number.
-#[derive(Clone, Copy)]
+#[derive(Clone, Copy, PartialEq, Eq)]
 pub struct Permission(pub u8);
 
 // ---- the policy image
@@ -32,7 +31,7 @@ pub struct Head {
 // The four kinds of mutual exclusion, 0 to 3 in an image: what is counted is active in the session (single session),
 // active in any open session of the user (multi session), or was so at any time since the session was opened, or ever
 // (history).
-#[derive(Clone, Copy)]
+#[derive(Clone, Copy, PartialEq, Eq, PartialOrd, Ord)]
 pub enum Kind {
     SsDmer,
     MsDmer,
@@ -41,7 +40,7 @@ pub enum Kind {
 }
 
 // A mutual exclusion: fewer than n of its members may be counted. The members are a role set.
-#[derive(Clone, Copy)]
+#[derive(Clone, Copy, PartialEq, Eq, PartialOrd, Ord)]
 pub struct Exclusion {
     pub kind: Kind,
     pub n: u8,
@@ -85,7 +84,8 @@ pub struct Scan {
     pub members: u64,
 }
 
-// The answer of a check: the head's numbers, or the refusal's number and what it names: a place, a role or a user.
+// The answer of a check: the head's numbers, or the refusal's number and what it names: a place, a role or a user. Code
+// gives a `Result`; the definitions and theorems over `judge`, `scan` and the calls speak of these two constructors.
 #[derive(Clone, Copy)]
 pub enum Checked {
     Accepted(Head),

@@ -4,7 +4,8 @@
 ghost use Rattle.std.specs.Prelude.{◌≡◌, ◌≤◌};
 ghost use Rattle.model_binomials.specs.Binomial.{binomial, sum_below};
 
-// "m choose k" for k up to m up to 64: that of m and k stands at m * (m + 1) / 2 + k.
+// "m choose k" for k up to m up to 64: that of m and k stands at m * (m + 1) / 2 + k. They are written out,
+// since the theorem `entry-is` is on the entries of this table.
 const CHOOSE: [u64; 2145] = [
     1,
     1,
@@ -2167,10 +2168,8 @@ pub fn allowed(m: usize, n: usize) -> u64
     ensures { result ≡ sum_below (binomial m) n }
 {
     let mut sum: u64 = 0;
-    let mut k: usize = 0;
-    while k < n {
+    for k in 0..n {
         sum += entry(m, k);
-        k += 1;
     }
     sum
 }

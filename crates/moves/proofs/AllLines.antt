@@ -22,7 +22,7 @@ use Rattle.model_laws.proofs.MoveLines.{length-lines, answer_done, done_answer}
 use Rattle.octets.specs.Splice.{splice}
 use Rattle.octets.proofs.Splices.{splice-splice}
 use Rattle.sessions.specs.Calls.{Gives}
-use Rattle.sessions.proofs.FirstSteps.{gives-refusal}
+use Rattle.sessions.proofs.FirstSteps.{refused_by}
 
 -- ---- a line among those of n users, of z bytes each
 module _ (z size u n : ℕ) (l : List ℕ) (e : size ≡ z) (fits : length l ≡ z * n) (h : u < n) where
@@ -117,11 +117,13 @@ module _ (F W : ℕ) (p : Policy) (old new : List ℕ) where
   abbrev users : ℕ
   users = p.head.users
 
-  pub move9 : (length old ≡ line_size F * users → ⊥) → Gives (move_on F W p old new) 9 new
-  move9 h = gives-refusal (move_on F W p old new) 9 new (unfold move_on pick in (simp (ne_eqb _ _ h)))
+  pub move9 : (length old ≡ line_size F * users → ⊥) → move_on F W p old new ≡ refused_by 9 new
+  unfolding move_on pick
+  move9 h = simp (ne_eqb _ _ h)
 
-  pub move19 : length old ≡ line_size F * users → (length new ≡ line_size W * users → ⊥) → Gives (move_on F W p old new) 19 new
-  move19 h i = gives-refusal (move_on F W p old new) 19 new (unfold move_on pick in (simp (eq-eqb _ _ h, ne_eqb _ _ i)))
+  pub move19 : length old ≡ line_size F * users → (length new ≡ line_size W * users → ⊥) → move_on F W p old new ≡ refused_by 19 new
+  unfolding move_on pick
+  move19 h i = simp (eq-eqb _ _ h, ne_eqb _ _ i)
 
   -- where both fit, it goes by the answer to the lines
   module _ (fits-old : length old ≡ line_size F * users) (fits-new : length new ≡ line_size W * users) (n count : ℕ)

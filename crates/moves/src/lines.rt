@@ -4,41 +4,36 @@ ghost use Rattle.model.specs.Policy.{Policy};
 ghost use Rattle.model.specs.Line.{SESSIONS, line_size as line_size_of};
 ghost use Rattle.model.specs.Run.{returned};
 ghost use Rattle.model.specs.Moves.{move_answer, resized_lines, move_on};
-ghost use Rattle.exclusion_rows.specs.Rows.{exclusions_in};
+ghost use Rattle.exclusion_rows.specs.Table.{exclusions_of};
+ghost use Rattle.reasons.specs.Numbers.{refusal_of};
 ghost use Rattle.sessions.specs.Calls.{Known, Gives};
 
 use ledger::bytes::line_bytes;
-use model::refusals;
 use moves_line::{line_fault, line_size, put_resized};
+use policy_tables::PolicyTables;
+use reasons::{Reason, Refusal};
 use sessions::first::roles_of;
-use sessions::given::Sizes;
 
-// The first fault of a line, from user 0 up, with 256 times its user; 0 where none has one.
-fn first_fault(
-    old: &[u8],
-    from: u8,
-    to: u8,
-    sizes: Sizes,
-    authorized: &[u64; 64],
-    xs: &[[u64; 2]; 32],
-) -> u64
-    requires { (length old.now ≡ line_size_of from * sizes.head.users) × (0 < from) × (from ≤ SESSIONS)
-        × (sizes.head.users ≤ 64) × (sizes.count ≤ 32) × (length xs.now ≡ 32) }
-    ensures { (p : Policy) → Known sizes.head authorized.now (exclusions_in xs.now sizes.count) p
-        → result ≡ returned (move_answer from to p old.now 0 sizes.head.users) }
+// The numbers of sessions are two, and not one struct: lines are read by `from` and written by `to`.
+
+// The first fault of a line, from user 0 up, with its user.
+fn first_fault(old: &[u8], from: u8, to: u8, tables: &PolicyTables) -> Result<(), Refusal>
+    requires { (length old.now ≡ line_size_of from * tables.now.head.users) × (0 < from) × (from ≤ SESSIONS) }
+    ensures { (p : Policy) → Known tables.now.head tables.now.authorized (exclusions_of tables.now.exclusions) p
+        → refusal_of result ≡ returned (move_answer from to p old.now 0 tables.now.head.users) }
 {
-    let head = sizes.head;
-    let users = head.users as usize;
     let size = line_size(from);
-    for u in 0..users {
+    for u in 0..tables.head.users as usize {
         let bytes = line_bytes(old, size, u);
-        let own = roles_of(authorized, u);
-        let n = line_fault(bytes, from, to, head.roles, own, xs, sizes.count);
-        if n != 0 {
-            return n + 256 * (u as u64);
+        let own = roles_of(&tables.authorized, u);
+        if let Err(reason) = line_fault(bytes, from, to, tables, own) {
+            return Err(Refusal {
+                reason,
+                extra: u as u16,
+            });
         }
     }
-    0
+    Ok(())
 }
 
 // Writes each line, with the sessions of the new ledger, at its user's place.
@@ -53,32 +48,27 @@ fn put_lines(old: &[u8], from: u8, to: u8, users: usize, new: &mut [u8])
     }
 }
 
-// The ledger carried from so many sessions a user to so many: 9 where the old one does not fit, 19 where the new one
-// does not, then the first fault of a line; else the lines are written.
+// The ledger carried from so many sessions a user to so many: the old one does not fit, the new one does not, or a line
+// has a fault; else the lines are written.
 pub fn move_lines(
     old: &[u8],
     from: u8,
     to: u8,
-    sizes: Sizes,
-    authorized: &[u64; 64],
-    xs: &[[u64; 2]; 32],
+    tables: &PolicyTables,
     new: &mut [u8],
-) -> u64
-    requires { (0 < from) × (from ≤ SESSIONS) × (to ≤ SESSIONS) × (sizes.head.users ≤ 64) × (sizes.count ≤ 32) × (length xs.now ≡ 32) }
-    ensures { (p : Policy) → Known sizes.head authorized.now (exclusions_in xs.now sizes.count) p
-        → Gives (move_on from to p old.now new.old) result new.new }
+) -> Result<(), Refusal>
+    requires { (0 < from) × (from ≤ SESSIONS) × (to ≤ SESSIONS) }
+    ensures { (p : Policy) → Known tables.now.head tables.now.authorized (exclusions_of tables.now.exclusions) p
+        → Gives (move_on from to p old.now new.old) (refusal_of result) new.new }
 {
-    let users = sizes.head.users as usize;
+    let users = tables.head.users as usize;
     if old.len() != line_size(from) * users {
-        return refusals::LEDGER;
+        return Err(Refusal::from(Reason::Ledger));
     }
     if new.len() != line_size(to) * users {
-        return refusals::ROOM;
+        return Err(Refusal::from(Reason::Room));
     }
-    let n = first_fault(old, from, to, sizes, authorized, xs);
-    if n != 0 {
-        return n;
-    }
+    first_fault(old, from, to, tables)?;
     put_lines(old, from, to, users, new);
-    0
+    Ok(())
 }

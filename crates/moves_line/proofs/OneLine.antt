@@ -1,14 +1,13 @@
 -- Laws of one line: read with empty sessions behind its own, judged so, and written with zeros behind it or cut.
 -- Assumes nothing.
 use mathlib.Core.Path.{◌≡◌, sym, ap, ap₂, ◌∙◌, subst}
-use mathlib.Core.Bool.{Bool, true, false, ◌&&◌, not}
+use mathlib.Core.Bool.{Bool, true, false, ◌&&◌}
 use mathlib.Core.List.{List, ◌++◌}
 use Prim.Native.Nat.{ℕ, suc, ◌+◌, ◌-◌, ◌*◌, ◌^◌, ◌≤◌, ◌<◌}
 use native.Mathlib.Omega.{arith}
 use lib.Dec.{ltb}
 use lib.ListN.{length, take, drop, set, replicate, length-append, length-replicate, take-append-drop}
 use lib.Seq.{drop-set-lt, drop-drop, ext_get_or, take-append-le}
-use borrow.Author.Tests.{not-true, not-false}
 use Rattle.model.specs.declared.Line.{Line}
 use Rattle.model.specs.Tests.{pick}
 use Rattle.model.specs.Policy.{Meaning}
@@ -61,17 +60,17 @@ module _ (F T : ℕ) (m : Meaning) (bs : List ℕ) {formed low : Bool} {opened :
   unfolding read_line number_at
   low_by = sym (g ∙ ap (λ (x : ℕ). ltb x (2 ^ T)) o)
 
-  pub fault11 : not formed ≡ true → 11 ≡ line_fault F T m bs
+  pub fault11 : formed ≡ false → 11 ≡ line_fault F T m bs
   unfolding line_fault pick
-  fault11 s = rw (sym e ∙ not-true _ s)
+  fault11 s = rw (sym e ∙ s)
 
-  pub fault24 : not formed ≡ false → not low ≡ true → 24 ≡ line_fault F T m bs
+  pub fault24 : formed ≡ true → low ≡ false → 24 ≡ line_fault F T m bs
   unfolding line_fault pick
-  fault24 s k = rw (sym e ∙ not-false _ s, low_by ∙ not-true _ k)
+  fault24 s k = rw (sym e ∙ s, low_by ∙ k)
 
-  pub fault0 : not formed ≡ false → not low ≡ false → 0 ≡ line_fault F T m bs
+  pub fault0 : formed ≡ true → low ≡ true → 0 ≡ line_fault F T m bs
   unfolding line_fault pick
-  fault0 s k = rw (sym e ∙ not-false _ s, low_by ∙ not-false _ k)
+  fault0 s k = rw (sym e ∙ s, low_by ∙ k)
 
 -- ---- its bytes, resized
 

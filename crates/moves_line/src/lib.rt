@@ -8,13 +8,16 @@ ghost use Rattle.model.specs.Line.{SESSIONS, line_size as line_size_of, read_ses
 ghost use Rattle.model.specs.Kept.{Antitone};
 ghost use Rattle.model.specs.Moves.{resized, padded, line_fault as line_fault_of};
 ghost use Rattle.octets.specs.Splice.{splice};
-ghost use Rattle.exclusion_rows.specs.Rows.{exclusions_in};
+ghost use Rattle.exclusion_rows.specs.Table.{exclusions_of};
+ghost use Rattle.reasons.specs.Numbers.{fault_of};
 ghost use Rattle.ledger.specs.Held.{Held};
 
 use ledger::bytes::session_at;
 use ledger::plainly::plainly_sound;
 use ledger::sound::{below, sound};
-use model::{Line, SESSIONS, Session, refusals};
+use model::{Line, SESSIONS, Session};
+use policy_tables::PolicyTables;
+use reasons::Reason;
 
 // The bytes of a line with so many sessions.
 pub fn line_size(sessions: u8) -> usize
@@ -25,7 +28,8 @@ pub fn line_size(sessions: u8) -> usize
 
 // ---- reads
 
-// The sessions of a line with so many, and empty ones behind them.
+// The sessions of a line with so many, and empty ones behind them. A line of SESSIONS has none of these, so that
+// `ledger::bytes::line_of` reads it with no count.
 fn sessions_in(bytes: &[u8], count: usize) -> [Session; SESSIONS]
     requires { (count ≤ SESSIONS) × (16 + 16 * count ≤ length bytes.now) }
     ensures { result ≡ read_sessions count (drop 16 bytes.now) ++ replicate (SESSIONS - count) empty_session }
@@ -34,6 +38,7 @@ fn sessions_in(bytes: &[u8], count: usize) -> [Session; SESSIONS]
         active: 0,
         history: 0,
     }; SESSIONS];
+    // The sessions go by number: each has its bytes at an offset.
     for k in 0..count {
         let next = session_at(bytes, 16 + 16 * k);
         sessions[k] = next;
@@ -54,50 +59,41 @@ fn line_in(bytes: &[u8], count: u8) -> Line
     }
 }
 
-// The line of so many sessions is sound: plainly, or as the line of SESSIONS that it is with empty ones behind it.
-fn line_sound(
-    bytes: &[u8],
-    sessions: u8,
-    roles: u8,
-    authorized: u64,
-    xs: &[[u64; 2]; 32],
-    count: usize,
-) -> bool
-    requires { (length bytes.now ≡ line_size_of sessions) × (0 < sessions) × (sessions ≤ SESSIONS) × (count ≤ 32) × (length xs.now ≡ 32) }
-    ensures { (m : Meaning) → Antitone m → Held roles authorized (exclusions_in xs.now count) m
+// The line of so many sessions, of a user who may activate the roles `own`, is sound: plainly, or as the line of
+// SESSIONS that it is with empty ones behind it.
+fn line_sound(bytes: &[u8], sessions: u8, tables: &PolicyTables, own: u64) -> bool
+    requires { (length bytes.now ≡ line_size_of sessions) × (0 < sessions) × (sessions ≤ SESSIONS) }
+    ensures { (m : Meaning) → Antitone m → Held tables.now.head.roles own (exclusions_of tables.now.exclusions) m
         → result ≡ sound_by sessions m (read_line sessions bytes.now) }
 {
-    if plainly_sound(bytes, sessions, roles, authorized, xs, count) {
+    if plainly_sound(bytes, sessions, tables, own) {
         return true;
     }
     let l = line_in(bytes, sessions);
-    below(l.opened, sessions) & sound(l, roles, authorized, xs, count)
+    below(l.opened, sessions) & sound(l, tables.head.roles, own, &tables.exclusions)
 }
 
-// Why a line of `from` sessions cannot go to `to`: 11 where it is not sound, 24 where a session from `to` on is open,
-// else 0.
+// Why a line of `from` sessions cannot go to `to`: it is not sound, or a session from `to` on is open.
 pub fn line_fault(
     bytes: &[u8],
     from: u8,
     to: u8,
-    roles: u8,
-    authorized: u64,
-    xs: &[[u64; 2]; 32],
-    count: usize,
-) -> u64
-    requires { (length bytes.now ≡ line_size_of from) × (0 < from) × (from ≤ SESSIONS) × (count ≤ 32) × (length xs.now ≡ 32) }
-    ensures { (result ≤ 24) × ((m : Meaning) → Antitone m → Held roles authorized (exclusions_in xs.now count) m
-        → result ≡ line_fault_of from to m bytes.now) }
+    tables: &PolicyTables,
+    own: u64,
+) -> Result<(), Reason>
+    requires { (length bytes.now ≡ line_size_of from) × (0 < from) × (from ≤ SESSIONS) }
+    ensures { (m : Meaning) → Antitone m → Held tables.now.head.roles own (exclusions_of tables.now.exclusions) m
+        → fault_of result ≡ line_fault_of from to m bytes.now }
 {
     let low = below(octets::get_u64(bytes, 0), to);
-    let formed = line_sound(bytes, from, roles, authorized, xs, count);
+    let formed = line_sound(bytes, from, tables, own);
     if !formed {
-        return refusals::LINE;
+        return Err(Reason::Line);
     }
     if !low {
-        return refusals::UPPER_SESSIONS;
+        return Err(Reason::UpperSessions);
     }
-    0
+    Ok(())
 }
 
 // ---- writes
@@ -107,8 +103,17 @@ fn put_zeros(s: &mut [u8], at: usize, count: usize)
     requires { at + count ≤ length s.old }
     ensures { s.new ≡ splice s.old at (replicate count 0) }
 {
-    for j in 0..count {
-        s[at + j] = 0;
+    s[at..at + count].fill(0);
+}
+
+// Copies all of the bytes into s at the offset. By index: of the library's copy the compiler makes memmove, which the
+// archive may not need, and of this memcpy.
+fn copy(s: &mut [u8], at: usize, bytes: &[u8])
+    requires { at + length bytes.now ≤ length s.old }
+    ensures { s.new ≡ splice s.old at bytes.now }
+{
+    for j in 0..bytes.len() {
+        s[at + j] = bytes[j];
     }
 }
 
@@ -119,10 +124,10 @@ fn put(s: &mut [u8], at: usize, bytes: &[u8])
     ensures { s.new ≡ splice s.old at bytes.now }
 {
     if bytes.len() == 80 {
-        octets::put(s, at, &bytes[0..80]);
+        copy(s, at, &bytes[0..80]);
         return;
     }
-    octets::put(s, at, bytes);
+    copy(s, at, bytes);
 }
 
 // Writes the line at the user's place of a ledger with so many sessions a user: with zeros behind it, or cut.

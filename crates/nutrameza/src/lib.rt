@@ -14,6 +14,7 @@ ghost use Rattle.model_tidy.specs.Tidy.{tidy_call};
 ghost use Rattle.grant_table.specs.TableCalls.{table_call};
 ghost use Rattle.grant_table_turned.specs.Calls.{turn_call, unturn_call};
 
+use reasons::refused;
 use sessions::given::UserSession;
 
 pub mod clause_text; // clause_text.rt: the clause text of an ask
@@ -176,7 +177,7 @@ pub fn nutrameza_turn(source: &[u8], target: &mut [u8]) -> u64
     ensures { let a = turn_call source.now (length target.old) in
         (result ≡ returned a) × (target.new ≡ answered target.old a) }
 {
-    grant_table_turned::bytes::turn_bytes(source, target)
+    refused(grant_table_turned::bytes::turn_bytes(source, target))
 }
 
 // Turns a table of 256 rows of 8 bytes back into one of 64 rows of 32: bit r of row p goes to bit p of row r.
@@ -184,5 +185,5 @@ pub fn nutrameza_unturn(source: &[u8], target: &mut [u8]) -> u64
     ensures { let a = unturn_call source.now (length target.old) in
         (result ≡ returned a) × (target.new ≡ answered target.old a) }
 {
-    grant_table_turned::bytes::unturn_bytes(source, target)
+    refused(grant_table_turned::bytes::unturn_bytes(source, target))
 }

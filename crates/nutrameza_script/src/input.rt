@@ -1,53 +1,46 @@
 // The script as it is read, and the answers as they are written.
-ghost use Rattle.std.specs.Prelude.{◌≡◌, ◌+◌, ◌≤◌, ◌<◌, length};
+ghost use Rattle.std.specs.Prelude.{◌≡◌, ◌+◌, ◌≤◌, ◌<◌, length, IfOk, IfSome};
 ghost use Rattle.model.specs.Judgement.{judge};
 ghost use Rattle.model_script.specs.Script.{first_ledger};
+ghost use Rattle.script_input.specs.declared.lines.Run.{Run};
 
 use script_answers::lines::{Place, answer_last, answer_lines};
+use script_input::failure::say;
+use script_input::lines::Run;
+use std::io;
 use std::io::Read;
 
-// The run between two reads: how many bytes of the line are kept, how many calls are answered, and whether it goes on.
-#[derive(Clone, Copy)]
-struct Run {
-    kept: usize,
-    calls: u64,
-    going: bool,
+// The buffers are lent one by one: each step lends some of them on to be read, and others to be written.
+
+// What stops a run before the input ends.
+#[derive(Drop)]
+pub enum Failure {
+    Read(io::Error),
+    Write(io::Error),
 }
 
-// A run that goes no further.
-fn stopped(calls: u64) -> Run
-    ensures { (result.kept ≤ 174) × (result.calls ≡ calls) }
-{
-    Run {
-        kept: 0,
-        calls,
-        going: false,
-    }
-}
-
-// Writes answers, and returns whether they are written; where they are not, says why on standard error.
-fn write_answers(rt: &(impl Print + Eprint), answers: &[u8]) -> bool {
-    match rt.write_all(answers) {
-        Ok(()) => true,
-        Err(e) => {
-            script_input::failure::say(rt, "nutrameza_script: standard output can't be written", e);
-            false
+impl Failure {
+    // Says on standard error what can't be done, and why.
+    pub fn tell(self, rt: &impl Eprint) {
+        match self {
+            Failure::Read(e) => say(rt, "nutrameza_script: standard input can't be read", e),
+            Failure::Write(e) => say(rt, "nutrameza_script: standard output can't be written", e),
         }
     }
 }
 
-// Answers the lines of a chunk and writes the answers; the run stops where they can't be written.
+// Answers the lines of a chunk and writes the answers.
 fn answer_chunk(
-    rt: &(impl Print + Eprint),
+    rt: &impl Print,
     image: &[u8],
     ledger: &mut [u8],
-    line: &mut [u8],
+    line: &mut [u8; 174],
     chunk: &[u8],
-    out: &mut [u8],
+    out: &mut [u8; 65536],
     run: Run,
-) -> Run
-    requires { (length line.old ≡ 174) × (run.kept ≤ 174) × (160 ≤ length out.old) × (run.calls + length chunk.now ≤ 18446744073709551615) }
-    ensures { (result.kept ≤ 174) × (result.calls ≤ run.calls + length chunk.now) }
+) -> io::Result<Run>
+    requires { (run.kept ≤ 174) × (run.calls + length chunk.now ≤ 18446744073709551615) }
+    ensures { IfOk result (λ (r : Run). (r.kept ≤ 174) × (r.calls ≤ run.calls + length chunk.now)) }
 {
     let mut p = Place {
         next: 0,
@@ -55,94 +48,79 @@ fn answer_chunk(
         calls: run.calls,
         filled: 0,
     };
+    // A turn takes as many lines as the output buffer has room for, so the places are not counted one by one.
     while p.next < chunk.len() {
         let answered = answer_lines(image, ledger, line, chunk, out, p);
-        let filled = answered.filled;
-        let is_written = write_answers(rt, &out[0..filled]);
-        if !is_written {
-            return stopped(run.calls);
-        }
+        rt.write_all(&out[..answered.filled])?;
         p = Place {
-            next: answered.next,
-            kept: answered.kept,
-            calls: answered.calls,
             filled: 0,
+            ..answered
         };
     }
-    Run {
+    Ok(Run {
         kept: p.kept,
         calls: p.calls,
-        going: true,
-    }
+    })
 }
 
-// Reads once and answers what came; at the end of the input, the line that is begun. A read that fails is not the end:
-// the run stops, with a line on standard error, and a line that is begun gets no answer, since it is not known whole.
+// Reads once and answers what came; at the end of the input, the line that is begun, and then the run goes no further.
+// A read that fails is not the end: a line that is begun gets no answer, since it is not known whole.
 fn answer_some(
-    rt: &(impl Print + Eprint),
+    rt: &impl Print,
     input: &mut impl Read,
     image: &[u8],
     ledger: &mut [u8],
-    line: &mut [u8],
-    chunk: &mut [u8],
-    out: &mut [u8],
+    line: &mut [u8; 174],
+    chunk: &mut [u8; 65536],
+    out: &mut [u8; 65536],
     run: Run,
-) -> Run
-    requires { (length line.old ≡ 174) × (run.kept ≤ 174) × (160 ≤ length out.old) × (run.calls + length chunk.old < 18446744073709551615) }
-    ensures { (result.kept ≤ 174) × (result.calls ≤ run.calls + length chunk.old) }
+) -> Result<Option<Run>, Failure>
+    requires { (run.kept ≤ 174) × (run.calls + 65536 < 18446744073709551615) }
+    ensures { IfOk result (λ o. IfSome o (λ (r : Run). (r.kept ≤ 174) × (r.calls ≤ run.calls + 65536))) }
 {
-    let count = match input.read(chunk) {
-        Ok(count) => count,
-        Err(e) => {
-            script_input::failure::say(rt, "nutrameza_script: standard input can't be read", e);
-            return stopped(run.calls);
-        }
-    };
+    let count = input.read(chunk).map_err(Failure::Read)?;
     if count == 0 {
         let filled = answer_last(image, ledger, line, run.kept, run.calls, out);
-        write_answers(rt, &out[0..filled]);
-        return stopped(run.calls);
+        rt.write_all(&out[..filled]).map_err(Failure::Write)?;
+        return Ok(None);
     }
-    answer_chunk(rt, image, ledger, line, &chunk[..count], out, run)
+    let after = answer_chunk(rt, image, ledger, line, &chunk[..count], out, run);
+    Ok(Some(after.map_err(Failure::Write)?))
 }
 
-// Reads and answers until the input ends. A proved loop has to end, so it counts its turns down, from a number of reads
+// Reads and answers until the input ends. A proved loop has to end, so it counts its turns, up to a number of reads
 // that no run uses up; it keeps the number of calls within 64 bits.
 fn answer_each(
-    rt: &(impl Print + Eprint),
+    rt: &impl Print,
     input: &mut impl Read,
     image: &[u8],
     ledger: &mut [u8],
-    line: &mut [u8],
-    chunk: &mut [u8],
-    out: &mut [u8],
-)
-    requires { (length line.old ≡ 174) × (length chunk.old ≡ 65536) × (160 ≤ length out.old) }
-{
-    let mut run = Run {
-        kept: 0,
-        calls: 0,
-        going: true,
-    };
-    let mut turns: u64 = 281474976710655;
-    while turns > 0 && run.going {
-        run = answer_some(rt, input, image, ledger, line, chunk, out, run);
-        turns -= 1;
+    line: &mut [u8; 174],
+    chunk: &mut [u8; 65536],
+    out: &mut [u8; 65536],
+) -> Result<(), Failure> {
+    let mut run = Run { kept: 0, calls: 0 };
+    for _turn in 0..281474976710655u64 {
+        let Some(after) = answer_some(rt, input, image, ledger, line, chunk, out, run)? else {
+            break;
+        };
+        run = after;
     }
+    Ok(())
 }
 
 // Answers all of the input from the first ledger on, by a buffer for a line and one each for what is read and what is
 // written.
 pub fn answer_all(
-    rt: &(impl Print + Eprint),
+    rt: &impl Print,
     input: &mut impl Read,
     image: &[u8],
     ledger: &mut [u8],
-)
+) -> Result<(), Failure>
     requires { ledger.old ≡ first_ledger (judge image.now) }
 {
     let mut line = [0u8; 174];
     let mut chunk = [0u8; 65536];
     let mut out = [0u8; 65536];
-    answer_each(rt, input, image, ledger, &mut line, &mut chunk, &mut out);
+    answer_each(rt, input, image, ledger, &mut line, &mut chunk, &mut out)
 }

@@ -11,5 +11,7 @@ fn main(rt: HostRuntime) {
     let mut ledger = [0u8; script_input::lines::LEDGER];
     let used = script_input::lines::ledger_length(image);
     let mut input = rt.stdin();
-    input::answer_all(&rt, &mut input, image, &mut ledger[0..used]);
+    if let Err(failure) = input::answer_all(&rt, &mut input, image, &mut ledger[..used]) {
+        failure.tell(&rt);
+    }
 }

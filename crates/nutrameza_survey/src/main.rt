@@ -5,10 +5,12 @@
 
 mod input;
 
+use script_input::failure::say;
+
 // Writes the survey; where it can't be written, says why on standard error.
 fn write_survey(rt: &(impl Print + Eprint), text: &[u8]) {
     if let Err(e) = rt.write_all(text) {
-        script_input::failure::say(rt, "nutrameza_survey: standard output can't be written", e);
+        say(rt, "nutrameza_survey: standard output can't be written", e);
     }
 }
 
@@ -27,9 +29,12 @@ fn main(rt: HostRuntime) {
     let used = script_input::lines::ledger_length(image);
     let mut counts = [0u64; 256];
     let mut input = rt.stdin();
-    let is_read = input::count_all(&rt, &mut input, image, &mut ledger[0..used], &mut counts);
-    if is_read {
-        let end = survey_counts::counts::put_counts(&mut out, filled, &counts);
-        write_survey(&rt, &out[0..end]);
+    match input::count_all(&mut input, image, &mut ledger[..used], &mut counts) {
+        Ok(true) => {
+            let end = survey_counts::counts::put_counts(&mut out, filled, &counts);
+            write_survey(&rt, &out[0..end]);
+        }
+        Ok(false) => {}
+        Err(e) => say(&rt, "nutrameza_survey: standard input can't be read", e),
     }
 }

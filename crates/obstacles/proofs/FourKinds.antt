@@ -21,12 +21,14 @@ use Rattle.tables_rows.specs.Carried.{carried_rows}
 use Rattle.query.specs.Carry.{rows_of, Carry}
 use Rattle.asks.specs.Asks.{left_to, Asked}
 use Rattle.asks.proofs.Rows.{carry_rows}
-use Rattle.obstacles_lacks.specs.declared.found.Found.{Found}
-use Rattle.obstacles_lacks.specs.declared.found.Told.{Told}
-use Rattle.obstacles_lacks.specs.declared.found.Found.TheVariants.{Nothing, One}
-use Rattle.obstacles_lacks.specs.Founds.{found_of, own_lacks, upper_lacks, limit_lacks}
+use Rattle.std.specs.Prelude.{Option as Maybe, Some, None}
+use Rattle.obstacles_lacks.specs.declared.found.Obstacle.{Obstacle as Found}
+use Rattle.obstacles_lacks.specs.declared.found.Obstacle.TheVariants.{Exclusion}
+use Rattle.obstacles_lacks.specs.declared.found.Blocking.{Blocking}
+use Rattle.obstacles_blocks.specs.Blocking.{blocked_of}
+use Rattle.obstacles_lacks.specs.Founds.{found_of, told_of, own_lacks, upper_lacks, limit_lacks}
 use Rattle.obstacles_lacks.proofs.Carriers.{carry_less}
-use Rattle.obstacles_lacks.proofs.Within.{or_told, or_clear}
+use Rattle.obstacles_lacks.proofs.Within.{or_told}
 use Rattle.obstacles.specs.Asking.{Asking}
 
 -- the first of three or else a fourth is the first of four
@@ -87,7 +89,7 @@ module _ (p : Policy) (u : ℕ) (x : Others) (l : Line) (k : ℕ) (granted below
     sorted-blocks o h = h
 
     -- ---- what code tells of the kinds 1 to 3
-    module _ (f : Found) (q : (p : Policy) (u : ℕ) (x : Others) (l : Line) (k : ℕ) → granted ≡ p.granted → below ≡ below_table p
+    module _ (f : Maybe Found) (q : (p : Policy) (u : ℕ) (x : Others) (l : Line) (k : ℕ) → granted ≡ p.granted → below ≡ below_table p
         → (meaning p u).authorized ≡ own → (unbarred (meaning p u) x l k).authorized ≡ free → Carry (meaning p u) own (rows_of rows)
         → found_of f ≡ or_else (own_lacks (meaning p u) lower) (or_else (upper_lacks (meaning p u) lower upper)
         (limit_lacks (meaning p u) x l k lower upper))) where
@@ -95,12 +97,23 @@ module _ (p : Policy) (u : ℕ) (x : Others) (l : Line) (k : ℕ) (granted below
       three_is = q p u x l k g.granted_is g.below_is own_are g.free_is carry
 
       -- it is told
-      pub told_three : (t : Told) → f ≡ One t → found_of f ≡ obstacle_of m x l k lower upper
-      told_three t h = or_told f t three fourth h three_is ∙ whole
+      pub told_three : (t : Found) → f ≡ Some t → found_of (Some t) ≡ obstacle_of m x l k lower upper
+      unfolding found_of
+      told_three t h = or_told three fourth (told_of t) (sym (ap found_of h) ∙ three_is) ∙ whole
 
       -- or what it tells of the fourth
-      pub told_fourth : f ≡ Nothing → lower < 2 ^ 256 → (o : Found) → (left (left_to p u x l k) l k lower upper [] ≡ true → found_of o ≡ sorted_fourth)
-          → found_of o ≡ obstacle_of m x l k lower upper
-      unfolding found_of
+      pub told_fourth : f ≡ None → lower < 2 ^ 256 → (o : Option Obstacle) → (left (left_to p u x l k) l k lower upper [] ≡ true → o ≡ sorted_fourth)
+          → o ≡ obstacle_of m x l k lower upper
+      unfolding found_of or_else
       told_fourth h small o i =
-          or_clear f three fourth _ h three_is (sorted-blocks _ (i (left-nothing small (sym three_is ∙ ap found_of h)))) ∙ whole
+          let clear : three ≡ none = sym three_is ∙ ap found_of h in
+          sorted-blocks o (i (left-nothing small clear)) ∙ ap (λ (y : Option Obstacle). or_else y fourth) (sym clear) ∙ whole
+
+-- an exclusion that blocks as what stands in the way
+pub found_blocking : (r : Maybe Blocking) (b : Blocking) (a : Option Obstacle) → r ≡ Some b → blocked_of r ≡ a → found_of (Some (Exclusion b)) ≡ a
+unfolding found_of blocked_of
+found_blocking r b a q e = sym (ap blocked_of q) ∙ e
+
+pub found-nothing : (r : Maybe Blocking) (a : Option Obstacle) → r ≡ None → blocked_of r ≡ a → found_of None ≡ a
+unfolding found_of blocked_of
+found-nothing r a q e = sym (ap blocked_of q) ∙ e

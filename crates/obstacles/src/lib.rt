@@ -1,20 +1,21 @@
 // What stands in the way of an ask, on a line that meets every exclusion: the first of the four kinds that holds.
 #![tactic(auto)]
 
-ghost use Rattle.std.specs.Prelude.{◌≡◌, ℕ, ◌≤◌, ◌<◌, length};
+ghost use Rattle.std.specs.Prelude.{◌≡◌, ℕ, ◌<◌};
 ghost use Rattle.model.specs.Line.{SESSIONS};
 ghost use Rattle.model.specs.Policy.{Policy, meaning};
 ghost use Rattle.model.specs.Limits.{Others};
 ghost use Rattle.model.specs.Obstacle.{obstacle_of};
 ghost use Rattle.sets.specs.Words.{value, values};
-ghost use Rattle.exclusion_rows.specs.Rows.{exclusions_in};
+ghost use Rattle.exclusion_rows.specs.Table.{exclusions_of};
 ghost use Rattle.obstacles_lacks.specs.Founds.{found_of};
 ghost use Rattle.obstacles.specs.Asking.{Asking};
 
-use asks::ask::Wanted;
+use asks_request::request::Wanted;
+use exclusion_rows::ExclusionTable;
 use model::Line;
 use obstacles_blocks::blocked;
-use obstacles_lacks::found::Found;
+use obstacles_lacks::found::Obstacle;
 use obstacles_lacks::roles::lacked_by_any;
 use tables_rows::carried::fill_carried;
 
@@ -25,22 +26,20 @@ pub struct Roles {
     pub free: u64,
 }
 
-// The first kind that holds: the user's roles lack a permission of the lower bound (1), those that fit the upper bound
-// lack one (2), those that fit and are not barred lack one (3), an exclusion, in the order of the tidy image, leaves no
-// set (4).
+// The first kind that holds: the user's roles lack a permission of the lower bound, those that fit the upper bound lack
+// one, those that fit and are not barred lack one, an exclusion, in the order of the tidy image, leaves no set.
 pub fn obstacle(
     granted: &[[u64; 4]; 64],
     below: &[u64; 64],
-    xs: &[[u64; 2]; 32],
-    count: usize,
+    xs: &ExclusionTable,
     l: Line,
     k: usize,
     roles: Roles,
     wanted: Wanted,
-) -> Found
-    requires { (count ≤ 32) × (k < SESSIONS) × (length xs.now ≡ 32) }
+) -> Option<Obstacle>
+    requires { k < SESSIONS }
     ensures { (p : Policy) (u : ℕ) (x : Others)
-        → Asking p u x l k (values granted.now) below.now roles.own roles.free (exclusions_in xs.now count)
+        → Asking p u x l k (values granted.now) below.now roles.own roles.free (exclusions_of xs.now)
         → found_of result ≡ obstacle_of (meaning p u) x l k (value wanted.lower) (value wanted.upper) }
 {
     let own = roles.own;
@@ -49,9 +48,11 @@ pub fn obstacle(
     fill_carried(granted, below, own, &mut rows);
     let lower = wanted.lower;
     let upper = wanted.upper;
-    let found = lacked_by_any(&rows, own, free, lower, upper, granted, below);
-    let Found::Nothing = found else {
-        return found;
-    };
-    blocked(&rows, free, xs, count, l, k, wanted)
+    match lacked_by_any(&rows, own, free, lower, upper, granted, below) {
+        Some(found) => Some(found),
+        None => {
+            let exclusion = blocked(&rows, free, xs, l, k, wanted)?;
+            Some(Obstacle::Exclusion(exclusion))
+        }
+    }
 }

@@ -11,6 +11,8 @@ use lib.ListN.{get_or}
 use Rattle.model.specs.Sets.{has, inter, with, within}
 use Rattle.model_laws.proofs.Bools.{and_l, and_r, both, not_both}
 use Rattle.sets.specs.Members.{without}
+use Rattle.std.specs.Prelude.{Option as Maybe, Some, None, MatchOption}
+use Rattle.model.specs.declared.Permission.{Permission}
 use Rattle.query.specs.Carry.{Sub, Turned, Missing}
 use Rattle.query_rank.specs.Ranks.{Between}
 use Rattle.query.proofs.Members.{within_sub, none_sub, no_member, either}
@@ -21,6 +23,12 @@ use Rattle.search_steps.proofs.Carried.{carried_by_lem, carried_in}
 use Rattle.search_steps.proofs.Loops.{less_free}
 use Rattle.search_steps.proofs.Turns.{Falls, barred_sub}
 use Rattle.obstacles_blocks.specs.Firsts.{Finds, Ends}
+
+-- where no permission is missing, none is
+pub none_said : (a b : ℕ) (r : Maybe Permission) → MatchOption r (within a b ≡ true) (λ p. Missing a b p.0) → ((p : Permission) → r ≡ Some p → ⊥)
+    → within a b ≡ true
+none_said a b None h n = h
+none_said a b (Some p) h n = absurd (n p refl)
 
 -- a set that is found, and that there is none
 pub found_one : (t : Task) (chosen free s : ℕ) → Between chosen free s → serves t s ≡ true → Finds t chosen free true
@@ -45,20 +53,17 @@ wider chosen still free s h b = record { least = b.least; most = λ i m. go i (b
     go i (inl m) = inl m
     go i (inr m) = inr (h i m)
 
-module _ (t : Task) (n chosen carried : ℕ) (ready : Ready t n chosen carried) (w : Bool) (judged : w ≡ within t.lower carried) where
+module _ (t : Task) (chosen carried : ℕ) (ready : Ready t chosen carried) where
   -- the chosen roles carry the lower bound
-  pub found_chosen : (free : ℕ) → w ≡ true → Finds t chosen free true
+  pub found_chosen : (free : ℕ) → within t.lower carried ≡ true → Finds t chosen free true
   unfolding serves
   found_chosen free e =
       found_one t chosen free chosen (between-chosen chosen free)
-      (both (within t.lower (carries t chosen)) (t.met chosen) (ap (within t.lower) (sym ready.carry) ∙ sym judged ∙ e) ready.met)
+      (both (within t.lower (carries t chosen)) (t.met chosen) (ap (within t.lower) (sym ready.carry) ∙ e) ready.met)
 
   -- they lack a permission, and a set that serves has a free role that carries it
-  module _ (table : List ℕ) (free p tries : ℕ) (e : w ≡ false) (miss : within t.lower carried ≡ false → Missing t.lower carried p)
+  module _ (table : List ℕ) (free p tries : ℕ) (lacks : Missing t.lower carried p)
       (turned : Turned t.row table t.lower free) (both_have : tries ≡ inter free (get_or table p 0)) where
-    lacks : Missing t.lower carried p
-    lacks = miss (sym judged ∙ e)
-
     lacking : has (carries t chosen) p ≡ false
     lacking = ap (λ (c : ℕ). has c p) (sym ready.carry) ∙ lacks.lacking
 

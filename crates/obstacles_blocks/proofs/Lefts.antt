@@ -11,6 +11,8 @@ use native.Mathlib.Numerals.{add-one}
 use native.Mathlib.Omega.{arith}
 use lib.ListN.{length, get_or, take, drop, length-map, take-append-drop}
 use lib.Seq.{get_or-take, length-take-le, take-take}
+use Rattle.std.proofs.Common.{take_all}
+use Rattle.std.proofs.lemmas.List.{take-map}
 use Rattle.model.specs.declared.Exclusion.{Exclusion}
 use Rattle.model.specs.declared.Line.{Line}
 use Rattle.model.specs.Sets.{within}
@@ -29,7 +31,8 @@ use Rattle.exclusion_rows.specs.Rows.{exclusion_of, exclusions_in}
 use Rattle.exclusion_rows.proofs.Packing.{row_at}
 use Rattle.query.specs.Carry.{Keeps}
 use Rattle.query_reduced.specs.Met.{reduced_met}
-use Rattle.query_reduced.specs.Reduction.{Reduces}
+use Rattle.query_reduced.specs.declared.reduced.ReducedExclusion.{ReducedExclusion}
+use Rattle.query_reduced.specs.Reduction.{reduced_for, Reduces}
 use Rattle.query_reduced.proofs.Reductions.{reduced_same}
 use Rattle.search_steps.specs.Search.{Task}
 use Rattle.search.specs.Answer.{Given}
@@ -138,11 +141,11 @@ module _ (p : Policy) (u : ℕ) (x : Others) (l : Line) (k lower upper : ℕ) wh
       (ap (λ (i : ℕ). leaves (take i E)) (sym (add-one j)) ∙ b.stops))
 
 -- ---- what a search finds: what is searched under the first j exclusions, by all of them reduced
-module _ (p : Policy) (u : ℕ) (x : Others) (l : Line) (k lower upper own : ℕ) (xs : List (List ℕ)) (row : ℕ → ℕ) (masks ns : List ℕ) (n free : ℕ)
-    (g : Asked p u x l k own (exclusions_in xs n) row) (d : Reduces (exclusions_in xs n) l k masks ns) (inside : k < length l.sessions)
+module _ (p : Policy) (u : ℕ) (x : Others) (l : Line) (k lower upper own : ℕ) (xs : List (List ℕ)) (row : ℕ → ℕ) (rs : List ReducedExclusion) (n free : ℕ)
+    (g : Asked p u x l k own (exclusions_in xs n) row) (d : Reduces (exclusions_in xs n) l k rs) (inside : k < length l.sessions)
     (few : n ≤ length xs) (fits : own < 2 ^ 64) (keeps : Keeps (λ i. within (row i) upper) own free) where
   abbrev task : ℕ → Task
-  task j = record { row = row; lower = lower; met = reduced_met masks ns j; first = 0; second = 0 }
+  task j = record { row = row; lower = lower; met = reduced_met (take j rs); first = 0; second = 0 }
 
   abbrev first : ℕ → Policy
   first j = cut p u x l k lower upper j
@@ -150,20 +153,27 @@ module _ (p : Policy) (u : ℕ) (x : Others) (l : Line) (k lower upper own : ℕ
   abbrev meant : ℕ → Meaning
   meant j = left_to (first j) u x l k
 
-  reduces_cut : (j : ℕ) → j ≤ n → Reduces (exclusions_in xs j) l k masks ns
+  reduces_cut : (j : ℕ) → j ≤ n → Reduces (exclusions_in xs j) l k (take j rs)
   unfolding exclusions_in
   reduces_cut j h =
+      let e : take j rs ≡ map (reduced_for l k) (take j (map exclusion_of xs)) =
+      ap (take j) d.each ∙ take-map (reduced_for l k) j (take n (map exclusion_of xs))
+      ∙ ap (map (reduced_for l k)) (take-take j n (map exclusion_of xs) h) in
       record {
-        same = λ q w e m s o. reduced_same q w l k inside m s o (map exclusion_of xs) (exclusion_of []) j masks ns
-            (omega (arith, length-map xs exclusion_of)) e (λ i a. d.members (exclusion_of []) i (omega arith))
-            (λ i a. d.reduced (exclusion_of []) i (omega arith));
-        members = λ y i a. d.members y i (omega arith);
-        reduced = λ y i a. d.reduced y i (omega arith);
+        same = λ q w ex m s o. reduced_same q w l k inside m s o (map exclusion_of xs) j (take j rs) ex e;
+        each = e;
       }
 
-  given : (j : ℕ) → j ≤ n → Given (meant j) l k own row (reduced_met masks ns j)
+  -- they are as many as the exclusions
+  pub as_many : length rs ≡ n
   unfolding exclusions_in
-  given j h = given-of (first j) u x own (exclusions_in xs j) l k j masks ns row refl (reduces_cut j h) (asked_cut p u x l k lower upper own xs row j n h g)
+  as_many =
+      ap length d.each ∙ length-map (take n (map exclusion_of xs)) (reduced_for l k)
+      ∙ length-take-le n (map exclusion_of xs) (omega (arith, length-map xs exclusion_of))
+
+  given : (j : ℕ) → j ≤ n → Given (meant j) l k own row (reduced_met (take j rs))
+  unfolding exclusions_in
+  given j h = given-of (first j) u x own (exclusions_in xs j) l k (take j rs) row (reduces_cut j h) (asked_cut p u x l k lower upper own xs row j n h g)
 
   -- sets that are left under the first j
   lefts : (j : ℕ) → (leaves p u x l k lower upper (take j p.exclusions) ≡ true) ↔ ((s : ℕ) × (admissible (meant j) l k lower upper s ≡ true))
@@ -196,13 +206,25 @@ module _ (p : Policy) (u : ℕ) (x : Others) (l : Line) (k lower upper own : ℕ
   unfolding exclusions_in
   whole = ap (take n) g.exclusions_are ∙ take-take n n (map exclusion_of xs) (omega arith) ∙ sym g.exclusions_are
 
-  pub found_all : (b v : Bool) → Finds (task n) 0 free b → b ≡ v → leaves p u x l k lower upper p.exclusions ≡ v
-  found_all b v f e = ap (leaves p u x l k lower upper) (sym whole) ∙ found_left n (omega arith) b f ∙ e
+  found_under : (b v : Bool) → Finds (task n) 0 free b → b ≡ v → leaves p u x l k lower upper p.exclusions ≡ v
+  found_under b v f e = ap (leaves p u x l k lower upper) (sym whole) ∙ found_left n (omega arith) b f ∙ e
+
+  pub found_all : (b v : Bool) → Finds (record { row = row; lower = lower; met = reduced_met rs; first = 0; second = 0 }) 0 free b → b ≡ v
+      → leaves p u x l k lower upper p.exclusions ≡ v
+  found_all b v f e =
+      let w : take n rs ≡ rs = take_all n rs (omega (arith, as_many)) in
+      found_under b v (subst (λ (y : List ReducedExclusion). Finds (record {
+        row = row;
+        lower = lower;
+        met = reduced_met y;
+        first = 0;
+        second = 0;
+      }) 0 free b) (sym w) f) e
 
   none_found : leaves p u x l k lower upper p.exclusions ≡ false → Finds (task n) 0 free false
   none_found e =
       found_none (task n) 0 free
-      (λ s b v. not_both (leaves p u x l k lower upper p.exclusions) (found_all true true (found_one (task n) 0 free s b v) refl) e)
+      (λ s b v. not_both (leaves p u x l k lower upper p.exclusions) (found_under true true (found_one (task n) 0 free s b v) refl) e)
 
   -- where no set is left under them all, and one without them
   pub found_blocking : (j : ℕ) → leaves p u x l k lower upper [] ≡ true → leaves p u x l k lower upper p.exclusions ≡ false

@@ -2,11 +2,14 @@
 -- Assumes nothing.
 use mathlib.Core.Path.{◌≡◌, refl, sym, ap, ◌∙◌}
 use mathlib.Core.Bool.{Bool, true, false, ◌&&◌, not}
-use mathlib.Core.List.{List, [], map}
+use mathlib.Core.List.{List, []}
 use mathlib.Core.Option.{some}
-use Prim.Native.Nat.{ℕ, ◌+◌, ◌*◌}
+use Prim.Native.Nat.{ℕ, ◌+◌, ◌*◌, ◌<◌, ◌≤◌}
 use lib.Bits.{bit_xor}
-use lib.ListN.{get_or}
+use lib.ListN.{get_or, length, take, length-map}
+use lib.Seq.{get_or-take}
+use native.Mathlib.Omega.{arith}
+use Rattle.std.proofs.lemmas.List.{get_or_default}
 use Rattle.model.specs.declared.Exclusion.{Exclusion}
 use Rattle.model.specs.declared.Line.{Line}
 use Rattle.model.specs.Sets.{has, inter}
@@ -16,10 +19,13 @@ use Rattle.model.specs.Obstacle.{blocks}
 use Rattle.model_laws.proofs.SetLaws.{has-inter}
 use Rattle.model_laws.proofs.AnyWidth.{same_sets}
 use Rattle.sets.proofs.Taken.{apart, has_xor, has-lacking}
-use Rattle.exclusion_rows.specs.Rows.{exclusion_of}
+use Rattle.exclusion_rows.specs.Rows.{exclusion_of, exclusions_in}
 use Rattle.exclusion_rows.proofs.Packing.{row_at}
-use Rattle.obstacles_lacks.specs.declared.found.Found.TheVariants.{One}
-use Rattle.obstacles_lacks.specs.Founds.{found_of}
+use Rattle.query_reduced.specs.declared.reduced.ReducedExclusion.{ReducedExclusion}
+use Rattle.query_reduced.specs.Reduction.{reduced_for, Reduces}
+use Rattle.query_reduced.proofs.Reductions.{nothing, reduced_at}
+use Rattle.obstacles_lacks.specs.Founds.{blocking_of}
+use Rattle.obstacles_blocks.specs.Blocking.{ReducedBy}
 
 -- members that are not among those that are not counted yet are counted
 counted_back : (members base : ℕ) → bit_xor members (mask_of members base) ≡ inter members base
@@ -34,14 +40,22 @@ counted_back members base =
     go true false = refl
     go false y = refl
 
-pub told_blocks : (rows : List (List ℕ)) (j : ℕ) (l : Line) (k mask n : ℕ) (e : Exclusion) → e ≡ exclusion_of (get_or rows j []) → n ≡ kind_number e.kind
-    → mask ≡ mask_of (get_or (map exclusion_of rows) j (exclusion_of [])).members (stays l k (get_or (map exclusion_of rows) j (exclusion_of [])).kind)
-    → found_of (One (record { kind = 4; about = n + 4 * e.n; first = bit_xor e.members mask; second = e.members }))
-    ≡ blocks l k (some (exclusion_of (get_or rows j [])))
-unfolding found_of blocks
-told_blocks rows j l k mask n e q r h =
-    let y : Exclusion = get_or (map exclusion_of rows) j (exclusion_of []) in
-    let same : y ≡ e = row_at rows j ∙ sym q in
+pub told_blocks : (row : List ℕ) (l : Line) (k mask : ℕ) (e : Exclusion) → e ≡ exclusion_of row
+    → mask ≡ mask_of (exclusion_of row).members (stays l k (exclusion_of row).kind)
+    → some (blocking_of (record { exclusion = e; counted = bit_xor e.members mask })) ≡ blocks l k (some (exclusion_of row))
+unfolding blocks
+told_blocks row l k mask e q h =
     let f : bit_xor e.members mask ≡ inter e.members (stays l k e.kind) =
-    ap (bit_xor e.members) (h ∙ ap (λ (z : Exclusion). mask_of z.members (stays l k z.kind)) same) ∙ counted_back e.members (stays l k e.kind) in
-    (λ i. some (record { kind = 4; about = r i + 4 * e.n; first = f i; second = e.members })) ∙ ap (λ (z : Exclusion). blocks l k (some z)) q
+    ap (bit_xor e.members) (h ∙ ap (λ (z : Exclusion). mask_of z.members (stays l k z.kind)) (sym q)) ∙ counted_back e.members (stays l k e.kind) in
+    (λ i. some (record { kind = 4; about = kind_number e.kind + 4 * e.n; first = f i; second = e.members })) ∙ ap (λ (z : Exclusion). blocks l k (some z)) q
+
+-- a row's exclusion, by the same one of the reduced, which are the first of all
+pub reduced_row : (rows : List (List ℕ)) (n : ℕ) (l : Line) (k : ℕ) (all : List ReducedExclusion) → Reduces (exclusions_in rows n) l k (take n all)
+    → (j : ℕ) (d : ReducedExclusion) → j < n → n ≤ length rows → n ≤ length all → ReducedBy (get_or rows j []) (get_or all j d) l k
+unfolding exclusions_in
+reduced_row rows n l k all r j d h few enough =
+    let e : get_or all j d ≡ reduced_for l k (exclusion_of (get_or rows j [])) =
+    get_or_default all j d nothing (omega arith) ∙ sym (get_or-take n all j nothing h)
+    ∙ reduced_at (exclusions_in rows n) l k (take n all) r (exclusion_of []) j h (omega (arith, length-map rows exclusion_of))
+    ∙ ap (reduced_for l k) (row_at rows j) in
+    ap (λ (x : ReducedExclusion). x.members) e

@@ -24,8 +24,10 @@ use Rattle.tables_rows.specs.Holding.{holders_of}
 use Rattle.query.specs.Carry.{rows_of, Carry, Keeps}
 use Rattle.query_reduced.proofs.MetLaws.{every_has, every}
 use Rattle.asks.proofs.Rows.{carry_rows}
-use Rattle.obstacles_lacks.specs.declared.found.Found.TheVariants.{Nothing, One}
-use Rattle.obstacles_lacks.specs.Founds.{found_of}
+use native.Mathlib.Omega.{arith}
+use Rattle.std.specs.Prelude.{Option as Maybe, Some, None}
+use Rattle.model.specs.declared.Permission.{Permission}
+use Rattle.obstacles_lacks.specs.Founds.{number_of, lacks_of}
 
 -- where a test holds, others that agree there give the same
 under : (a x y : Bool) → (a ≡ true → x ≡ y) → (a && x) ≡ (a && y)
@@ -102,14 +104,21 @@ below_some : (p : ℕ) → p < 256 → if_below 256 p ≡ some p
 unfolding if_below
 below_some p h = rw (lt-ltb p 256 h, if_below)
 
+-- a number below 256 as a permission, and one that is not
+pub lowest_some : (n p : ℕ) → p ≡ n → p < 256 → some p ≡ if_below 256 n
+lowest_some n p e h = ap some e ∙ sym (below_some n (rw e at h))
+
+pub lowest-nothing : (n : ℕ) → 256 ≡ n → none ≡ if_below 256 n
+lowest-nothing n e = sym (below_none n (omega (arith, e)))
+
 -- where nothing is lacking, nothing is told
-pub told-nothing : (kind : ℕ) (roles : ℕ → ℕ) (p : ℕ) (o : Option ℕ) → 256 ≤ p → if_below 256 p ≡ o → found_of Nothing ≡ lacks kind roles o
-unfolding found_of lacks
-told-nothing kind roles p o h e = ap (lacks kind roles) (sym (below_none p h) ∙ e)
+pub told-nothing : (kind : ℕ) (roles : ℕ → ℕ) (r : Maybe Permission) (o : Option ℕ) → r ≡ None → number_of r ≡ o → lacks_of kind None ≡ lacks kind roles o
+unfolding lacks_of lacks
+told-nothing kind roles r o q e = ap (lacks kind roles) (sym (ap number_of q) ∙ e)
 
 -- the permission p, with its roles s
-pub told-one : (kind : ℕ) (roles : ℕ → ℕ) (p s : ℕ) (o : Option ℕ) → p < 256 → if_below 256 p ≡ o → s ≡ roles p
-    → found_of (One (record { kind = kind; about = p; first = s; second = 0 })) ≡ lacks kind roles o
-unfolding found_of lacks
-told-one kind roles p s o h e f =
-    ap (λ (x : ℕ). some (record { kind = kind; about = p; first = x; second = 0 })) f ∙ ap (lacks kind roles) (sym (below_some p h) ∙ e)
+pub told-one : (kind : ℕ) (roles : ℕ → ℕ) (r : Maybe Permission) (p : Permission) (s : ℕ) (o : Option ℕ) → r ≡ Some p → number_of r ≡ o → s ≡ roles p.0
+    → lacks_of kind (Some (record { permission = p; roles = s })) ≡ lacks kind roles o
+unfolding lacks_of lacks
+told-one kind roles r p s o q e f =
+    ap (λ (x : ℕ). some (record { kind = kind; about = p.0; first = x; second = 0 })) f ∙ ap (lacks kind roles) (sym (ap number_of q) ∙ e)

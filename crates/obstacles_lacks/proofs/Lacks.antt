@@ -3,6 +3,7 @@
 use mathlib.Core.Path.{◌≡◌, sym, ap, ap₂, ◌∙◌}
 use mathlib.Core.Bool.{Bool, true, false, ◌&&◌, not}
 use mathlib.Core.List.{List}
+use mathlib.Core.Option.{Option}
 use Prim.Native.Nat.{ℕ, ◌+◌, ◌*◌, ◌-◌, ◌/◌, ◌%◌, ◌≤◌, ◌<◌, zero-le}
 use native.Mathlib.Nat.{mod-lt, div-add-mod'}
 use native.Mathlib.Decide.{dec_lt}
@@ -24,6 +25,10 @@ use Rattle.sets.specs.Words.{value}
 use Rattle.sets_split.specs.Split.{Splits}
 use Rattle.sets.proofs.Machine.{value-has}
 use Rattle.sets.proofs.Taken.{lacking, has-lacking, lowest_least}
+
+-- one more thing that holds below a number
+pub none_next : (f : ℕ → ℕ) (i : ℕ) → ((j : ℕ) → j < i → f j ≡ 0) → f i ≤ 0 → (j : ℕ) → j < i + 1 → f j ≡ 0
+none_next f i h e j l = elim (dec_lt j i) [ yes q ↦ h j q | no q ↦ let s : j ≡ i = omega arith in ap f s ∙ omega arith ]
 
 module _ (a b : List ℕ) (ha : (i : ℕ) → Fits w64 (get_or a i 0)) (hb : (i : ℕ) → Fits w64 (get_or b i 0)) where
   -- what is lacking, by the whole sets and in word i
@@ -70,7 +75,7 @@ module _ (a b : List ℕ) (ha : (i : ℕ) → Fits w64 (get_or a i 0)) (hb : (i 
       ]
 
 -- what roles lack that carry c
-pub lacking_by : (m : Meaning) (lower s c p : ℕ) → c ≡ carried_by m s → p ≡ lowest (λ q. has lower q && not (has c q)) 0 256
-    → if_below 256 p ≡ lacking_of m lower s
+pub lacking_by : (m : Meaning) (lower s c : ℕ) (o : Option ℕ) → c ≡ carried_by m s → o ≡ if_below 256 (lowest (λ q. has lower q && not (has c q)) 0 256)
+    → o ≡ lacking_of m lower s
 unfolding lacking_of
-lacking_by m lower s c p e f = rw (f, e)
+lacking_by m lower s c o e f = rw (f, e)

@@ -3,10 +3,10 @@
 use mathlib.Core.Path.{◌≡◌, sym, ap, subst, ◌∙◌}
 use mathlib.Core.Bool.{true}
 use mathlib.Core.List.{List}
-use mathlib.Core.Option.{Option, none}
-use Prim.Native.Nat.{ℕ, ◌^◌, ◌≤◌, ◌<◌}
+use mathlib.Core.Option.{Option, none, some}
+use Prim.Native.Nat.{ℕ, ◌^◌, ◌<◌}
 use Rattle.model.specs.declared.Line.{Line}
-use Rattle.model.specs.Tests.{or_else, if_below}
+use Rattle.model.specs.Tests.{or_else}
 use Rattle.model.specs.Sets.{has, within}
 use Rattle.model.specs.Policy.{Meaning}
 use Rattle.model.specs.Limits.{Others, unbarred}
@@ -17,23 +17,32 @@ use Rattle.model_laws.proofs.AnyWidth.{within_iff}
 use Rattle.model_laws.proofs.Barred.{left_own}
 use Rattle.model_laws.proofs.ObstacleLaws.{upper_none, own_none}
 use Rattle.query.specs.Carry.{rows_of, Carry, Keeps}
-use Rattle.obstacles_lacks.specs.declared.found.Found.{Found}
-use Rattle.obstacles_lacks.specs.declared.found.Told.{Told}
-use Rattle.obstacles_lacks.specs.declared.found.Found.TheVariants.{Nothing, One}
-use Rattle.obstacles_lacks.specs.Founds.{found_of, own_lacks, upper_lacks, limit_lacks}
-use Rattle.obstacles_lacks.proofs.Carriers.{carry_less, fitting_is, below_none}
+use Rattle.std.specs.Prelude.{Option as Maybe, Some, None}
+use Rattle.model.specs.declared.Permission.{Permission}
+use Rattle.obstacles_lacks.specs.declared.found.Lack.{Lack}
+use Rattle.obstacles_lacks.specs.Founds.{number_of, found_of, lack_of, lacks_of, own_lacks, upper_lacks, limit_lacks}
+use Rattle.obstacles_lacks.proofs.Carriers.{carry_less, fitting_is}
 
 -- ---- one kind before the others
 
+-- a lack as what stands in the way
+pub found_lack : (kind : ℕ) (r : Maybe Lack) (t : Lack) (a : Option Obstacle) → r ≡ Some t → lacks_of kind r ≡ a → some (lack_of kind t) ≡ a
+unfolding lacks_of
+found_lack kind r t a q e = sym (ap (lacks_of kind) q) ∙ e
+
+pub found-nothing : (kind : ℕ) (r : Maybe Lack) (a : Option Obstacle) → r ≡ None → lacks_of kind r ≡ a → found_of None ≡ a
+unfolding found_of lacks_of
+found-nothing kind r a q e = sym (ap (lacks_of kind) q) ∙ e
+
 -- where one is told, it is the first
-pub or_told : (f : Found) (t : Told) (a b : Option Obstacle) → f ≡ One t → found_of f ≡ a → found_of f ≡ or_else a b
-unfolding found_of or_else
-or_told f t a b q e = ap found_of q ∙ ap (λ (o : Option Obstacle). or_else o b) (sym (ap found_of q) ∙ e)
+pub or_told : (a b : Option Obstacle) (t : Obstacle) → some t ≡ a → some t ≡ or_else a b
+unfolding or_else
+or_told a b t e = ap (λ (o : Option Obstacle). or_else o b) e
 
 -- where nothing is, the others decide
-pub or_clear : (f : Found) (a b o : Option Obstacle) → f ≡ Nothing → found_of f ≡ a → o ≡ b → o ≡ or_else a b
-unfolding found_of or_else
-or_clear f a b o q e h = h ∙ ap (λ (y : Option Obstacle). or_else y b) (sym (ap found_of q) ∙ e)
+pub or_clear : (kind : ℕ) (r : Maybe Lack) (a b o : Option Obstacle) → r ≡ None → lacks_of kind r ≡ a → o ≡ b → o ≡ or_else a b
+unfolding lacks_of or_else
+or_clear kind r a b o q e h = h ∙ ap (λ (y : Option Obstacle). or_else y b) (sym (ap (lacks_of kind) q) ∙ e)
 
 -- ---- the kinds
 pub own_lacks_lem : (m : Meaning) (lower own : ℕ) (o : Option Obstacle) → m.authorized ≡ own
@@ -54,15 +63,15 @@ module _ (m : Meaning) (x : Others) (l : Line) (k own free : ℕ) (rows : List (
   free_carry = carry_less m own free (rows_of rows) carry free_own
 
   -- where those that fit lack nothing, none of the three kinds holds
-  pub clear_lacks : lower < 2 ^ 256 → (left : ℕ) → Keeps (λ i. within (rows_of rows i) upper) free left → (p : ℕ) → 256 ≤ p
-      → (Carry m left (rows_of rows) → if_below 256 p ≡ lacking m lower left)
-      → found_of Nothing ≡ or_else (own_lacks m lower) (or_else (upper_lacks m lower upper) (limit_lacks m x l k lower upper))
+  pub clear_lacks : lower < 2 ^ 256 → (left : ℕ) → Keeps (λ i. within (rows_of rows i) upper) free left → (r : Maybe Permission) → r ≡ None
+      → (Carry m left (rows_of rows) → number_of r ≡ lacking m lower left)
+      → found_of None ≡ or_else (own_lacks m lower) (or_else (upper_lacks m lower upper) (limit_lacks m x l k lower upper))
   unfolding found_of or_else own_lacks upper_lacks limit_lacks lacks
-  clear_lacks small left kept p h e =
+  clear_lacks small left kept r q e =
       let inside = (within_iff left own).1 (λ r i. within_has free own free_own r (and_l (has free r) _ (sym (kept r) ∙ i))) in
       let c : lacking m lower (fitting (unbarred m x l k) upper) ≡ none =
       ap (lacking m lower) (sym (fitting_is (unbarred m x l k) rows free v free_carry free_is upper left kept))
-      ∙ sym (e (carry_less m own left (rows_of rows) carry inside)) ∙ below_none p h in
+      ∙ sym (e (carry_less m own left (rows_of rows) carry inside)) ∙ ap number_of q in
       let b = upper_none m x l k lower upper small c in
       let a = own_none m x l k lower upper small b in
       (λ i. or_else (lacks 1 (carriers_of m (λ r. true)) (sym a i))
@@ -75,14 +84,15 @@ module _ (m : Meaning) (x : Others) (l : Line) (k own free : ℕ) (rows : List (
     fit_is : fit ≡ fitting m upper
     fit_is = fitting_is m rows own w carry own_is upper fit keeps
 
-    pub upper-lacks : (f : Found) → (Carry m own (rows_of rows) → within fit own ≡ true → found_of f ≡ lacks 2 (carriers_of m (has own)) (lacking m lower fit))
-        → found_of f ≡ upper_lacks m lower upper
+    pub upper-lacks : (f : Maybe Lack) → (Carry m own (rows_of rows) → within fit own ≡ true
+        → lacks_of 2 f ≡ lacks 2 (carriers_of m (has own)) (lacking m lower fit))
+        → lacks_of 2 f ≡ upper_lacks m lower upper
     unfolding upper_lacks
     upper-lacks f h = h carry fit_own ∙ (λ i. lacks 2 (carriers_of m (has (sym own_is i))) (lacking m lower (fit_is i)))
 
-    pub limit_lacks_lem : (left : ℕ) → Keeps (λ i. within (rows_of rows i) upper) free left → (f : Found)
-        → (Carry m fit (rows_of rows) → within left fit ≡ true → found_of f ≡ lacks 3 (carriers_of m (has fit)) (lacking m lower left))
-        → found_of f ≡ limit_lacks m x l k lower upper
+    pub limit_lacks_lem : (left : ℕ) → Keeps (λ i. within (rows_of rows i) upper) free left → (f : Maybe Lack)
+        → (Carry m fit (rows_of rows) → within left fit ≡ true → lacks_of 3 f ≡ lacks 3 (carriers_of m (has fit)) (lacking m lower left))
+        → lacks_of 3 f ≡ limit_lacks m x l k lower upper
     unfolding limit_lacks
     limit_lacks_lem left kept f h =
         h (carry_less m own fit (rows_of rows) carry fit_own)

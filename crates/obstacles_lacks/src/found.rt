@@ -1,18 +1,26 @@
 // What stands in the way of an ask, as a value.
+use model::{Exclusion, Permission};
 
-// An obstacle: its kind, what it is about (a permission, or the kind of an exclusion plus 4 times its n), and two role
-// sets.
+// A permission of the lower bound that no role of some gives, and the roles that carry it.
 #[derive(Clone, Copy)]
-pub struct Told {
-    pub kind: u8,
-    pub about: u16,
-    pub first: u64,
-    pub second: u64,
+pub struct Lack {
+    pub permission: Permission,
+    pub roles: u64,
 }
 
-// Nothing stands in the way, or an obstacle does.
+// An exclusion with which no role set is left, and its members that stay counted.
 #[derive(Clone, Copy)]
-pub enum Found {
-    Nothing,
-    One(Told),
+pub struct Blocking {
+    pub exclusion: Exclusion,
+    pub counted: u64,
+}
+
+// What stands in the way: the user's roles lack a permission, those of them that fit the upper bound do, those that no
+// limit bars either do, or an exclusion leaves no role set.
+#[derive(Clone, Copy)]
+pub enum Obstacle {
+    Own(Lack),
+    Upper(Lack),
+    Limits(Lack),
+    Exclusion(Blocking),
 }

@@ -9,9 +9,9 @@ ghost use Rattle.model.specs.Limits.{Others, unbarred};
 ghost use Rattle.model.specs.Obstacle.{lacking as lacking_of, carriers_of, lacks};
 ghost use Rattle.sets.specs.Words.{value, values};
 ghost use Rattle.query.specs.Carry.{rows_of, Carry};
-ghost use Rattle.obstacles_lacks.specs.Founds.{found_of, own_lacks, upper_lacks, limit_lacks};
+ghost use Rattle.obstacles_lacks.specs.Founds.{found_of, lacks_of, own_lacks, upper_lacks, limit_lacks};
 
-use crate::found::{Found, Told};
+use crate::found::{Lack, Obstacle};
 use crate::lacking::lacking;
 use model::Permission;
 use query::carry::usable;
@@ -26,21 +26,13 @@ fn carriers_in(rows: &[[u64; 4]; 64], set: u64, p: Permission) -> u64
 }
 
 // The lowest permission of the lower bound that roles lack, told with those of a larger set that carry it.
-fn lacked(rows: &[[u64; 4]; 64], kind: u8, all: u64, some: u64, lower: [u64; 4]) -> Found
-    ensures { (m : Meaning) → Carry m all (rows_of rows.now) → within some all ≡ true
-        → found_of result ≡ lacks kind (carriers_of m (has all)) (lacking_of m (value lower) some) }
+fn lacked(rows: &[[u64; 4]; 64], all: u64, some: u64, lower: [u64; 4]) -> Option<Lack>
+    ensures { (m : Meaning) (kind : ℕ) → Carry m all (rows_of rows.now) → within some all ≡ true
+        → lacks_of kind result ≡ lacks kind (carriers_of m (has all)) (lacking_of m (value lower) some) }
 {
-    let p = lacking(rows, some, lower);
-    if 256 <= p {
-        return Found::Nothing;
-    }
-    let first = carriers_in(rows, all, Permission(p as u8));
-    Found::One(Told {
-        kind,
-        about: p,
-        first,
-        second: 0,
-    })
+    let permission = lacking(rows, some, lower)?;
+    let roles = carriers_in(rows, all, permission);
+    Some(Lack { permission, roles })
 }
 
 // The lowest permission of the lower bound that the user's roles lack, told with all roles that carry it.
@@ -50,50 +42,43 @@ fn lacked_by_own(
     lower: [u64; 4],
     granted: &[[u64; 4]; 64],
     below: &[u64; 64],
-) -> Found
+) -> Option<Lack>
     ensures { (p : Policy) (u : ℕ) → values granted.now ≡ p.granted → below.now ≡ below_table p
         → Carry (meaning p u) own (rows_of rows.now)
-        → found_of result ≡ lacks 1 (carriers_of (meaning p u) (λ r. true)) (lacking_of (meaning p u) (value lower) own) }
+        → lacks_of 1 result ≡ lacks 1 (carriers_of (meaning p u) (λ r. true)) (lacking_of (meaning p u) (value lower) own) }
 {
-    let p = lacking(rows, own, lower);
-    if 256 <= p {
-        return Found::Nothing;
-    }
+    let permission = lacking(rows, own, lower)?;
     let every = 18446744073709551615u64;
     let table = carried(granted, below, every);
-    let first = carriers_in(&table, every, Permission(p as u8));
-    Found::One(Told {
-        kind: 1,
-        about: p,
-        first,
-        second: 0,
-    })
+    let roles = carriers_in(&table, every, permission);
+    Some(Lack { permission, roles })
 }
 
-// The kinds 2 and 3: of the user's roles those that fit the upper bound lack a permission, or those of them that are
-// free (not barred).
+// Of the user's roles those that fit the upper bound lack a permission, or those of them that are free (not barred).
 fn lacked_within(
     rows: &[[u64; 4]; 64],
     own: u64,
     free: u64,
     lower: [u64; 4],
     upper: [u64; 4],
-) -> Found
+) -> Option<Obstacle>
     ensures { (m : Meaning) (x : Others) (l : Line) (k : ℕ) → m.authorized ≡ own → (unbarred m x l k).authorized ≡ free
         → Carry m own (rows_of rows.now)
         → found_of result ≡ or_else (upper_lacks m (value lower) (value upper)) (limit_lacks m x l k (value lower) (value upper)) }
 {
     let fit = usable(rows, upper, own);
-    let found = lacked(rows, 2, own, fit, lower);
-    let Found::Nothing = found else {
-        return found;
-    };
-    let left = usable(rows, upper, free);
-    lacked(rows, 3, fit, left, lower)
+    match lacked(rows, own, fit, lower) {
+        Some(lack) => Some(Obstacle::Upper(lack)),
+        None => {
+            let left = usable(rows, upper, free);
+            let lack = lacked(rows, fit, left, lower)?;
+            Some(Obstacle::Limits(lack))
+        }
+    }
 }
 
-// The kinds 1 to 3: the first that holds. The roles of each are among those of the one before, so none holds where
-// those of the third lack nothing, and that is looked at first.
+// The first of the three kinds of a lack that holds. The roles of each are among those of the one before, so none holds
+// where those of the third lack nothing, and that is looked at first.
 pub fn lacked_by_any(
     rows: &[[u64; 4]; 64],
     own: u64,
@@ -102,7 +87,7 @@ pub fn lacked_by_any(
     upper: [u64; 4],
     granted: &[[u64; 4]; 64],
     below: &[u64; 64],
-) -> Found
+) -> Option<Obstacle>
     ensures { (own < 2 ^ 64) × (value lower < 2 ^ 256) × ((p : Policy) (u : ℕ) (x : Others) (l : Line) (k : ℕ)
         → values granted.now ≡ p.granted → below.now ≡ below_table p → (meaning p u).authorized ≡ own
         → (unbarred (meaning p u) x l k).authorized ≡ free → Carry (meaning p u) own (rows_of rows.now)
@@ -110,12 +95,9 @@ pub fn lacked_by_any(
         (or_else (upper_lacks (meaning p u) (value lower) (value upper)) (limit_lacks (meaning p u) x l k (value lower) (value upper)))) }
 {
     let least = usable(rows, upper, free);
-    if 256 <= lacking(rows, least, lower) {
-        return Found::Nothing;
+    lacking(rows, least, lower)?;
+    match lacked_by_own(rows, own, lower, granted, below) {
+        Some(lack) => Some(Obstacle::Own(lack)),
+        None => lacked_within(rows, own, free, lower, upper),
     }
-    let found = lacked_by_own(rows, own, lower, granted, below);
-    let Found::Nothing = found else {
-        return found;
-    };
-    lacked_within(rows, own, free, lower, upper)
 }

@@ -2,14 +2,18 @@
 -- Assumes nothing.
 use mathlib.Core.Path.{◌≡◌, refl, sym, ap, ◌∙◌}
 use mathlib.Core.List.{List, [], ◌∷◌, ◌++◌, append_assoc, append-nil}
-use Prim.Native.Nat.{ℕ, zero, suc, ◌+◌, ◌*◌, ◌≤◌, ◌<◌}
+use Prim.Native.Nat.{ℕ, zero, suc, ◌+◌, ◌*◌, ◌-◌, ◌≤◌, ◌<◌}
 use native.Mathlib.Omega.{arith}
 use native.Mathlib.Numerals.{add-one}
 use lib.ListN.{length, take, drop, get_or, length-append}
 use lib.Seq.{drop-cons, length-take-le, take-suc}
-use Rattle.model.specs.Bytes.{bytes_of}
+use Rattle.std.proofs.Math.Nat.{div-div-eq-div-mul}
+use Rattle.std.specs.List.{slice_range}
+use Rattle.std.specs.Int.{w32, w64, from_le_bytes, to_le_bytes}
+use Rattle.model.specs.Bytes.{number, bytes_of}
+use Rattle.model.specs.Image.{word_at}
 use Rattle.model_laws.proofs.LineLaws.{length-bytes_of}
-use Rattle.octets.specs.Splice.{splice, bytes_of_all}
+use Rattle.octets.specs.Splice.{splice, number_at, bytes_of_all}
 use Rattle.octets.proofs.Splices.{splice-splice}
 
 -- ---- reads
@@ -25,6 +29,28 @@ window-is (suc n) s at h =
     let k : at < length s = omega arith in
     let j : (at + 1) + n ≤ length s = omega arith in
     rw (drop-cons s at 0) (ap (λ (l : List ℕ). get_or s at 0 ∷ l) (rw (← add-one at) (window-is n s (at + 1) j)))
+
+-- the library's number of eight bytes
+pub number-le : (s : List ℕ) (at : ℕ) → at + 8 ≤ length s → from_le_bytes w64 (slice_range s at (at + 8)) ≡ number_at s at
+unfolding number_at number
+number-le s at h =
+    let e : at + 8 - at ≡ 8 = omega arith in
+    rw (e, window-is 8 s at h) (omega arith)
+
+-- the library's number of four bytes
+pub word-le : (s : List ℕ) (place : ℕ) → 4 * place + 4 ≤ length s → from_le_bytes w32 (slice_range s (4 * place) (4 * place + 4)) ≡ word_at s place
+unfolding word_at
+word-le s place h =
+    let at : ℕ = 4 * place in
+    let e : at + 4 - at ≡ 4 = omega arith in
+    let two : at + 1 + 1 ≡ at + 2 = omega arith in
+    let three : at + 2 + 1 ≡ at + 3 = omega arith in
+    rw (e, window-is 4 s at h, two, three) (omega arith)
+
+-- the library's bytes of a number
+pub bytes_of-le : (v : ℕ) → to_le_bytes w64 v ≡ bytes_of 8 v
+unfolding bytes_of
+bytes_of-le v = simp div-div-eq-div-mul
 
 -- ---- runs of numbers
 

@@ -3,7 +3,7 @@
 use mathlib.Core.Path.{◌≡◌, refl, sym, ap, ap₂, ◌∙◌}
 use mathlib.Core.Bool.{Bool, true, false, ◌&&◌, not}
 use mathlib.Core.List.{List}
-use Prim.Native.Nat.{ℕ, ◌+◌, ◌*◌, ◌/◌, ◌%◌, ◌≤◌, ◌<◌}
+use Prim.Native.Nat.{ℕ, ◌+◌, ◌*◌, ◌/◌, ◌%◌, ◌<◌}
 use native.Mathlib.Nat.{mod-lt, div-add-mod'}
 use native.Mathlib.Omega.{arith}
 use mir.Val.{Fits}
@@ -57,19 +57,3 @@ module _ (a b : List ℕ) (ha : (i : ℕ) → Fits w64 (get_or a i 0)) (hb : (i 
       not-not : (x : Bool) → not x ≡ true → x ≡ false
       not-not true e = sym e
       not-not false e = refl
-
-  -- in the form of needs: word i lacks something, or no word does
-  pub missing_at : (i k p : ℕ) → i < 4 → Lowest (lacking (get_or a i 0) (get_or b i 0)) k → p ≡ i * 64 + k → within (value a) (value b) ≡ false
-      → Missing (value a) (value b) p
-  missing_at i k p l low e _ = word_missing i k p l low e
-
-  pub missing_none : (i p : ℕ) → 4 ≤ i → ((j : ℕ) → j < i → lacking (get_or a j 0) (get_or b j 0) ≡ 0) → within (value a) (value b) ≡ false
-      → Missing (value a) (value b) p
-  missing_none i p l h e = not_both (within (value a) (value b)) (words-within (λ j m. h j (omega arith))) e
-
-pub none_next : (f : ℕ → ℕ) (i : ℕ) → ((j : ℕ) → j < i → f j ≡ 0) → f i ≡ 0 → (j : ℕ) → j < i + 1 → f j ≡ 0
-none_next f i h e j l = go (ltb j i) refl
-  where
-    go : (x : Bool) → ltb j i ≡ x → f j ≡ 0
-    go true p = h j (ltb-true j i p)
-    go false p = let q : j ≡ i = omega (arith, ltb-false j i p) in ap f q ∙ e

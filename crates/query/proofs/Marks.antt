@@ -14,7 +14,7 @@ use lib.ListN.{length, get_or, set, replicate, length-set, get_or-replicate}
 use lib.Seq.{get_or-set_same, get_or-set_other}
 use borrow.Author.Tests.{eqb-true, eqb-false, lt-ltb, le-ltb, ltb-true}
 use Rattle.model.specs.Tests.{pick}
-use Rattle.model.specs.Sets.{has, inter, with, count}
+use Rattle.model.specs.Sets.{has, inter, with}
 use Rattle.model.specs.Policy.{Policy, meaning}
 use Rattle.model.specs.Ranges.{InRange}
 use Rattle.model_laws.proofs.Bools.{and_l, both, bool_ext}
@@ -25,7 +25,7 @@ use Rattle.sets.specs.Members.{without, Lowest}
 use Rattle.sets_split.specs.Split.{Splits}
 use Rattle.sets.specs.Words.{value}
 use Rattle.sets.proofs.Machine.{value-has}
-use Rattle.sets.proofs.Taken.{has-without, without_gone, without_other, without_lt, count-without}
+use Rattle.sets.proofs.Taken.{has-without, without_gone, without_other}
 use Rattle.query.specs.Carry.{Carry, Sub, Turned, Named, Marked}
 use Rattle.query.proofs.Members.{fewer_sub}
 use Rattle.query.proofs.Walks.{Walk, walk_starts, walk-next, walk_ends}
@@ -38,7 +38,6 @@ joined_at before r q k t = pick t (with (get_or before (q * 64 + k) 0) r) (get_o
 
 -- of the word at `place` the bits of left are still to come, and role r has joined at the others
 pub record Marks (place word r : ℕ) (before : List ℕ) (left : ℕ) (after : List ℕ) : Type 0 where
-  pub small : left < 2 ^ 64
   pub inside : (k : ℕ) → has left k ≡ true → has word k ≡ true
   pub marked : Marked (λ q k. eqb q place && (has word k && not (has left k))) r before after
 
@@ -52,11 +51,10 @@ module _ (place word r : ℕ) (before : List ℕ) where
   nothing true false = refl
   nothing false b = refl
 
-  pub marks-start : word < 2 ^ 64 → length before ≡ 256 → Marks place word r before word before
+  pub marks-start : length before ≡ 256 → Marks place word r before word before
   unfolding pick
-  marks-start h l =
+  marks-start l =
       record {
-        small = h;
         inside = λ k m. m;
         marked =
             record {
@@ -72,7 +70,6 @@ module _ (place word r : ℕ) (before : List ℕ) where
     marks-next inside m x em ex =
         rw el
         (record {
-          small = without_lt 64 left b w.small low.small;
           inside = λ k h. w.inside k (and_l (has left k) _ (sym (has-without left b k low.member) ∙ h));
           marked = record { size = simp length-set w.marked.size; sets = λ q k l. go q k l (eqb q place) (eqb k b) refl refl };
         })
@@ -117,10 +114,6 @@ module _ (place word r : ℕ) (before : List ℕ) where
         go q k l false t es et =
             other q k l (λ z. eqb-false q place es z.0)
             (ap (λ (s : Bool). s && (has word k && not (has left k))) es ∙ sym (ap (λ (s : Bool). s && (has word k && not (has (without left b) k))) es))
-
-    -- one bit fewer is to come
-    pub marks_less : count 64 less < count 64 left
-    marks_less = omega (arith, ap (count 64) el, count-without 64 left b w.small low.small low.member)
 
   -- at last no bit is to come
   pub marks_end : (left : ℕ) (after : List ℕ) → left ≡ 0 → Marks place word r before left after → Marked (λ q k. eqb q place && has word k) r before after

@@ -2,20 +2,18 @@
 -- Assumes nothing.
 use mathlib.Core.Path.{◌≡◌, refl, sym, ap, ◌∙◌}
 use mathlib.Core.Bool.{Bool, true, false, ◌&&◌, ◌||◌, or-false}
-use Prim.Native.Nat.{ℕ, ◌^◌, ◌<◌}
-use native.Mathlib.Nat.{lt_of_le_of_lt}
-use native.Mathlib.Omega.{arith}
+use Prim.Native.Nat.{ℕ}
 use lib.Dec.{eqb}
 use borrow.Author.Tests.{eqb-true, eqb-false, ne_eqb}
 use Rattle.model.specs.Tests.{pick}
-use Rattle.model.specs.Sets.{has, with, count}
+use Rattle.model.specs.Sets.{has, with}
 use Rattle.model_laws.proofs.Bools.{not_both}
 use Rattle.model_laws.proofs.SetLaws.{has-with, with_new}
 use Rattle.model_laws.proofs.UnionLaws.{has_none}
-use Rattle.sets.specs.Members.{without, Lowest}
-use Rattle.sets.proofs.Taken.{without_gone, without_other, count-without}
+use Rattle.sets.specs.Members.{without}
+use Rattle.sets.proofs.Taken.{without_gone, without_other}
 use Rattle.query.specs.Carry.{Sub, Keeps}
-use Rattle.query.proofs.Members.{fewer_sub, sub-le}
+use Rattle.query.proofs.Members.{fewer_sub}
 
 -- of the set s the members of left are still to come, and found has those before them that pass
 pub record Walk (test : ℕ → Bool) (s left found : ℕ) : Type 0 where
@@ -69,8 +67,3 @@ module _ (test : ℕ → Bool) (s : ℕ) where
         go i n false e =
             let q = eqb-false i r e in
             other i q ∙ w.gone i (sym (without_other left r i m q) ∙ n)
-
--- one role fewer is to come
-pub fewer-left : (s left less r : ℕ) → s < 2 ^ 64 → Sub left s → Lowest left r → less ≡ without left r → count 64 less < count 64 left
-fewer-left s left less r h sub low e =
-    omega (arith, sub-le left s sub, ap (count 64) e, count-without 64 left r (lt_of_le_of_lt (sub-le left s sub) h) low.small low.member)

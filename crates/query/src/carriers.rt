@@ -1,5 +1,5 @@
 // The turned table of what roles carry: for each wanted permission the roles that carry it, one word.
-ghost use Rattle.std.specs.Prelude.{◌≡◌, ◌&&◌, ℕ, ◌+◌, ◌*◌, ◌<◌, eqb, ltb, length, replicate};
+ghost use Rattle.std.specs.Prelude.{◌≡◌, ◌&&◌, ℕ, ◌+◌, ◌*◌, ◌<◌, eqb, ltb, replicate};
 ghost use Rattle.model.specs.Sets.{has};
 ghost use Rattle.model.specs.Policy.{Policy, meaning};
 ghost use Rattle.model.specs.Ranges.{InRange};
@@ -11,23 +11,19 @@ use sets_split::permission_at;
 
 // Role r joins the carriers of the permissions of a word, that at `place` of the four.
 fn mark_word(table: &mut [u64; 256], place: usize, word: u64, r: Role)
-    requires { (place < 4) × (r.0 < 64) × (length table.old ≡ 256) }
+    requires { (place < 4) × (r.0 < 64) }
     ensures { Marked (λ q k. eqb q place && has word k) r.0 table.old table.new }
 {
-    let mut left = word;
-    while left != 0 {
-        let bit = sets::lowest_bit(left);
+    for bit in sets::members(word) {
         let p = permission_at(place, bit);
         let m = p.0 as usize;
-        let set = sets::with(table[m], r);
-        table[m] = set;
-        left = sets::without_bit(left, bit);
+        table[m] = sets::with(table[m], r);
     }
 }
 
 // Role r joins the carriers of the wanted permissions of its row.
 fn mark_row(table: &mut [u64; 256], row: [u64; 4], wanted: [u64; 4], r: Role)
-    requires { (r.0 < 64) × (length table.old ≡ 256) }
+    requires { r.0 < 64 }
     ensures { Marked (λ q k. ltb q 4 && (has (value row) (q * 64 + k) && has (value wanted) (q * 64 + k))) r.0 table.old
         table.new }
 {
@@ -45,12 +41,8 @@ pub fn join_carriers(table: &mut [u64; 256], rows: &[[u64; 4]; 64], set: u64, wa
     ensures { (Turned (rows_of rows.now) table.new (value wanted) set)
         × ((p : Policy) (u : ℕ) → InRange p → Carry (meaning p u) set (rows_of rows.now) → Named p table.new (value wanted) set) }
 {
-    let mut left = set;
-    while left != 0 {
-        let r = sets::lowest(left);
-        let i = r.0 as usize;
-        mark_row(table, rows[i], wanted, r);
-        left = sets::without(left, r);
+    for k in sets::members(set) {
+        mark_row(table, rows[k as usize], wanted, Role(k));
     }
 }
 

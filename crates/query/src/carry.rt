@@ -1,6 +1,5 @@
-// What roles carry: the roles within a bound, the permissions of a role set. A role set is walked
-// by its lowest member.
-ghost use Rattle.std.specs.Prelude.{◌≡◌, false};
+// What roles carry: the roles within a bound, the permissions of a role set.
+ghost use Rattle.std.specs.Prelude.{◌≡◌, true, MatchOption};
 ghost use Rattle.model.specs.Tests.{pick};
 ghost use Rattle.model.specs.Sets.{union, within};
 ghost use Rattle.model.specs.Policy.{Meaning};
@@ -15,14 +14,10 @@ use sets_split::permission_at;
 pub fn usable(rows: &[[u64; 4]; 64], upper: [u64; 4], set: u64) -> u64
     ensures { Keeps (λ i. within (rows_of rows.now i) (value upper)) set result }
 {
-    let mut left = set;
-    let mut found: u64 = 0;
-    while left != 0 {
-        let r = sets::lowest(left);
-        let i = r.0 as usize;
-        let next = sets::with_if(found, r, sets::perm_within(rows[i], upper));
+    let mut found = 0;
+    for k in sets::members(set) {
+        let next = sets::with_if(found, Role(k), sets::perm_within(rows[k as usize], upper));
         found = next;
-        left = sets::without(left, r);
     }
     found
 }
@@ -50,28 +45,24 @@ pub fn reach(rows: &[[u64; 4]; 64], set: u64) -> [[u64; 4]; 64]
 {
     let mut out = [[0u64; 4]; 64];
     let mut all = [0u64; 4];
-    let mut left: usize = 64;
-    while 0 < left {
-        left -= 1;
-        let on = sets::has(set, Role(left as u8));
-        let next = added(all, rows[left], on);
+    for k in (0..64usize).rev() {
+        let on = sets::has(set, Role(k as u8));
+        let next = added(all, rows[k], on);
         all = next;
-        out[left] = next;
+        out[k] = next;
     }
     out
 }
 
 // A permission of a that b lacks, where there is one.
-pub fn missing(a: [u64; 4], b: [u64; 4]) -> Permission
-    ensures { within (value a) (value b) ≡ false → Missing (value a) (value b) result.0 }
+pub fn missing(a: [u64; 4], b: [u64; 4]) -> Option<Permission>
+    ensures { MatchOption result (within (value a) (value b) ≡ true) (λ p. Missing (value a) (value b) p.0) }
 {
-    let mut i: usize = 0;
-    while i < 4 {
+    for i in 0..4usize {
         let x = a[i] ^ (a[i] & b[i]);
         if x != 0 {
-            return permission_at(i, sets::lowest_bit(x));
+            return Some(permission_at(i, sets::lowest_bit(x)));
         }
-        i += 1;
     }
-    Permission(0)
+    None
 }

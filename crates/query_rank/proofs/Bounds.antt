@@ -1,10 +1,10 @@
 -- Bounds of a search: the least that an objective makes of the sets between two, and that no set within these bounds is
 -- better.
 -- Assumes nothing.
-use mathlib.Core.Path.{◌≡◌, refl, sym, ap, ◌∙◌}
+use mathlib.Core.Path.{◌≡◌, sym, ◌∙◌}
 use mathlib.Core.Bool.{Bool, true, false}
 use mathlib.Core.Logic.{◌⊎◌, inl, inr}
-use Prim.Native.Nat.{ℕ, zero, suc, ◌+◌, ◌-◌, ◌*◌, ◌≤◌}
+use Prim.Native.Nat.{ℕ, ◌+◌, ◌-◌, ◌*◌, ◌≤◌}
 use native.Mathlib.Omega.{arith}
 use lib.Dec.{leb}
 use borrow.Author.Tests.{leb-true}
@@ -17,6 +17,7 @@ use Rattle.query.specs.Carry.{Sub}
 use Rattle.query.proofs.Members.{sub_within, within_sub, sub-le, sub_count, left_sub, right_sub}
 use Rattle.query_rank.specs.declared.Best.{Best}
 use Rattle.query_rank.specs.declared.Job.{Job}
+use Rattle.query_rank.specs.Objectives.{number_of}
 use Rattle.query_rank.specs.Ranks.{key_by, rank, rank_at, Between, LeastCost, LeastKey, Settled}
 
 between_sub : (chosen free s : ℕ) → Between chosen free s → Sub s (union chosen free)
@@ -32,17 +33,13 @@ module _ (d objective a b n : ℕ) where
   unfolding cost
   least_few e l en = record { small = omega (arith, en, count-le d a); least = λ s lo hi. rw (e, en) (sub_count d a s lo) }
 
-  pub least_many : (objective ≡ 0 → ⊥) → (objective ≡ 1 → ⊥) → (u : ℕ) → u ≡ b → n ≡ count d u → LeastCost d objective a b (256 - n)
-  least_many f g u eu en = go objective f g
-    where
-      go : (x : ℕ) → (x ≡ 0 → ⊥) → (x ≡ 1 → ⊥) → LeastCost d x a b (256 - n)
-      go zero f g = absurd (f refl)
-      go (suc zero) f g = absurd (g refl)
-      go (suc (suc x)) f g = record { small = omega arith; least = λ s lo hi. unfold cost in omega (arith, en, ap (count d) eu, sub_count d s b hi) }
+  pub least_many : objective ≡ 2 → n ≡ count d b → LeastCost d objective a b (256 - n)
+  unfolding cost
+  least_many e en = record { small = omega arith; least = λ s lo hi. rw e (omega (arith, en, sub_count d s b hi)) }
 
 -- ---- no set within the bounds is better
 module _ (job : Job) (chosen free carried top : ℕ) where
-  pub key_bound : (x y : ℕ) → LeastCost 256 job.first carried top x → LeastCost 64 job.second chosen (union chosen free) y
+  pub key_bound : (x y : ℕ) → LeastCost 256 (number_of job.first) carried top x → LeastCost 64 (number_of job.second) chosen (union chosen free) y
       → LeastKey job chosen free carried top (x * 512 + y)
   unfolding key_by
   key_bound x y p q s c b lo hi = omega (arith, p.least c lo hi, q.least s b.least (between_sub chosen free s b))

@@ -1,21 +1,20 @@
 -- Ranks: what an objective makes of a count, the key, two ranks compared, and the chosen roles judged.
 -- Assumes nothing.
 use mathlib.Core.Path.{◌≡◌, refl, sym, subst, ◌∙◌}
-use mathlib.Core.Bool.{Bool, true, false, ◌&&◌, ◌||◌}
+use mathlib.Core.Bool.{Bool, true, false}
 use mathlib.Core.Logic.{inl, inr}
-use Prim.Native.Nat.{ℕ, zero, suc, ◌+◌, ◌-◌, ◌*◌, ◌^◌, ◌≤◌, ◌<◌, zero-le}
+use Prim.Native.Nat.{ℕ, ◌+◌, ◌-◌, ◌*◌, ◌≤◌, zero-le}
 use native.Mathlib.Nat.{le_refl, le_of_lt}
 use native.Mathlib.Omega.{arith}
-use lib.Dec.{eqb, ltb, leb}
-use borrow.Author.Tests.{eqb-true, eqb-false, ltb-true, ltb-false, leb-true, leb-false, le-leb, lt-leb}
-use lib.Arith.{lt_of_le-ne}
+use lib.Dec.{leb}
+use borrow.Author.Tests.{leb-true, leb-false}
 use Rattle.model.specs.Sets.{within, count}
 use Rattle.model.specs.Choice.{cost}
 use Rattle.model_laws.proofs.Bools.{not_both}
 use Rattle.sets.specs.Words.{value}
 use Rattle.query_rank.specs.declared.Best.{Best}
 use Rattle.query_rank.specs.declared.Job.{Job}
-use Rattle.query_rank.specs.Ranks.{Costs, key_by, rank, rank_at, Judged}
+use Rattle.query_rank.specs.Ranks.{Costs, key_by, key_for, rank, rank_at, Judged}
 
 -- ---- what an objective makes of a count
 module _ (a n : ℕ) where
@@ -28,30 +27,14 @@ module _ (a n : ℕ) where
     unfolding cost
     cost_min e h k = record { same = rw (e, k); small = rw k h }
 
-    pub cost_max : (a ≡ 0 → ⊥) → (a ≡ 1 → ⊥) → m ≡ n → Costs a n (256 - m)
-    cost_max f g k = go a f g
-      where
-        go : (x : ℕ) → (x ≡ 0 → ⊥) → (x ≡ 1 → ⊥) → Costs x n (256 - m)
-        go zero f g = absurd (f refl)
-        go (suc zero) f g = absurd (g refl)
-        go (suc (suc x)) f g = record { same = unfold cost in rw k; small = omega arith }
+    pub cost_max : a ≡ 2 → m ≡ n → Costs a n (256 - m)
+    unfolding cost
+    cost_max e k = record { same = rw (e, k); small = omega arith }
 
 -- ---- the key
 pub key_joins : (a b c s x y : ℕ) → Costs a (count 256 c) x → Costs b (count 64 s) y → x * 512 + y ≡ key_by a b c s
 unfolding key_by
 key_joins a b c s x y p q = rw (p.same, q.same)
-
--- ---- a set's rank, compared by its key first
-pub rank_test : (j r k s : ℕ) → r < 2 ^ 64 → s < 2 ^ 64 → (ltb j k || (eqb j k && leb r s)) ≡ leb (rank j r) (rank k s)
-rank_test j r k s hr hs = go (ltb j k) refl (eqb j k) refl (leb r s) refl
-  where
-    go : (x : Bool) → ltb j k ≡ x → (y : Bool) → eqb j k ≡ y → (z : Bool) → leb r s ≡ z → (x || (y && z)) ≡ leb (rank j r) (rank k s)
-    go true p y q z o = sym (le-leb (rank j r) (rank k s) (omega (arith, ltb-true j k p)))
-    go false p true q true o = sym (le-leb (rank j r) (rank k s) (omega (arith, eqb-true j k q, leb-true r s o)))
-    go false p true q false o = sym (lt-leb (rank j r) (rank k s) (omega (arith, eqb-true j k q, leb-false r s o)))
-    go false p false q z o =
-        let h : k < j = lt_of_le-ne (ltb-false j k p) (λ e. eqb-false j k q (sym e)) in
-        sym (lt-leb (rank j r) (rank k s) (omega arith))
 
 -- ---- the chosen roles judged
 module _ (job : Job) (chosen carried : ℕ) (a : Best) where
@@ -60,7 +43,7 @@ module _ (job : Job) (chosen carried : ℕ) (a : Best) where
   judged_short w e f =
       record { old = le_refl (rank_at a); new = inl refl; least = λ m. not_both (within (value job.lower) carried) m (sym e ∙ f) }
 
-  module _ (key : ℕ) (b : Bool) (keyed : key ≡ key_by job.first job.second carried chosen) (compared : b ≡ leb (rank_at a) (rank key chosen)) where
+  module _ (key : ℕ) (b : Bool) (keyed : key ≡ key_for job carried chosen) (compared : b ≡ leb (rank_at a) (rank key chosen)) where
     -- the best so far is no worse
     pub judged_worse : b ≡ true → Judged job chosen carried a a
     judged_worse f =

@@ -7,6 +7,7 @@ use Rattle.sets.specs.Words.{value}
 use Rattle.query_rank.specs.declared.Best.{Best}
 use Rattle.query_rank.specs.declared.Job.{Job}
 use Rattle.query.specs.Carry.{Sub}
+use Rattle.query_rank.specs.Objectives.{number_of}
 
 -- r is what an objective makes of a count of at most 256
 pub record Costs (objective n r : ℕ) : Type 0 where
@@ -16,6 +17,10 @@ pub record Costs (objective n r : ℕ) : Type 0 where
 -- the key of the roles s, which carry the permissions c, by the objectives a and b: the lower, the better
 unfoldable pub key_by : ℕ → ℕ → ℕ → ℕ → ℕ
 key_by a b c s = cost a (count 256 c) * 512 + cost b (count 64 s)
+
+-- the same by a job's objectives
+abbrev pub key_for : Job → ℕ → ℕ → ℕ
+key_for job = key_by (number_of job.first) (number_of job.second)
 
 -- a set's rank by its key and then by its number: the lower, the better
 abbrev pub rank : ℕ → ℕ → ℕ
@@ -34,8 +39,8 @@ pub record Between (chosen free s : ℕ) : Type 0 where
 -- r is a, or the chosen roles where they carry the lower bound: the better
 pub record Judged (job : Job) (chosen carried : ℕ) (a r : Best) : Type 0 where
   pub old : rank_at r ≤ rank_at a
-  pub new : (r ≡ a) ⊎ ((within (value job.lower) carried ≡ true) × (r ≡ record { key = key_by job.first job.second carried chosen; roles = chosen }))
-  pub least : within (value job.lower) carried ≡ true → rank_at r ≤ rank (key_by job.first job.second carried chosen) chosen
+  pub new : (r ≡ a) ⊎ ((within (value job.lower) carried ≡ true) × (r ≡ record { key = key_for job carried chosen; roles = chosen }))
+  pub least : within (value job.lower) carried ≡ true → rank_at r ≤ rank (key_for job carried chosen) chosen
 
 -- ---- what no set between can better
 
@@ -47,10 +52,10 @@ pub record LeastCost (d objective a b r : ℕ) : Type 0 where
 
 -- r is no more than the key of any set between that carries the permissions `carried` and none outside `top`
 abbrev pub LeastKey : Job → ℕ → ℕ → ℕ → ℕ → ℕ → Type 0
-LeastKey job chosen free carried top r = (s c : ℕ) → Between chosen free s → Sub carried c → Sub c top → r ≤ key_by job.first job.second c s
+LeastKey job chosen free carried top r = (s c : ℕ) → Between chosen free s → Sub carried c → Sub c top → r ≤ key_for job c s
 
 -- no set between that carries the lower bound, the permissions `carried` and none outside `top` ranks before a
 abbrev pub Settled : Job → ℕ → ℕ → ℕ → ℕ → Best → Type 0
 Settled job chosen free carried top a =
     (s c : ℕ) → Between chosen free s → Sub carried c → Sub c top → within (value job.lower) c ≡ true
-    → rank_at a ≤ rank (key_by job.first job.second c s) s
+    → rank_at a ≤ rank (key_for job c s) s

@@ -3,17 +3,16 @@
 use mathlib.Core.Path.{◌≡◌, refl, sym, ap, ◌∙◌}
 use mathlib.Core.Bool.{Bool, true, false, ◌&&◌}
 use mathlib.Core.Logic.{◌⊎◌, inl, inr}
-use mathlib.Core.List.{List}
-use Prim.Native.Nat.{ℕ, zero, suc, ◌+◌, ◌≤◌, ◌<◌}
+use mathlib.Core.List.{List, [], ◌∷◌}
+use Prim.Native.Nat.{ℕ, zero, suc, ◌<◌}
 use native.Mathlib.Nat.{lt_of_le_of_lt}
-use native.Mathlib.Numerals.{add-one}
 use native.Mathlib.Omega.{arith}
 use lib.Dec.{ltb}
-use lib.ListN.{get_or}
 use borrow.Author.Tests.{ltb-true, ltb-false, lt-ltb}
 use Rattle.model.specs.Sets.{has, inter, count}
-use Rattle.model_laws.proofs.Bools.{and_l, and_r, both, not_both}
+use Rattle.model_laws.proofs.Bools.{and_l, and_r, both}
 use Rattle.model_laws.proofs.SetLaws.{has-inter}
+use Rattle.query_reduced.specs.declared.reduced.ReducedExclusion.{ReducedExclusion}
 use Rattle.query_reduced.specs.Met.{fits, all_below, reduced_met}
 use Rattle.query.specs.Carry.{Sub}
 use Rattle.query.proofs.Members.{either, sub_count}
@@ -28,30 +27,6 @@ module _ (f : ℕ → Bool) where
       go (inl m) ih = ih (ltb-true k n m)
       go (inr m) ih = let e : k ≡ n = omega (arith, ltb-false k n m) in ap f e ∙ and_r (all_below n f) (f n) h
 
-  pub at_below : (n : ℕ) → ((k : ℕ) → k < n → f k ≡ true) → all_below n f ≡ true
-  unfolding all_below
-  at_below zero h = refl
-  at_below (suc n) h = both (all_below n f) (f n) (at_below n (λ k l. h k (omega arith))) (h n (omega arith))
-
-  -- the walk upwards: before the first number, past one that passes, at one that does not, at the end
-  pub below_none : true ≡ all_below 0 f
-  unfolding all_below
-  below_none = refl
-
-  pub below_next : (k : ℕ) → true ≡ all_below k f → f k ≡ true → true ≡ all_below (k + 1) f
-  unfolding all_below
-  below_next k h m = rw (add-one k) (sym (both (all_below k f) (f k) (sym h) m))
-
-  pub below_stops : (n k : ℕ) → k < n → f k ≡ false → false ≡ all_below n f
-  below_stops n k l m = go (all_below n f) refl
-    where
-      go : (b : Bool) → all_below n f ≡ b → false ≡ all_below n f
-      go true e = not_both (f k) (below_at n k e l) m
-      go false e = sym e
-
-  pub below_ends : (n k : ℕ) → k ≤ n → n ≤ k → true ≡ all_below k f → true ≡ all_below n f
-  below_ends n k l m h = let e : k ≡ n = omega arith in h ∙ ap (λ (x : ℕ). all_below x f) e
-
 module _ (mask n : ℕ) where
   pub fits_less : (a b : ℕ) → Sub a b → fits mask n b ≡ true → fits mask n a ≡ true
   unfolding fits
@@ -65,11 +40,12 @@ module _ (mask n : ℕ) where
           has-inter mask b i ∙ both (has mask i) (has b i) (and_l (has mask i) (has a i) e) (h i (and_r (has mask i) (has a i) e))
 
 -- exclusions pass to subsets
-pub met_less : (masks ns : List ℕ) (n a b : ℕ) → Sub a b → reduced_met masks ns n b ≡ true → reduced_met masks ns n a ≡ true
+pub met_less : (xs : List ReducedExclusion) (a b : ℕ) → Sub a b → reduced_met xs b ≡ true → reduced_met xs a ≡ true
 unfolding reduced_met
-met_less masks ns n a b h m =
-    at_below (λ k. fits (get_or masks k 0) (get_or ns k 0) a) n (λ k l.
-    fits_less (get_or masks k 0) (get_or ns k 0) a b h (below_at (λ j. fits (get_or masks j 0) (get_or ns j 0) b) n k m l))
+met_less [] a b h m = refl
+met_less (x ∷ xs) a b h m =
+    both (fits x.members x.n a) (reduced_met xs a) (fits_less x.members x.n a b h (and_l (fits x.members x.n b) (reduced_met xs b) m))
+    (met_less xs a b h (and_r (fits x.members x.n b) (reduced_met xs b) m))
 
 -- ---- the set of all roles
 abbrev pub every : ℕ

@@ -1,7 +1,7 @@
 -- A role set meets the reduced exclusions exactly if every exclusion is met once the set is put in (000,
 -- Theorem 4.4.1).
 -- Assumes nothing.
-use mathlib.Core.Path.{◌≡◌, refl, sym, ap, ap₂, subst, ◌∙◌}
+use mathlib.Core.Path.{◌≡◌, refl, sym, ap, ap₂, ◌∙◌}
 use mathlib.Core.Bool.{Bool, true, false, ◌&&◌, ◌||◌, not}
 use mathlib.Core.Logic.{◌↔◌}
 use mathlib.Core.List.{List, [], ◌∷◌, ◌++◌, map}
@@ -9,8 +9,10 @@ use Prim.Native.Nat.{ℕ, zero, suc, ◌+◌, ◌-◌, ◌≤◌, ◌<◌}
 use native.Mathlib.Omega.{arith}
 use lib.Dec.{ltb}
 use lib.Bits.{or_zero_l}
-use lib.ListN.{length, get_or, set, take, drop, length-take, length-set}
-use lib.Seq.{set_split, get_or-take}
+use lib.ListN.{length, get_or, set, take, drop, length-take, length-set, length-map, get_or-map}
+use lib.Seq.{set_split, get_or-take, get_or-set_same, get_or-set_other}
+use Rattle.std.proofs.Common.{below_more}
+use Rattle.std.proofs.lemmas.List.{ext_get_or, get_or_default}
 use borrow.Author.Tests.{ltb-true, ltb-false, lt-ltb, le-ltb}
 use Rattle.model.specs.declared.Exclusion.{Exclusion}
 use Rattle.model.specs.declared.Exclusions.{Exclusions}
@@ -24,17 +26,16 @@ use Rattle.model.specs.Choice.{carried_by, admissible}
 use Rattle.model.specs.Conditions.{counted_after, MetAfter}
 use Rattle.model.specs.Reduced.{stay, stays, mask_of, reduced_n}
 use Rattle.model_laws.proofs.Bools.{and_r, both, bool_ext}
-use Rattle.model_laws.proofs.Every.{all_mem, mem_all, all-at, at_all}
+use Rattle.model_laws.proofs.Every.{all_mem, mem_all}
 use Rattle.model_laws.proofs.SetLaws.{has-union, has-inter}
 use Rattle.model_laws.proofs.Actives.{active_middle}
 use Rattle.model_laws.proofs.ConditionsProof.{solution}
 use Rattle.model_laws.proofs.MetLaws.{counted_then}
-use Rattle.model_laws.proofs.TableLaws.{fill_next}
 use Rattle.sets.proofs.Taken.{has-lacking}
+use Rattle.query_reduced.specs.declared.reduced.ReducedExclusion.{ReducedExclusion}
 use Rattle.query_reduced.specs.Met.{fits, reduced_met}
-use Rattle.query_reduced.specs.Reduction.{Reduces}
+use Rattle.query_reduced.specs.Reduction.{reduced_by, reduced_for, Reduces}
 use Rattle.query.proofs.Members.{sub_within, within_sub, none_sub, no_member}
-use Rattle.query_reduced.proofs.MetLaws.{below_at, at_below}
 
 -- ---- the roles active in sessions
 pub active_emptied : (ss : List Session) (k : ℕ) → k < length ss → active_in (set ss k empty_session) ≡ active_in (others k ss)
@@ -116,84 +117,62 @@ module _ (p : Policy) (u : ℕ) (l : Line) (k : ℕ) (inside : k < length l.sess
           }
           ))
 
-  -- the exclusions are the first n of a list, and masks and ns have them reduced
-  pub reduced_same : (xs : List Exclusion) (d : Exclusion) (n : ℕ) (masks ns : List ℕ) → n ≤ length xs → p.exclusions ≡ take n xs
-      → ((i : ℕ) → i < n → get_or masks i 0 ≡ mask_of (get_or xs i d).members (stays l k (get_or xs i d).kind))
-      → ((i : ℕ) → i < n → get_or ns i 0 ≡ reduced_n (get_or xs i d).members (get_or xs i d).n (stays l k (get_or xs i d).kind))
-      → exclusions_met (meaning p u) (put_in k s l) ≡ reduced_met masks ns n s
-  unfolding reduced_met met_then
-  reduced_same xs d n masks ns h e em er =
-      all_then ∙ ap (all (met_then l k s)) e
-      ∙ bool_ext (all (met_then l k s) (take n xs)) (reduced_met masks ns n s)
-      (λ a. at_below (λ i. fits (get_or masks i 0) (get_or ns i 0) s) n
-      (λ i q. rw (em i q, er i q) (subst (λ (x : Exclusion). met_then l k s x ≡ true) (get_or-take n xs i d q)
-      (all-at (met_then l k s) (take n xs) d a i (rw long q)))))
-      (λ a. at_all (met_then l k s) (take n xs) d (λ i q. subst (λ (x : Exclusion). met_then l k s x ≡ true) (sym (get_or-take n xs i d (rw long at q)))
-      (rw (← em i (rw long at q), ← er i (rw long at q)) (below_at (λ j. fits (get_or masks j 0) (get_or ns j 0) s) n i a (rw long at q)))))
+  -- the exclusions are the first n of a list, and the rows have them reduced
+  pub reduced_same : (xs : List Exclusion) (n : ℕ) (rows : List ReducedExclusion) → p.exclusions ≡ take n xs → rows ≡ map (reduced_for l k) (take n xs)
+      → exclusions_met (meaning p u) (put_in k s l) ≡ reduced_met rows s
+  unfolding all reduced_met met_then
+  reduced_same xs n rows e er = all_then ∙ ap (all (met_then l k s)) e ∙ go (take n xs) ∙ ap (λ (y : List ReducedExclusion). reduced_met y s) (sym er)
     where
-      long : length (take n xs) ≡ n
-      long = simp length-take (omega arith)
+      go : (ys : List Exclusion) → all (met_then l k s) ys ≡ reduced_met (map (reduced_for l k) ys) s
+      go [] = refl
+      go (y ∷ ys) = ap (λ (b : Bool). met_then l k s y && b) (go ys)
+
+-- no exclusion, reduced
+abbrev pub nothing : ReducedExclusion
+nothing = record { members = 0; n = 0 }
 
 -- ---- the walk that reduces them: the first n are done
-pub record Filled (xs : List Exclusion) (d : Exclusion) (elsewhere session user : ℕ) (masks ns : List ℕ) (n : ℕ) : Type 0 where
-  pub long : length masks ≡ 32
-  pub wide : length ns ≡ 32
-  pub mask : (i : ℕ) → i < n → get_or masks i 0 ≡ mask_of (get_or xs i d).members (stay (get_or xs i d).kind elsewhere session user)
-  pub number : (i : ℕ) → i < n → get_or ns i 0 ≡ reduced_n (get_or xs i d).members (get_or xs i d).n (stay (get_or xs i d).kind elsewhere session user)
+pub record Filled (f : Exclusion → ReducedExclusion) (xs : List Exclusion) (d : Exclusion) (rows : List ReducedExclusion) (n : ℕ) : Type 0 where
+  pub long : length rows ≡ 32
+  pub done : (i : ℕ) → i < n → get_or rows i nothing ≡ f (get_or xs i d)
 
-module _ (xs : List Exclusion) (d : Exclusion) (elsewhere session user : ℕ) where
-  pub filled_none : (masks ns : List ℕ) → length masks ≡ 32 → length ns ≡ 32 → Filled xs d elsewhere session user masks ns 0
-  filled_none masks ns a b = record { long = a; wide = b; mask = λ i q. absurd (omega arith); number = λ i q. absurd (omega arith) }
+module _ (f : Exclusion → ReducedExclusion) (xs : List Exclusion) (d : Exclusion) where
+  pub filled_none : (rows : List ReducedExclusion) → length rows ≡ 32 → Filled f xs d rows 0
+  filled_none rows e = record { long = e; done = λ i q. absurd (omega arith) }
 
-  pub filled_next : (masks ns : List ℕ) (n base v w : ℕ) (x : Exclusion) → n < 32 → Filled xs d elsewhere session user masks ns n
-      → x ≡ get_or xs n d → base ≡ stay x.kind elsewhere session user → v ≡ mask_of x.members base → w ≡ reduced_n x.members x.n base
-      → Filled xs d elsewhere session user (set masks n v) (set ns n w) (n + 1)
-  filled_next masks ns n base v w x q f ex eb ev ew =
-      let kb : base ≡ stay (get_or xs n d).kind elsewhere session user = eb ∙ ap (λ (y : Exclusion). stay y.kind elsewhere session user) ex in
-      let kv : v ≡ mask_of (get_or xs n d).members base = ev ∙ ap (λ (y : Exclusion). mask_of y.members base) ex in
-      let kw : w ≡ reduced_n (get_or xs n d).members (get_or xs n d).n base = ew ∙ ap (λ (y : Exclusion). reduced_n y.members y.n base) ex in
+  pub filled_next : (rows : List ReducedExclusion) (n : ℕ) (v : ReducedExclusion) → n < 32 → Filled f xs d rows n → v ≡ f (get_or xs n d)
+      → Filled f xs d (set rows n v) (n + 1)
+  filled_next rows n v q w e =
       record {
-        long = length-set masks n v ∙ f.long;
-        wide = length-set ns n w ∙ f.wide;
-        mask = fill_next (λ i. mask_of (get_or xs i d).members (stay (get_or xs i d).kind elsewhere session user)) masks n v
-            (subst (λ (x : ℕ). n < x) (sym f.long) q) f.mask
-            (kv ∙ ap (mask_of (get_or xs n d).members) kb);
-        number = fill_next (λ i. reduced_n (get_or xs i d).members (get_or xs i d).n (stay (get_or xs i d).kind elsewhere session user)) ns n w
-            (subst (λ (x : ℕ). n < x) (sym f.wide) q) f.number
-            (kw ∙ ap (reduced_n (get_or xs n d).members (get_or xs n d).n) kb);
+        long = simp length-set w.long;
+        done = below_more _ _ (λ i h. let ne : i ≡ n → ⊥ = λ z. omega arith in get_or-set_other rows n i v nothing ne ∙ w.done i h)
+            (get_or-set_same rows n v nothing (omega (arith, w.long)) ∙ e);
       }
 
--- what an element is does not depend on what stands for one outside
-inside_any : (xs : List Exclusion) (i : ℕ) (d e : Exclusion) → i < length xs → get_or xs i d ≡ get_or xs i e
-inside_any [] i d e h = absurd (omega arith)
-inside_any (x ∷ xs) zero d e h = refl
-inside_any (x ∷ xs) (suc i) d e h = inside_any xs i d e (omega arith)
+  -- all done, they are the list's first, reduced
+  pub filled_all : (rows : List ReducedExclusion) (n m : ℕ) → n ≤ 32 → n ≤ m → n ≤ length xs → Filled f xs d rows m → take n rows ≡ map f (take n xs)
+  filled_all rows n m h hm hx w =
+      ext_get_or nothing (take n rows) (map f (take n xs)) (simp (length-map, length-take) (omega (arith, w.long)))
+      (λ i q.
+      let l : i < n = omega (arith, simp length-take at q) in
+      let k : i < length (map f (take n xs)) = simp (length-map, length-take) (omega arith) in
+      get_or-take n rows i nothing l ∙ w.done i (omega arith) ∙ ap f (sym (get_or-take n xs i d l)) ∙ sym (get_or-map f (take n xs) i d)
+      ∙ get_or_default (map f (take n xs)) i (f d) nothing k)
 
--- all done, they are reduced for the line and session k
-pub reduces : (x : Exclusions) (d : Exclusion) (l : Line) (k elsewhere session n : ℕ) (masks ns : List ℕ) → k < length l.sessions
-    → x.count ≤ length x.list
-    → x.count ≤ n → elsewhere ≡ active_in (others k l.sessions) → session ≡ (session_at l k).history
-    → Filled x.list d elsewhere session l.history masks ns n
-    → Reduces x l k masks ns
-reduces x d l k elsewhere session n masks ns hk hx hn ee es f =
-    record {
-      same = λ p u e met s own. reduced_same p u l k hk met s own x.list d x.count masks ns hx e em er;
-      members = λ o i q. em i q ∙ ap (λ (y : Exclusion). mask_of y.members (stays l k y.kind)) (inside_any x.list i d o (omega arith));
-      reduced = λ o i q. er i q ∙ ap (λ (y : Exclusion). reduced_n y.members y.n (stays l k y.kind)) (inside_any x.list i d o (omega arith));
-    }
-  where
-    em : (i : ℕ) → i < x.count → get_or masks i 0 ≡ mask_of (get_or x.list i d).members (stays l k (get_or x.list i d).kind)
-    em i q = f.mask i (omega arith) ∙ ap₂ (λ (a b : ℕ). mask_of (get_or x.list i d).members (stay (get_or x.list i d).kind a b l.history)) ee es
+-- reduced for the line and session k
+pub reduces : (x : Exclusions) (l : Line) (k elsewhere session : ℕ) (rows : List ReducedExclusion) → k < length l.sessions
+    → elsewhere ≡ active_in (others k l.sessions) → session ≡ (session_at l k).history
+    → rows ≡ map (λ (y : Exclusion). reduced_by y.members y.n (stay y.kind elsewhere session l.history)) (take x.count x.list)
+    → Reduces x l k rows
+reduces x l k elsewhere session rows hk ee es er =
+    let e : rows ≡ map (reduced_for l k) (take x.count x.list) =
+    er ∙ ap₂ (λ (a b : ℕ). map (λ (y : Exclusion). reduced_by y.members y.n (stay y.kind a b l.history)) (take x.count x.list)) ee es in
+    record { same = λ p u ex met s own. reduced_same p u l k hk met s own x.list x.count rows ex e; each = e }
 
-    er : (i : ℕ) → i < x.count → get_or ns i 0 ≡ reduced_n (get_or x.list i d).members (get_or x.list i d).n (stays l k (get_or x.list i d).kind)
-    er i q =
-        f.number i (omega arith)
-        ∙ ap₂ (λ (a b : ℕ). reduced_n (get_or x.list i d).members (get_or x.list i d).n (stay (get_or x.list i d).kind a b l.history)) ee es
-
--- a list that is mapped is as long
-pub length_mapped : (X Y : Type 0) (f : X → Y) (l : List X) (n : ℕ) → length (map f l) ≡ n → length l ≡ n
-length_mapped X Y f l n e = sym (go l) ∙ e
-  where
-    go : (l : List X) → length (map f l) ≡ length l
-    go [] = refl
-    go (x ∷ l) = ap suc (go l)
+-- each of the reduced exclusions
+pub reduced_at : (x : Exclusions) (l : Line) (k : ℕ) (rows : List ReducedExclusion) → Reduces x l k rows → (d : Exclusion) (i : ℕ) → i < x.count
+    → x.count ≤ length x.list → get_or rows i nothing ≡ reduced_for l k (get_or x.list i d)
+reduced_at x l k rows r d i q h =
+    let n : i < length (map (reduced_for l k) (take x.count x.list)) = simp (length-map, length-take) (omega arith) in
+    ap (λ (y : List ReducedExclusion). get_or y i nothing) r.each ∙ get_or_default (map (reduced_for l k) (take x.count x.list)) i nothing (reduced_for l k d) n
+    ∙ get_or-map (reduced_for l k) (take x.count x.list) i d ∙ ap (reduced_for l k) (get_or-take x.count x.list i d q)

@@ -1,7 +1,9 @@
 -- Whether roles to be put in meet the reduced exclusions (the model's specs/Reduced.antt).
 -- Assumes nothing.
-use Rattle.std.specs.Prelude.{Bool, true, ◌&&◌, List, ℕ, zero, suc, ltb, get_or}
+use Rattle.std.specs.Prelude.{Bool, true, ◌&&◌, List, map, ℕ, zero, suc, ltb}
+use Rattle.std.specs.List.{list_all}
 use Rattle.model.specs.Sets.{inter, count}
+use Rattle.query_reduced.specs.declared.reduced.ReducedExclusion.{ReducedExclusion}
 
 -- fewer than n members of the mask are in s
 unfoldable pub fits : ℕ → ℕ → ℕ → Bool
@@ -12,7 +14,14 @@ unfoldable pub all_below : ℕ → (ℕ → Bool) → Bool
 all_below zero f = true
 all_below (suc n) f = all_below n f && f n
 
--- each of the n exclusions, by its mask and its own n, is met by the roles s
-unfoldable pub reduced_met : List ℕ → List ℕ → ℕ → ℕ → Bool
-unfolding all_below fits
-reduced_met masks ns n s = all_below n (λ k. fits (get_or masks k 0) (get_or ns k 0) s)
+-- each of the exclusions, by its members and its own n, is met by the roles s
+unfoldable pub reduced_met : List ReducedExclusion → ℕ → Bool
+unfolding fits
+reduced_met xs s = list_all (λ x. fits x.members x.n s) xs
+
+-- the exclusions' members, and their ns
+abbrev pub masks_of : List ReducedExclusion → List ℕ
+masks_of xs = map (λ x. x.members) xs
+
+abbrev pub ns_of : List ReducedExclusion → List ℕ
+ns_of xs = map (λ x. x.n) xs

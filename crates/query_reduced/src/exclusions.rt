@@ -1,21 +1,22 @@
 // The exclusions reduced, once per ask, to what roles put in for one session may still add (000, Theorem 4.4.1).
-ghost use Rattle.std.specs.Prelude.{◌≡◌, ◌≤◌, ◌<◌, length};
+ghost use Rattle.std.specs.Prelude.{◌≡◌, ◌≤◌, ◌<◌};
 ghost use Rattle.model.specs.Line.{SESSIONS, active_in as active_in_of, others};
 ghost use Rattle.model.specs.Reduced.{stay, mask_of, reduced_n as reduced_n_of};
-ghost use Rattle.exclusion_rows.specs.Rows.{exclusions_in};
-ghost use Rattle.query_reduced.specs.Reduction.{Reduces};
+ghost use Rattle.exclusion_rows.specs.Table.{exclusions_of};
+ghost use Rattle.query_reduced.specs.Reduction.{reduced_by, listed, Reduces};
 
-use exclusion_rows::exclusion_of;
+use crate::reduced::{Reduced, ReducedExclusion};
+use exclusion_rows::{ExclusionTable, exclusion_of};
 use ledger::sound::active_in;
 use model::{Kind, Line, SESSIONS, Session};
 
-// Each exclusion by the members that are not counted yet and by its n less those that are,
-// fewer than which may still join: the first `count` of both lists.
-#[derive(Clone, Copy)]
-pub struct Reduced {
-    pub masks: [u64; 32],
-    pub ns: [u32; 32],
-    pub count: usize,
+impl Reduced {
+    // The reduced exclusions as a slice.
+    pub fn list(&self) -> &[ReducedExclusion]
+        ensures { result.now ≡ listed self.now }
+    {
+        &self.rows[..self.count]
+    }
 }
 
 // The roles active in the sessions other than session k.
@@ -63,29 +64,30 @@ fn reduced_n(members: u64, n: u8, base: u64) -> u32
     0
 }
 
+// An exclusion, where `base` is what stays counted for its kind.
+fn reduced_by(members: u64, n: u8, base: u64) -> ReducedExclusion
+    ensures { result ≡ reduced_by members n base }
+{
+    ReducedExclusion {
+        members: mask_of(members, base),
+        n: reduced_n(members, n, base),
+    }
+}
+
 // The exclusions, for roles to be put in for session k of the line.
-pub fn reduce(xs: &[[u64; 2]; 32], count: usize, line: Line, k: usize) -> Reduced
-    requires { (count ≤ 32) × (length xs.now ≡ 32) × (k < SESSIONS) }
-    ensures { (result.count ≡ count) × (Reduces (exclusions_in xs.now count) line k result.masks result.ns) }
+pub fn reduce(xs: &ExclusionTable, line: Line, k: usize) -> Reduced
+    requires { k < SESSIONS }
+    ensures { (result.count ≡ xs.now.count) × (Reduces (exclusions_of xs.now) line k (listed result)) }
 {
     let sessions = line.sessions;
     let elsewhere = active_elsewhere(sessions, k);
     let own = sessions[k].history;
-    let user = line.history;
-    let mut masks = [0u64; 32];
-    let mut ns = [0u32; 32];
-    let mut i: usize = 0;
-    while i < count {
-        let x = exclusion_of(xs[i]);
-        let kind = x.kind;
-        let base = staying(kind, elsewhere, own, user);
-        masks[i] = mask_of(x.members, base);
-        ns[i] = reduced_n(x.members, x.n, base);
-        i += 1;
+    let mut rows = [ReducedExclusion { members: 0, n: 0 }; 32];
+    let count = xs.count;
+    for i in 0..count {
+        let x = exclusion_of(xs.rows[i]);
+        let base = staying(x.kind, elsewhere, own, line.history);
+        rows[i] = reduced_by(x.members, x.n, base);
     }
-    Reduced {
-        masks: masks,
-        ns: ns,
-        count: count,
-    }
+    Reduced { rows, count }
 }

@@ -3,3 +3,4 @@
 
 pub mod exclusions; // exclusions.rt: the exclusions reduced to what may still join
 pub mod met; // met.rt: whether roles meet the reduced exclusions
+pub mod reduced; // reduced.rt: the reduced exclusions

@@ -12,9 +12,9 @@ unfoldable pub outcome : List ℕ → List ℕ → ℕ → List ℕ → List (Li
 outcome image ledger calls text ls = text ++ printed_for image ledger (calls + 1) ls
 
 -- there is a byte to read and room for a line, and the calls in the rest of the chunk can be counted in 64 bits
-abbrev pub Ready : List ℕ → List ℕ → List ℕ → Place → Type 0
-Ready line chunk out p =
-    (length line ≡ 174) × (p.kept ≤ 174) × (p.next < length chunk) × (p.filled + 160 ≤ length out)
+abbrev pub Ready : List ℕ → List ℕ → Place → Type 0
+Ready chunk out p =
+    (p.kept ≤ 174) × (p.next < length chunk) × (p.filled + 160 ≤ length out)
     × (p.calls + length chunk ≤ 18446744073709551615 + p.next)
 
 -- the lines of a chunk are answered from one place to another: whatever comes behind the chunk, the same is printed in

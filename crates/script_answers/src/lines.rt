@@ -19,12 +19,12 @@ pub struct Place {
 pub fn answer_lines(
     image: &[u8],
     ledger: &mut [u8],
-    line: &mut [u8],
+    line: &mut [u8; 174],
     chunk: &[u8],
     out: &mut [u8],
     p: Place,
 ) -> Place
-    requires { Ready line.old chunk.now out.old p }
+    requires { Ready chunk.now out.old p }
     ensures { AnswersLines image.now chunk.now line.old ledger.old out.old p
         line.new ledger.new out.new result }
 {
@@ -32,6 +32,7 @@ pub fn answer_lines(
     let mut kept = p.kept;
     let mut calls = p.calls;
     let mut filled = p.filled;
+    // A turn takes a line, as long as there is room for its answer: no number is counted.
     while 160 <= out.len() - filled {
         let begun = gather(line, kept, chunk, next);
         kept = begun.kept;
@@ -62,12 +63,12 @@ pub fn answer_lines(
 pub fn answer_last(
     image: &[u8],
     ledger: &mut [u8],
-    line: &[u8],
+    line: &[u8; 174],
     kept: usize,
     calls: u64,
     out: &mut [u8],
 ) -> usize
-    requires { (length line.now ≡ 174) × (kept ≤ 174) × (160 ≤ length out.old) × (calls < 18446744073709551615) }
+    requires { (kept ≤ 174) × (160 ≤ length out.old) × (calls < 18446744073709551615) }
     ensures { (result ≤ length out.new)
         × (take result out.new ≡ outcome image.now ledger.old calls [] (lines_from (take kept line.now) [])) }
 {

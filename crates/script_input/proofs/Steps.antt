@@ -2,7 +2,7 @@
 -- Assumes nothing.
 use mathlib.Core.Path.{◌≡◌, refl, sym, ap, ◌∙◌}
 use mathlib.Core.List.{List, [], ◌∷◌, ◌++◌}
-use Prim.Native.Nat.{ℕ, zero, suc, ◌+◌, ◌-◌, ◌*◌, ◌≤◌, ◌<◌}
+use Prim.Native.Nat.{ℕ, zero, suc, ◌+◌, ◌*◌, ◌≤◌, ◌<◌}
 use native.Mathlib.Numerals.{add-one}
 use native.Mathlib.Omega.{arith}
 use lib.ListN.{length, get_or, set, take, drop, replicate, length-replicate}
@@ -117,7 +117,5 @@ unfolding first_ledger
 ledger_zeros (Accepted h) = ap zeros (sym (length-replicate {A = ℕ} (line_size SESSIONS * h.users) 0))
 ledger_zeros (Refused n place) = refl
 
-pub first_zeros : (image : List ℕ) (k n : ℕ) → k ≡ length (first_ledger (judge image)) → k ≤ n → take (k - 0) (zeros n) ≡ first_ledger (judge image)
-first_zeros image k n e h =
-    let z : k - 0 ≡ k = omega arith in
-    ap (λ x. take x (zeros n)) z ∙ zeros_taken k n h ∙ ap zeros e ∙ sym (ledger_zeros (judge image))
+pub first_zeros : (image : List ℕ) (k n : ℕ) → k ≡ length (first_ledger (judge image)) → k ≤ n → take k (zeros n) ≡ first_ledger (judge image)
+first_zeros image k n e h = zeros_taken k n h ∙ ap zeros e ∙ sym (ledger_zeros (judge image))

@@ -7,10 +7,16 @@ ghost use Rattle.script_input.specs.Kept.{keeping};
 ghost use Rattle.script_input.specs.Buffers.{Gathers};
 
 use ledger::bytes::LINE;
-use model::Checked;
 
 // The bytes of the longest ledger: a line for each of 64 users.
 pub const LEDGER: usize = 64 * LINE;
+
+// A run between two chunks: how many bytes of the line that is begun are kept, and how many calls are answered.
+#[derive(Clone, Copy)]
+pub struct Run {
+    pub kept: usize,
+    pub calls: u64,
+}
 
 // A line that is begun: the place of the next byte in the chunk, and how many bytes of the line are kept.
 #[derive(Clone, Copy)]
@@ -23,16 +29,15 @@ pub struct Begun {
 pub fn ledger_length(image: &[u8]) -> usize
     ensures { (result ≡ length (first_ledger (judge image.now))) × (result ≤ 64 * (16 + 16 * SESSIONS)) }
 {
-    let checked = tables::judge::judge(image);
-    let Checked::Accepted(h) = checked else {
+    let Ok(head) = tables::judge::judge(image) else {
         return 0;
     };
-    LINE * (h.users as usize)
+    LINE * (head.users as usize)
 }
 
 // Keeps one byte of a line, unless 174 are kept already, and returns how many are.
-fn keep(line: &mut [u8], kept: usize, c: u8) -> usize
-    requires { (length line.old ≡ 174) × (kept ≤ 174) }
+fn keep(line: &mut [u8; 174], kept: usize, c: u8) -> usize
+    requires { kept ≤ 174 }
     ensures { (result ≤ 174) × (take result line.new ≡ keeping (take kept line.old) c) }
 {
     if kept < 174 {
@@ -43,14 +48,15 @@ fn keep(line: &mut [u8], kept: usize, c: u8) -> usize
 }
 
 // Keeps the bytes of a chunk from `next` on, up to the newline that ends the line or to the end of the chunk.
-pub fn gather(line: &mut [u8], kept: usize, chunk: &[u8], next: usize) -> Begun
-    requires { (length line.old ≡ 174) × (kept ≤ 174) × (next ≤ length chunk.now) }
+pub fn gather(line: &mut [u8; 174], kept: usize, chunk: &[u8], next: usize) -> Begun
+    requires { (kept ≤ 174) × (next ≤ length chunk.now) }
     ensures { Gathers chunk.now next line.old kept line.new result }
 {
     let mut kept = kept;
+    // The bytes are walked by index: where the newline stands is part of the answer.
     for i in next..chunk.len() {
         let c = chunk[i];
-        if c == 10 {
+        if c == b'\n' {
             return Begun { next: i, kept };
         }
         kept = keep(line, kept, c);

@@ -1,81 +1,68 @@
--- How the search for a word's end goes along a line.
+-- The first word of a line, and the words behind it.
 -- Assumes nothing.
-use mathlib.Core.Path.{◌≡◌, refl, sym, ap, ◌∙◌}
-use mathlib.Core.Bool.{Bool, true, false}
-use mathlib.Core.List.{List, [], ◌∷◌, ◌++◌, append_assoc, append-nil}
-use Prim.Native.Nat.{ℕ, suc, ◌+◌, ◌-◌, ◌≤◌, ◌<◌}
-use native.Mathlib.Nat.{sub_self}
-use native.Mathlib.Numerals.{add-one}
+use mathlib.Core.Path.{◌≡◌, refl, sym, ◌∙◌}
+use mathlib.Core.Bool.{Bool, true, false, not, cond}
+use mathlib.Core.List.{List, [], ◌∷◌}
+use Prim.Native.Nat.{ℕ, suc, ◌+◌, ◌-◌}
 use native.Mathlib.Omega.{arith}
-use lib.Dec.{eqb}
-use lib.ListN.{length, get_or, drop, drop_of_length-le, length-drop}
-use lib.Seq.{drop-cons, take-suc, get_or-drop}
-use borrow.Author.Tests.{eq-eqb, ne_eqb, lt-ltb, le-ltb}
-use Rattle.model.specs.Tests.{pick}
+use lib.Dec.{eqb, ltb}
+use lib.ListN.{length, take, drop, length-drop}
+use lib.Seq.{take_all}
+use borrow.Table.Steps.{cases}
+use borrow.Author.Tests.{lt-ltb, le-ltb, ltb-true, ltb-false}
+use Rattle.std.proofs.Common.{Option, Some, None}
+use Rattle.std.specs.List.{position_or_len}
+use Rattle.std.proofs.lemmas.Option.{cond_some, none-some}
 use Rattle.model_script.specs.Script.{begun, words}
-use Rattle.script_lines.specs.Cutting.{part, words_behind}
+use Rattle.script_lines.specs.Cutting.{nothing_left}
 
--- the words with p in front of the first
-unfoldable pub joined : List ℕ → List (List ℕ) → List (List ℕ)
-joined p [] = p ∷ []
-joined p (w ∷ ws) = (p ++ w) ∷ ws
+abbrev is_blank : ℕ → Bool
+is_blank c = eqb c 32
 
-joined-begun : (p : List ℕ) (c : ℕ) (ws : List (List ℕ)) → joined p (begun c ws) ≡ joined (p ++ (c ∷ [])) ws
-unfolding joined begun
-joined-begun p c [] = refl
-joined-begun p c (w ∷ ws) = ap (λ x. x ∷ ws) (sym (append_assoc p (c ∷ []) w))
+-- where the first blank stands, or how long the line is
+abbrev blank : List ℕ → ℕ
+blank xs = position_or_len is_blank xs
 
-nothing-begun : (c : ℕ) (ws : List (List ℕ)) → joined [] (begun c ws) ≡ begun c ws
-unfolding joined begun
-nothing-begun c [] = refl
-nothing-begun c (w ∷ ws) = refl
+begun-first : (c : ℕ) (w : List ℕ) (ws vs : List (List ℕ)) → vs ≡ w ∷ ws → begun c vs ≡ (c ∷ w) ∷ ws
+unfolding begun
+begun-first c w ws vs e = rw e
 
-nothing-joined : (xs : List ℕ) → joined [] (words xs) ≡ words xs
-unfolding joined words
-nothing-joined [] = refl
-nothing-joined (c ∷ cs) = go (eqb c 32)
+ltb_more : (a b : ℕ) → ltb (suc a) (suc b) ≡ ltb a b
+ltb_more a b =
+    cases (ltb a b) (λ t. lt-ltb (suc a) (suc b) (omega (arith, ltb-true a b t)) ∙ sym t)
+    (λ f. le-ltb (suc a) (suc b) (omega (arith, ltb-false a b f)) ∙ sym f)
+
+-- the words of a line by its first blank
+first_word : (xs : List ℕ) → words xs ≡ take (blank xs) xs ∷ cond (ltb (blank xs) (length xs)) (words (drop (blank xs + 1) xs)) []
+unfolding words
+first_word [] = refl
+first_word (c ∷ cs) = go (is_blank c) (first_word cs)
   where
-    go : (b : Bool) → joined [] (elim b [ true ↦ [] ∷ words cs | false ↦ begun c (words cs) ]) ≡ elim b [ true ↦ [] ∷ words cs | false ↦ begun c (words cs) ]
-    go true = refl
-    go false = nothing-begun c (words cs)
+    go : (b : Bool) → words cs ≡ take (blank cs) cs ∷ cond (ltb (blank cs) (length cs)) (words (drop (blank cs + 1) cs)) []
+        → elim b [ true ↦ [] ∷ words cs | false ↦ begun c (words cs) ]
+        ≡ take (cond (not b) (1 + blank cs) 0) (c ∷ cs)
+        ∷ cond (ltb (cond (not b) (1 + blank cs) 0) (suc (length cs))) (words (drop (cond (not b) (1 + blank cs) 0 + 1) (c ∷ cs))) []
+    go true h = rw (lt-ltb 0 (suc (length cs)) (omega arith))
+    go false h =
+        let e : 1 + blank cs ≡ suc (blank cs) = omega arith in
+        let f : suc (blank cs) + 1 ≡ suc (blank cs + 1) = omega arith in
+        begun-first c _ _ (words cs) h ∙ rw (e, f, ltb_more (blank cs) (length cs))
 
--- a blank ends a word, and another byte belongs to it
-at_blank : (c : ℕ) (cs : List ℕ) → c ≡ 32 → words (c ∷ cs) ≡ [] ∷ words cs
-unfolding words
-at_blank c cs e = rw (eq-eqb c 32 e, words)
+-- a line has a word, if only an empty one
+pub some_word : (xs : List ℕ) → None ≡ nothing_left (words xs)
+unfolding nothing_left
+some_word xs = rw (first_word xs)
 
-at_other : (c : ℕ) (cs : List ℕ) → (c ≡ 32 → ⊥) → words (c ∷ cs) ≡ begun c (words cs)
-unfolding words
-at_other c cs n = rw (ne_eqb c 32 n, words)
+module _ (xs : List ℕ) (r : Option ℕ) (e : r ≡ cond (ltb (blank xs) (length xs)) (Some (blank xs)) None) where
+  -- the line has a blank at k, and it ends the first word
+  pub word_ends : (k : ℕ) → r ≡ Some k → words xs ≡ take k xs ∷ words (take (length xs - (k + 1)) (drop (k + 1) xs))
+  word_ends k h =
+      let p = cond_some (ltb (blank xs) (length xs)) (blank xs) k (sym e ∙ h) in
+      let a = take_all (length xs - (k + 1)) (drop (k + 1) xs) (omega (arith, length-drop (k + 1) xs)) in
+      first_word xs ∙ rw (p.0, p.1, a)
 
--- the search begins
-pub search_begins : (line : List ℕ) (from : ℕ) → words (drop from line) ≡ joined (part line from from) (words (drop from line))
-search_begins line from = rw (sub_self from) (sym (nothing-joined (drop from line)))
-
-module _ (line : List ℕ) (from i : ℕ) (f : from ≤ i) (h : i < length line) where
-  -- a blank at i ends the word
-  pub search_ends : get_or line i 0 ≡ 32 → joined (part line from i) (words (drop i line)) ≡ part line from i ∷ words_behind line i
-  unfolding joined words_behind pick
-  search_ends e =
-      ap (λ x. joined (part line from i) (words x)) (drop-cons line i 0 h) ∙ ap (joined (part line from i)) (at_blank _ (drop (suc i) line) e)
-      ∙ rw (lt-ltb i (length line) h, add-one i, append-nil (part line from i))
-
-  -- another byte is the word's, and the search goes on
-  pub search_goes_on :
-      (get_or line i 0 ≡ 32 → ⊥) → joined (part line from i) (words (drop i line)) ≡ joined (part line from (i + 1)) (words (drop (i + 1) line))
-  search_goes_on n =
-      ap (λ x. joined (part line from i) (words x)) (drop-cons line i 0 h) ∙ ap (joined (part line from i)) (at_other _ (drop (suc i) line) n)
-      ∙ joined-begun (part line from i) (get_or line i 0) (words (drop (suc i) line)) ∙ ap (λ x. joined x (words (drop (suc i) line))) longer
-      ∙ rw (add-one i)
-    where
-      longer : part line from i ++ (get_or line i 0 ∷ []) ≡ part line from (i + 1)
-      longer =
-          let l : i - from < length (drop from line) = rw (length-drop from line) (omega arith) in
-          let e : i + 1 - from ≡ suc (i - from) = omega arith in
-          let s : from + (i - from) ≡ i = omega arith in
-          rw (e, take-suc (drop from line) (i - from) 0 l, get_or-drop from line (i - from) 0, s)
-
--- the end of the line ends the word
-pub search_at_end : (line : List ℕ) (from i : ℕ) → length line ≤ i → joined (part line from i) (words (drop i line)) ≡ part line from i ∷ words_behind line i
-unfolding joined words_behind pick words
-search_at_end line from i h = rw (drop_of_length-le line h, le-ltb i (length line) h, append-nil (part line from i))
+  -- the line has no blank, and is its only word
+  pub last_word : r ≡ None → words xs ≡ xs ∷ []
+  last_word h =
+      cases (ltb (blank xs) (length xs)) (λ t. absurd (none-some (blank xs) (sym h ∙ e ∙ rw t)))
+      (λ f. first_word xs ∙ rw (f, take_all (blank xs) xs (ltb-false _ _ f)))

@@ -1,71 +1,91 @@
 -- Digits and the numbers that they make.
 -- Assumes nothing.
 use mathlib.Core.Path.{◌≡◌, refl, ap, ◌∙◌}
-use mathlib.Core.Bool.{true, false}
+use mathlib.Core.Bool.{Bool, true, false, ◌&&◌}
 use mathlib.Core.List.{List, [], ◌∷◌, ◌++◌}
 use Prim.Native.Nat.{ℕ, zero, suc, ◌+◌, ◌-◌, ◌*◌, ◌/◌, ◌%◌, ◌^◌, ◌≤◌, ◌<◌}
 use native.Mathlib.Nat.{pow-suc, pow-le-pow_right}
 use native.Mathlib.Numerals.{add-one}
 use native.Mathlib.Omega.{arith}
 use lib.Dec.{leb, ltb, lit<}
-use lib.ListN.{length, get_or, take, drop, replicate, drop_of_length-le}
+use lib.ListN.{length, get_or, take, drop, drop_of_length-le}
 use lib.Seq.{drop-cons, take-suc}
 use borrow.Table.Steps.{cases}
-use borrow.Author.Tests.{lt-ltb, le-ltb, le-leb, lt-leb, ltb-true, ltb-false, leb-true}
+use borrow.Author.Tests.{lt-ltb, le-leb, lt-leb, ltb-true, ltb-false, leb-true}
 use Rattle.model.specs.Tests.{pick, between, all}
 use Rattle.model_laws.proofs.Bools.{and_l, and_r, pick-case}
 use Rattle.model.specs.Bytes.{bytes_of}
-use Rattle.script_numerals.specs.Numbers.{number_of, bound_of}
+use Rattle.std.proofs.Common.{Some, None}
+use Rattle.std.specs.Option.{unwrap_or}
+use Rattle.std.specs.List.{list_all}
+use Rattle.script_numerals.specs.Numbers.{digit_value, number_of, bound_of}
 use Rattle.model_script.specs.Script.{digit, is_digit, is_numeral, value_from, value}
 
 -- ---- the value of a digit, by the ranges of bytes
 
+pub digit≤16 : (c : ℕ) → digit c ≤ 16
+unfolding digit
+digit≤16 c =
+    pick-case (λ x. x ≤ 16) (between 48 c 57) (c - 48) _ (λ e. omega (arith, leb-true c 57 (and_r (leb 48 c) _ e)))
+    (λ f. pick-case (λ x. x ≤ 16) (between 65 c 70) (c - 55) _ (λ e. omega (arith, leb-true c 70 (and_r (leb 65 c) _ e)))
+    (λ g. pick-case (λ x. x ≤ 16) (between 97 c 102) (c - 87) 16 (λ e. omega (arith, leb-true c 102 (and_r (leb 97 c) _ e))) (λ h. omega arith)))
+
 module _ (c : ℕ) where
-  pub digit_low : c < 48 → 16 ≡ digit c
-  unfolding digit pick
-  digit_low h = simp (lt-leb 48 c h, lt-leb 65 c (omega arith), lt-leb 97 c (omega arith))
+  found : (d : ℕ) → d < 16 → d ≡ digit c → Some d ≡ digit_value c
+  unfolding digit_value is_digit pick
+  found d h e = rw (← e) (simp (lt-ltb d 16 h))
 
-  pub digit-figure : 48 ≤ c → c ≤ 57 → c - 48 ≡ digit c
-  unfolding digit pick
-  digit-figure h k = simp (le-leb 48 c h, le-leb c 57 k)
+  missed : 16 ≡ digit c → None ≡ digit_value c
+  unfolding digit_value is_digit pick
+  missed e = rw (← e)
 
-  pub digit-between : 57 < c → c < 65 → 16 ≡ digit c
+  pub digit_low : c < 48 → None ≡ digit_value c
   unfolding digit pick
-  digit-between h k = simp (le-leb 48 c (omega arith), lt-leb c 57 h, lt-leb 65 c k, lt-leb 97 c (omega arith))
+  digit_low h = missed (simp (lt-leb 48 c h, lt-leb 65 c (omega arith), lt-leb 97 c (omega arith)))
 
-  pub digit_large : 65 ≤ c → c ≤ 70 → c - 55 ≡ digit c
+  pub digit-figure : 48 ≤ c → c ≤ 57 → Some (c - 48) ≡ digit_value c
   unfolding digit pick
-  digit_large h k = simp (le-leb 48 c (omega arith), lt-leb c 57 (omega arith), le-leb 65 c h, le-leb c 70 k)
+  digit-figure h k = found (c - 48) (omega arith) (simp (le-leb 48 c h, le-leb c 57 k))
 
-  pub digit_amid : 70 < c → c < 97 → 16 ≡ digit c
+  pub digit-between : 57 < c → c < 65 → None ≡ digit_value c
   unfolding digit pick
-  digit_amid h k = simp (le-leb 48 c (omega arith), lt-leb c 57 (omega arith), le-leb 65 c (omega arith), lt-leb c 70 h, lt-leb 97 c k)
+  digit-between h k = missed (simp (le-leb 48 c (omega arith), lt-leb c 57 h, lt-leb 65 c k, lt-leb 97 c (omega arith)))
 
-  pub digit-small : 97 ≤ c → c ≤ 102 → c - 87 ≡ digit c
+  pub digit_large : 65 ≤ c → c ≤ 70 → Some (c - 65 + 10) ≡ digit_value c
+  unfolding digit pick
+  digit_large h k =
+      let e : c - 65 + 10 ≡ c - 55 = omega arith in
+      found (c - 65 + 10) (omega arith) (e ∙ simp (le-leb 48 c (omega arith), lt-leb c 57 (omega arith), le-leb 65 c h, le-leb c 70 k))
+
+  pub digit_amid : 70 < c → c < 97 → None ≡ digit_value c
+  unfolding digit pick
+  digit_amid h k =
+      missed (simp (le-leb 48 c (omega arith), lt-leb c 57 (omega arith), le-leb 65 c (omega arith), lt-leb c 70 h, lt-leb 97 c k))
+
+  pub digit-small : 97 ≤ c → c ≤ 102 → Some (c - 97 + 10) ≡ digit_value c
   unfolding digit pick
   digit-small h k =
-      simp (le-leb 48 c (omega arith), lt-leb c 57 (omega arith), le-leb 65 c (omega arith), lt-leb c 70 (omega arith), le-leb 97 c h, le-leb c 102 k)
+      let e : c - 97 + 10 ≡ c - 87 = omega arith in
+      found (c - 97 + 10) (omega arith)
+      (e ∙ simp (le-leb 48 c (omega arith), lt-leb c 57 (omega arith), le-leb 65 c (omega arith), lt-leb c 70 (omega arith), le-leb 97 c h, le-leb c 102 k))
 
-  pub digit_high : 102 < c → 16 ≡ digit c
+  pub digit_high : 102 < c → None ≡ digit_value c
   unfolding digit pick
   digit_high h =
-      simp
-      (le-leb 48 c (omega arith), lt-leb c 57 (omega arith), le-leb 65 c (omega arith), lt-leb c 70 (omega arith), le-leb 97 c (omega arith), lt-leb c 102 h)
+      missed
+      (simp
+      (le-leb 48 c (omega arith), lt-leb c 57 (omega arith), le-leb 65 c (omega arith), lt-leb c 70 (omega arith), le-leb 97 c (omega arith), lt-leb c 102 h))
 
--- ---- digits of a base, one after the other
+  -- where there is no value, the digit counts 16
+  pub weighed : unwrap_or (digit_value c) 16 ≡ digit c
+  unfolding digit_value is_digit pick
+  weighed = cases (ltb (digit c) 16) (λ t. rw t) (λ f. rw f (omega (arith, ltb-false _ _ f, digit≤16 c)))
 
-module _ (b : ℕ) (w : List ℕ) (i : ℕ) where
-  pub digits-stop : i < length w → b ≤ digit (get_or w i 0) → false ≡ all (is_digit b) (drop i w)
-  unfolding all is_digit
-  digits-stop h d = rw (drop-cons w i 0 h) (simp (le-ltb _ _ d))
-
-  pub digits_go_on : i < length w → digit (get_or w i 0) < b → all (is_digit b) (drop (i + 1) w) ≡ all (is_digit b) (drop i w)
-  unfolding all is_digit
-  digits_go_on h d = rw (drop-cons w i 0 h, add-one i) (simp (lt-ltb _ _ d))
-
-  pub digits_end : length w ≤ i → true ≡ all (is_digit b) (drop i w)
-  unfolding all
-  digits_end h = rw (drop_of_length-le w h)
+-- every member passes the test, as the library and as the model say it
+pub all_same : (f : ℕ → Bool) (xs : List ℕ) → list_all f xs ≡ all f xs
+unfolding all
+all_same f [] = refl
+all_same f (x ∷ xs) = ap (λ b. f x && b) (all_same f xs)
 
 -- ---- numerals, by their length
 
@@ -93,13 +113,21 @@ module _ (b most : ℕ) (w : List ℕ) where
 -- ---- a word read
 
 module _ (w : List ℕ) where
-  pub number_right : (v : ℕ) → is_numeral 10 9 w ≡ true → v ≡ value 10 w → record { right = true; value = v } ≡ number_of w
+  pub number_right : is_numeral 10 9 w ≡ true → Some (value 10 w) ≡ number_of w
   unfolding number_of pick
-  number_right v e h = rw (e, h)
+  number_right e = rw e
 
-  pub number_wrong : is_numeral 10 9 w ≡ false → record { right = false; value = 0 } ≡ number_of w
+  pub number_wrong : is_numeral 10 9 w ≡ false → None ≡ number_of w
   unfolding number_of pick
   number_wrong e = rw e
+
+  pub bound_right : is_numeral 16 64 w ≡ true → Some (bytes_of 32 (value 16 w)) ≡ bound_of w
+  unfolding bound_of pick
+  bound_right e = rw e
+
+  pub bound_wrong : is_numeral 16 64 w ≡ false → None ≡ bound_of w
+  unfolding bound_of pick
+  bound_wrong e = rw e
 
 -- ---- the number so far, with a digit more
 
@@ -111,13 +139,6 @@ module _ (b : ℕ) (w : List ℕ) (v i : ℕ) where
   pub value_end : length w ≤ i → v ≡ value_from b v (drop i w)
   unfolding value_from
   value_end h = rw (drop_of_length-le w h)
-
-pub digit≤16 : (c : ℕ) → digit c ≤ 16
-unfolding digit
-digit≤16 c =
-    pick-case (λ x. x ≤ 16) (between 48 c 57) (c - 48) _ (λ e. omega (arith, leb-true c 57 (and_r (leb 48 c) _ e)))
-    (λ f. pick-case (λ x. x ≤ 16) (between 65 c 70) (c - 55) _ (λ e. omega (arith, leb-true c 70 (and_r (leb 65 c) _ e)))
-    (λ g. pick-case (λ x. x ≤ 16) (between 97 c 102) (c - 87) 16 (λ e. omega (arith, leb-true c 102 (and_r (leb 97 c) _ e))) (λ h. omega arith)))
 
 -- i digits make a number below 2 times 10 to the power i, digit or not
 pub grows : (v d i : ℕ) → v + 2 ≤ 2 * 10 ^ i → d ≤ 16 → 10 * v + d + 2 ≤ 2 * 10 ^ (i + 1)
@@ -185,12 +206,3 @@ module _ (w : List ℕ) (m : ℕ) (l : m ≤ length w) (a : all (is_digit 16) w 
           let v = value_by w m (m - 1) (omega arith) (omega arith) in
           let u = value_by w (m - 1) (m - 2) (omega arith) (omega arith) in
           omega (arith, v, u, digit-of-all 16 w (m - 1) a (omega arith), digit-of-all 16 w (m - 2) a (omega arith))
-
-module _ (w : List ℕ) where
-  pub bound_right : (bs : List ℕ) → is_numeral 16 64 w ≡ true → bs ≡ bytes_of 32 (value 16 w) → record { right = true; bytes = bs } ≡ bound_of w
-  unfolding bound_of pick
-  bound_right bs e h = rw (e, h)
-
-  pub bound_wrong : is_numeral 16 64 w ≡ false → record { right = false; bytes = replicate 32 0 } ≡ bound_of w
-  unfolding bound_of pick
-  bound_wrong e = rw e

@@ -1,3 +1,2 @@
 -- The laws of the forms of a line.
 pub mod FormLaws
-pub mod ReadLaws

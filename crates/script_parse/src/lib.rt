@@ -3,22 +3,32 @@
 
 pub mod parse;
 
-// The form of a line, with its numbers: user, session, and the objectives of permissions and roles. The bounds of an
-// ask stand beside it.
+// The call that a line is: its user and session, and for an ask the bounds and the objectives of permissions and roles.
 #[derive(Clone, Copy)]
-pub enum Form {
-    Open(u64),
-    Close(u64, u64),
-    Show(u64, u64),
-    ShortAsk(u64, u64),
-    Ask(u64, u64, u64, u64),
-    Unreadable,
-}
-
-// A line as the call that it is.
-#[derive(Clone, Copy)]
-pub struct Parsed {
-    pub form: Form,
-    pub lower: [u8; 32],
-    pub upper: [u8; 32],
+pub enum Call {
+    Open {
+        user: u64,
+    },
+    Close {
+        user: u64,
+        session: u64,
+    },
+    Show {
+        user: u64,
+        session: u64,
+    },
+    ShortAsk {
+        user: u64,
+        session: u64,
+        lower: [u8; 32],
+        upper: [u8; 32],
+    },
+    Ask {
+        user: u64,
+        session: u64,
+        lower: [u8; 32],
+        upper: [u8; 32],
+        first: u64,
+        second: u64,
+    },
 }

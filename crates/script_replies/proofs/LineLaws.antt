@@ -9,7 +9,8 @@ use Rattle.model.specs.Bytes.{number}
 use Rattle.model.specs.Line.{SESSIONS}
 use Rattle.model.specs.Session.{Reply, refuse}
 use Rattle.model.specs.Run.{Call, Event, step, returned, filled_with, answered}
-use Rattle.script_parse.specs.declared.Parsed.{Parsed}
+use Rattle.std.proofs.Common as code
+use Rattle.script_parse.specs.declared.Call as parsed
 use Rattle.model_script.specs.Script.{parse, line_of, printed, answer_by, answer_to}
 use Rattle.script_parse.specs.Reading.{call_in}
 use Rattle.model_script.proofs.ReplyLaws.{step_small, number-returned, extra_returned}
@@ -49,8 +50,8 @@ parts image ledger (some c) =
     let s = step_small SESSIONS image ledger c in
     record { number_is = number-returned r s; extra_is = extra_returned r s }
 
-module _ (image ledger line : List ℕ) (p : Parsed) (n code : ℕ) (after answer : List ℕ) (q : call_in p ≡ parse line)
-    (a : Answers (answer_by image ledger (call_in p)) code after zeros answer) where
+module _ (image ledger line : List ℕ) (p : code.Option parsed.Call) (n sent : ℕ) (after answer : List ℕ) (q : call_in p ≡ parse line)
+    (a : Answers (answer_by image ledger (call_in p)) sent after zeros answer) where
   -- the call of the parsed line is the line's
   event_is : answer_by image ledger (call_in p) ≡ answer_to image ledger line
   unfolding answer_to
@@ -60,11 +61,11 @@ module _ (image ledger line : List ℕ) (p : Parsed) (n code : ℕ) (after answe
   ledger_after = a.bytes ∙ ap (λ (x : Event). x.ledger) event_is
 
   -- the number of its answer
-  pub number-answered : code % 256 ≡ (answer_to image ledger line).reply.number
+  pub number-answered : sent % 256 ≡ (answer_to image ledger line).reply.number
   unfolding returned
   number-answered = ap (λ x. x % 256) a.number ∙ (parts image ledger (call_in p)).number_is ∙ ap (λ (x : Event). x.reply.number) event_is
 
-  line-is : line_of n (code % 256) (code / 256) (number (take 8 answer)) (number (drop 8 answer)) ≡ printed n (answer_to image ledger line).reply
+  line-is : line_of n (sent % 256) (sent / 256) (number (take 8 answer)) (number (drop 8 answer)) ≡ printed n (answer_to image ledger line).reply
   unfolding printed answered
   line-is =
       let r = (answer_by image ledger (call_in p)).reply in
@@ -73,6 +74,6 @@ module _ (image ledger line : List ℕ) (p : Parsed) (n code : ℕ) (after answe
       rw (a.number, a.buffer, k.number_is, k.extra_is, roles_filled r.filled, permissions_filled r.filled) e
 
   pub line-written : (before out : List ℕ) (at next : ℕ)
-      → Stores before at (line_of n (code % 256) (code / 256) (number (take 8 answer)) (number (drop 8 answer))) out next
+      → Stores before at (line_of n (sent % 256) (sent / 256) (number (take 8 answer)) (number (drop 8 answer))) out next
       → Stores before at (printed n (answer_to image ledger line).reply) out next
   line-written before out at next w = puts_as line-is w

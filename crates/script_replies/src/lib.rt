@@ -12,9 +12,9 @@ pub fn answer(image: &[u8], ledger: &mut [u8], line: &[u8]) -> u64
         × (result < 256)
         × (ledger.new ≡ (answer_to image.now ledger.old line.now).ledger) }
 {
-    let p = script_parse::parse::parse(line);
+    let parsed = script_parse::parse::parse(line);
     let mut answer = [0u8; 40];
-    let code = script_calls::call(image, ledger, p, &mut answer);
+    let code = script_calls::call(image, ledger, parsed, &mut answer);
     code % 256
 }
 
@@ -33,8 +33,8 @@ pub fn respond(
         × (result ≤ at + 160)
         × (ledger.new ≡ (answer_to image.now ledger.old line.now).ledger) }
 {
-    let p = script_parse::parse::parse(line);
+    let parsed = script_parse::parse::parse(line);
     let mut answer = [0u8; 40];
-    let code = script_calls::call(image, ledger, p, &mut answer);
+    let code = script_calls::call(image, ledger, parsed, &mut answer);
     script_output::put_returned(out, at, n, code, &answer)
 }

@@ -3,7 +3,7 @@
 use mathlib.Core.Path.{◌≡◌, refl, sym, ap, subst, ◌∙◌}
 use mathlib.Core.Bool.{Bool, true, false}
 use mathlib.Core.List.{List, [], ◌∷◌, ◌++◌}
-use Prim.Native.Nat.{ℕ, zero, suc, ◌+◌, ◌*◌, ◌/◌, ◌%◌, ◌^◌, ◌≤◌, ◌<◌}
+use Prim.Native.Nat.{ℕ, zero, suc, ◌+◌, ◌-◌, ◌*◌, ◌/◌, ◌%◌, ◌^◌, ◌≤◌, ◌<◌}
 use native.Mathlib.Nat.{add-zero, add-suc, suc-add, div-lt_self, div-lt_iff_lt-mul, pow-zero, pow-suc}
 use native.Mathlib.Omega.{arith}
 use lib.Dec.{ltb}
@@ -47,9 +47,9 @@ pub glyph-figure : (d : ℕ) → d < 10 → 48 + d ≡ glyph d
 unfolding glyph pick
 glyph-figure d h = rw (lt-ltb d 10 h)
 
-pub glyph_letter : (d : ℕ) → 10 ≤ d → 87 + d ≡ glyph d
+pub glyph_letter : (d : ℕ) → 10 ≤ d → 97 + (d - 10) ≡ glyph d
 unfolding glyph pick
-glyph_letter d h = rw (le-ltb d 10 h)
+glyph_letter d h = let e : 97 + (d - 10) ≡ 87 + d = omega arith in rw (e, le-ltb d 10 h)
 
 -- ---- numerals in a base of at least 2
 

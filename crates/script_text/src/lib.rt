@@ -1,6 +1,8 @@
 // Bytes and hexadecimal digits, written into a buffer from a place on. Each function returns the place behind its text.
 #![tactic(auto)]
 
+// The place is passed beside its buffer and the next one returned, so that a line's parts show where each ends.
+
 ghost use Rattle.std.specs.Prelude.{◌≡◌, [], ◌∷◌, ◌+◌, ◌≤◌, ◌<◌, length};
 ghost use Rattle.model_script.specs.Script.{glyph as glyph_of, numeral};
 ghost use Rattle.script_text.specs.Writing.{Stores, pair_of};
@@ -10,10 +12,10 @@ pub fn glyph(d: u8) -> u8
     requires { d < 16 }
     ensures { result ≡ glyph_of d }
 {
-    if d < 10 {
-        return 48 + d;
+    match d {
+        0..=9 => b'0' + d,
+        _ => b'a' + (d - 10),
     }
-    87 + d
 }
 
 // Writes one byte.

@@ -1,7 +1,16 @@
 -- The digits of a number by its bytes, how many digits a number has, and a whole line.
 -- Assumes nothing.
 use mathlib.Core.Path.{◌≡◌, refl, sym, ap, ◌∙◌}
+use mathlib.Core.Bool.{Bool, true, false, not, cond, true≢false}
 use mathlib.Core.List.{List, [], ◌∷◌, ◌++◌, append_assoc, append-nil}
+use lib.Dec.{eqb, ltb}
+use borrow.Table.Steps.{cases}
+use borrow.Author.Tests.{eqb-true, eqb-false, ltb-true, ltb-false}
+use Rattle.std.proofs.Common.{Some, None, reverse}
+use Rattle.std.proofs.lemmas.Option.{cond_some, none-some}
+use Rattle.std.specs.List.{position_or_len}
+use Rattle.std.proofs.lemmas.List.Sums.{fails_before_first, passes_at_first}
+use Rattle.std.proofs.lemmas.List.{get_or-reverse, length-reverse, get_or-take, get_or_default}
 use Prim.Native.Nat.{ℕ, zero, suc, ◌+◌, ◌-◌, ◌*◌, ◌/◌, ◌%◌, ◌^◌, ◌≤◌, ◌<◌}
 use native.Mathlib.Omega.{arith}
 use lib.ListN.{length, get_or, take, drop, length-drop}
@@ -11,7 +20,7 @@ use Rattle.model.specs.Bytes.{number}
 use Rattle.model_script.specs.Script.{glyph, numeral, line_of}
 use Rattle.script_text.specs.Writing.{Stores, pair_of}
 use Rattle.script_text.proofs.TextLaws.{puts-joined, puts_as, numeral-one, numeral_more, numeral-length, two≤10, two≤16}
-use Rattle.script_text_lines.specs.Pairs.{pairs_of, Highest}
+use Rattle.script_text_lines.specs.Pairs.{pairs_of, HighestAt}
 
 -- ---- hexadecimal numerals by bytes
 
@@ -46,37 +55,74 @@ bytes_numeral bs w (suc k) h p =
     ∙ ap (λ x. x ++ pairs_of k bs) (sym (numeral_pair (get_or bs k 0) (number (drop (suc k) bs)) (w k) p) ∙ ap (numeral 16) (sym e))
     ∙ bytes_numeral bs w k (omega arith) (omega (arith, e))
 
-module _ (bs : List ℕ) (k : ℕ) (h : Highest bs k) where
-  -- no byte but zeros
-  pub numeral_none : k < 1 → 48 ∷ [] ≡ numeral 16 (number bs)
-  unfolding glyph pick
-  numeral_none l =
-      let z : k ≡ 0 = omega arith in
-      let e : number bs ≡ 0 = rw z at h.zeros in
-      sym (ap (numeral 16) e ∙ numeral-one 16 two≤16 0 (omega arith))
+-- no byte but zeros
+pub numeral_none : (bs : List ℕ) → number bs ≡ 0 → 48 ∷ [] ≡ numeral 16 (number bs)
+unfolding glyph pick
+numeral_none bs e = sym (ap (numeral 16) e ∙ numeral-one 16 two≤16 0 (omega arith))
 
-  -- the highest byte, and the pairs of the others
-  pub numeral_some : ((i : ℕ) → get_or bs i 0 < 256) → 1 ≤ k → numeral 16 (get_or bs (k - 1) 0) ++ pairs_of (k - 1) bs ≡ numeral 16 (number bs)
-  numeral_some w l =
-      let s : suc (k - 1) ≡ k = omega arith in
-      let z : number (drop (suc (k - 1)) bs) ≡ 0 = rw s h.zeros in
-      let i : k - 1 < length bs = omega (arith, h.inside) in
-      let e : number (drop (k - 1) bs) ≡ get_or bs (k - 1) 0 = number-drop bs (k - 1) i ∙ omega arith in
-      let q : 0 < number (drop (k - 1) bs) = rw e (h.some_byte (omega arith)) in
-      rw e at (bytes_numeral bs w (k - 1) (omega arith) q)
+-- the highest byte, and the pairs of the others
+pub numeral_some :
+    (bs : List ℕ) (k : ℕ) → HighestAt bs k → ((i : ℕ) → get_or bs i 0 < 256) → numeral 16 (get_or bs k 0) ++ pairs_of k bs ≡ numeral 16 (number bs)
+numeral_some bs k h w =
+    let e : number (drop k bs) ≡ get_or bs k 0 = number-drop bs k h.inside ∙ omega (arith, h.zeros) in
+    let q : 0 < number (drop k bs) = rw e h.some_byte in
+    rw e at (bytes_numeral bs w k (omega (arith, h.inside)) q)
 
 -- ---- the search for the highest byte
 
-module _ (bs : List ℕ) (k : ℕ) (i : 0 < k) (l : k ≤ length bs) (z : number (drop k bs) ≡ 0) where
-  pub highest_goes_on : get_or bs (k - 1) 0 ≤ 0 → number (drop (k - 1) bs) ≡ 0
-  highest_goes_on h =
-      let s : suc (k - 1) ≡ k = omega arith in
-      let y : number (drop (suc (k - 1)) bs) ≡ 0 = rw s z in
-      number-drop bs (k - 1) (omega arith) ∙ omega arith
-
-pub highest_begins : (bs : List ℕ) → number (drop (length bs) bs) ≡ 0
+-- n bytes from k on, all of them zero
+zeros_from : (bs : List ℕ) (n k : ℕ) → k + n ≡ length bs → ((j : ℕ) → k ≤ j → j < length bs → get_or bs j 0 ≡ 0) → number (drop k bs) ≡ 0
 unfolding number
-highest_begins bs = rw (drop-length bs)
+zeros_from bs zero k e z = let f : k ≡ length bs = omega arith in rw (f, drop-length bs)
+zeros_from bs (suc n) k e z =
+    let r = zeros_from bs n (suc k) (omega arith) (λ j a b. z j (omega arith) b) in
+    number-drop bs k (omega arith) ∙ omega (arith, r, z k (omega arith) (omega arith))
+
+abbrev pub some_bit : ℕ → Bool
+some_bit b = not (eqb b 0)
+
+-- how many zeros there are behind the highest byte
+abbrev pub zeros_behind : List ℕ → ℕ
+zeros_behind bs = position_or_len some_bit (reverse bs)
+
+no_bit : (b : ℕ) → some_bit b ≡ false → b ≡ 0
+no_bit b e = cases (eqb b 0) (λ t. eqb-true b 0 t) (λ f. absurd (true≢false (rw f at e)))
+
+a_bit : (b : ℕ) → some_bit b ≡ true → 0 < b
+a_bit b e = cases (eqb b 0) (λ t. absurd (true≢false (sym (rw t at e)))) (λ f. let n = eqb-false b 0 f in omega arith)
+
+module _ (bs : List ℕ) where
+  zero_at : (j : ℕ) → length bs - zeros_behind bs ≤ j → j < length bs → get_or bs j 0 ≡ 0
+  zero_at j a b =
+      let k : ℕ = length bs - 1 - j in
+      let f = fails_before_first some_bit (reverse bs) k 0 (omega arith) in
+      let g : length bs - 1 - k ≡ j = omega arith in
+      no_bit _ (rw (get_or-reverse bs k 0 (omega arith), g) at f)
+
+  -- where the search from the end finds none, and where it finds the one behind which there are k zeros
+  module _ (k : ℕ) where
+    found_at : cond (ltb (zeros_behind bs) (length (reverse bs))) (Some (zeros_behind bs)) None ≡ Some k → (zeros_behind bs < length bs) × (zeros_behind bs ≡ k)
+    found_at e =
+        let p = cond_some (ltb (zeros_behind bs) (length (reverse bs))) (zeros_behind bs) k e in
+        (omega (arith, ltb-true _ _ p.0, length-reverse bs), p.1)
+
+    pub highest_some :
+        cond (ltb (zeros_behind bs) (length (reverse bs))) (Some (zeros_behind bs)) None ≡ Some k → HighestAt bs (length bs - 1 - k)
+    highest_some e =
+        let p = found_at e in
+        let l = length-reverse bs in
+        let n : zeros_behind bs ≡ k = p.1 in
+        let h : zeros_behind bs < length bs = p.0 in
+        record {
+          inside = omega arith;
+          zeros = zeros_from bs k (suc (length bs - 1 - k)) (omega arith) (λ j a b. zero_at j (omega arith) b);
+          some_byte = a_bit _ (rw (n, get_or-reverse bs k 0 (omega arith)) at (passes_at_first some_bit (reverse bs) 0 (omega arith)));
+        }
+
+  pub highest_none : cond (ltb (zeros_behind bs) (length (reverse bs))) (Some (zeros_behind bs)) None ≡ None → number bs ≡ 0
+  highest_none e =
+      cases (ltb (zeros_behind bs) (length (reverse bs))) (λ t. absurd (none-some (zeros_behind bs) (sym e ∙ rw t)))
+      (λ f. zeros_from bs (length bs) 0 (omega arith) (λ j a b. zero_at j (omega (arith, ltb-false _ _ f, length-reverse bs)) b))
 
 -- ---- pairs of digits, one behind the other
 
@@ -84,6 +130,25 @@ pub pairs_next : (bs : List ℕ) (i : ℕ) → 0 < i → pairs_of i bs ≡ pair_
 unfolding pairs_of
 pairs_next bs zero h = absurd (omega arith)
 pairs_next bs (suc i) h = let e : suc i - 1 ≡ i = omega arith in rw e
+
+-- the pairs of the bytes before place k
+pub pairs-taken : (bs : List ℕ) (k j : ℕ) → j ≤ k → k ≤ length bs → pairs_of j (take k bs) ≡ pairs_of j bs
+unfolding pairs_of
+pairs-taken bs k zero h l = refl
+pairs-taken bs k (suc j) h l = rw (get_or-take k bs j 0 (omega arith), pairs-taken bs k j (omega arith) l)
+
+-- the next byte from the end
+pub pairs_turn :
+    (bs : List ℕ) (n b : ℕ) → n < length (reverse bs) → b ≡ get_or (reverse bs) n b
+    → pairs_of (length bs - n) bs ≡ pair_of b ++ pairs_of (length bs - (n + 1)) bs
+pairs_turn bs n b h e =
+    let l = length-reverse bs in
+    let g : get_or bs (length bs - n - 1) 0 ≡ b =
+    ap (λ k. get_or bs k 0) {x = length bs - n - 1} {y = length bs - 1 - n} (omega arith)
+    ∙ get_or_default bs (length bs - 1 - n) 0 b (omega arith)
+    ∙ sym (e ∙ get_or-reverse bs n b (omega arith)) in
+    let m : length bs - n - 1 ≡ length bs - (n + 1) = omega arith in
+    pairs_next bs (length bs - n) (omega arith) ∙ rw (g, m)
 
 pub length_pairs : (bs : List ℕ) (k : ℕ) → length (pairs_of k bs) ≡ 2 * k
 unfolding pairs_of pair_of

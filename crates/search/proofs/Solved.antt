@@ -4,10 +4,11 @@ use mathlib.Core.Path.{◌≡◌, refl, sym, ap, subst, ◌∙◌}
 use mathlib.Core.Bool.{Bool, true, false, ◌&&◌}
 use mathlib.Core.Logic.{◌⊎◌, inl, inr}
 use mathlib.Core.Option.{none, some}
+use Rattle.std.specs.Prelude.{Option, None}
 use Prim.Native.Nat.{ℕ, ◌+◌, ◌*◌, ◌^◌, ◌≤◌, ◌<◌}
 use native.Mathlib.Nat.{lt_of_le_of_lt}
 use native.Mathlib.Omega.{arith}
-use lib.Dec.{eqb, ltb}
+use lib.Dec.{eqb, ltb, lit<}
 use borrow.Author.Tests.{ltb-true, ltb-false, ne_eqb}
 use Rattle.model.specs.declared.Line.{Line}
 use Rattle.model.specs.Tests.{pick}
@@ -20,17 +21,24 @@ use Rattle.model_laws.proofs.SetLaws.{has_beyond}
 use Rattle.model_laws.proofs.Ranks.{Earlier, earlier_true, count-le}
 use Rattle.model_laws.proofs.Choices.{choice}
 use Rattle.query_rank.specs.declared.Best.{Best}
+use Rattle.query_rank.specs.declared.objective.Objective.{Objective}
+use Rattle.query_rank.specs.declared.objective.Objective.TheVariants.{Any, Fewest, Most}
+use Rattle.query_rank.specs.Objectives.{number_of}
 use Rattle.query.specs.Carry.{Sub, Keeps}
 use Rattle.query_rank.specs.Ranks.{key_by, rank, rank_at, Between}
 use Rattle.query.proofs.Members.{sub_within, within_sub, sub-le, none_sub, no_member}
 use Rattle.query.proofs.Meanings.{carried-meaning}
-use Rattle.search.specs.declared.Choice.{Choice}
-use Rattle.search.specs.declared.Choice.TheVariants.{Nothing}
 use Rattle.search_steps.specs.Search.{Task, carries, serves, rank_of, Served, Found}
 use Rattle.search.specs.Answer.{answered, no_best, answer_of, Given}
 use Rattle.search_steps.proofs.Carried.{carried_least, row_sub}
 use Rattle.search_steps.proofs.Costs.{cost-top}
 use Rattle.search_steps.proofs.Turns.{Falls}
+
+-- an objective that is not the most
+pub not_most : (o : Objective) → (o ≡ Most → ⊥) → number_of o < 2
+not_most Any h = lit< tt
+not_most Fewest h = lit< tt
+not_most Most h = absurd (h refl)
 
 -- a key is below that of none
 key_small : (a b c s : ℕ) → key_by a b c s < 1048576
@@ -90,8 +98,7 @@ module _ (t : Task) (upper authorized : ℕ) (small : authorized < 2 ^ 64) (m : 
       (w, f.1, f.2, sym (given.exclusions s w) ∙ f.3)
 
   -- not even the empty set meets the exclusions
-  pub none_chosen : Falls t → (b : Bool) → b ≡ t.met 0 → b ≡ false → answered Nothing ≡ choose m l k t.lower upper t.first t.second
-  unfolding answered
+  pub none_chosen : Falls t → (b : Bool) → b ≡ t.met 0 → b ≡ false → answered None ≡ choose m l k t.lower upper t.first t.second
   none_chosen falls b e h = chosen_none (λ s adm. not_both (t.met 0) (falls 0 s (none_sub s) (is_in s adm).3) (sym e ∙ h))
 
   -- ---- a better set has the lower rank
@@ -189,8 +196,8 @@ module _ (t : Task) (upper authorized : ℕ) (small : authorized < 2 ^ 64) (m : 
             not_better s r.roles f.own (own_in r.roles v.between)
             (subst (λ (x : ℕ). rank x r.roles ≤ rank_of t s) v.keyed (least s f.between f.serving))
 
-    pub is_chosen : (r : Best) (a : Choice) → a ≡ answer_of r → Found t 0 free no_best r → answered a ≡ choose m l k t.lower upper t.first t.second
-    unfolding answered answer_of pick
+    pub is_chosen : (r : Best) (a : Option ℕ) → a ≡ answer_of r → Found t 0 free no_best r → answered a ≡ choose m l k t.lower upper t.first t.second
+    unfolding answer_of pick
     is_chosen r a e f = ap answered e ∙ go f.new
       where
         go : (r ≡ no_best) ⊎ Served t 0 free r → answered (answer_of r) ≡ choose m l k t.lower upper t.first t.second

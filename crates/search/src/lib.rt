@@ -1,44 +1,39 @@
 // The choice of a role set (the User Authorization Query): `solve`, by the two searches.
 #![tactic(auto)]
 
-ghost use Rattle.std.specs.Prelude.{◌≡◌, true, ℕ, ◌≤◌};
+ghost use Rattle.std.specs.Prelude.{◌≡◌, true, ℕ};
 ghost use Rattle.model.specs.declared.Line.{Line};
 ghost use Rattle.model.specs.Policy.{Meaning};
 ghost use Rattle.model.specs.Choice.{choose};
 ghost use Rattle.sets.specs.Words.{value};
 ghost use Rattle.query_reduced.specs.Met.{reduced_met as reduced_met_of};
+ghost use Rattle.query_rank.specs.Objectives.{number_of};
 ghost use Rattle.query.specs.Carry.{rows_of};
 ghost use Rattle.search_steps.specs.Search.{task_of, Found};
 ghost use Rattle.search.specs.Answer.{answered, answer_of, no_best, Given};
 
 use query::carriers::join_carriers;
 use query::carry::{reach, usable};
-use query_rank::{Best, Job, NONE};
+use query_rank::objective::Objective;
+use query_rank::{Best, NONE};
 use query_reduced::met::reduced_met;
-use search_steps::{Node, first_step, subset_step};
+use search_steps::{Node, Query, first_step, subset_step};
 
-// The answer of a query: no set is admissible, or the best one.
-#[derive(Clone, Copy)]
-pub enum Choice {
-    Nothing,
-    Roles(u64),
-}
-
-fn answer(best: Best) -> Choice
+// The roles of the best set, where there is one.
+fn answer(best: Best) -> Option<u64>
     ensures { result ≡ answer_of best }
 {
-    let key = best.key;
-    if key == NONE {
-        return Choice::Nothing;
+    if best.key == NONE {
+        return None;
     }
-    Choice::Roles(best.roles)
+    Some(best.roles)
 }
 
 // The best set of free roles, from the empty set, which meets the exclusions: Procedure 3 unless an objective
 // is the most.
-fn best_of(rows: &[[u64; 4]; 64], masks: &[u64; 32], ns: &[u32; 32], job: Job, free: u64) -> Best
-    requires { (job.count ≤ 32) × (reduced_met_of masks.now ns.now job.count 0 ≡ true) }
-    ensures { Found (task_of rows.now masks.now ns.now job) 0 free no_best result }
+fn best_of(query: &Query, free: u64) -> Best
+    requires { reduced_met_of query.now.exclusions.now 0 ≡ true }
+    ensures { Found (task_of query.now) 0 free no_best result }
 {
     let none = Best {
         key: NONE,
@@ -47,41 +42,28 @@ fn best_of(rows: &[[u64; 4]; 64], masks: &[u64; 32], ns: &[u32; 32], job: Job, f
     let root = Node {
         free,
         chosen: 0,
-        carried: [0u64; 4],
+        carried: [0; 4],
     };
-    let first = job.first;
-    let second = job.second;
-    if first < 2 {
-        if second < 2 {
-            let lower = job.lower;
-            let mut turned = [0u64; 256];
-            join_carriers(&mut turned, rows, free, lower);
-            return first_step(rows, masks, ns, job, root, none, &turned);
-        }
+    if query.job.first != Objective::Most && query.job.second != Objective::Most {
+        let mut turned = [0; 256];
+        join_carriers(&mut turned, query.rows, free, query.job.lower);
+        return first_step(query, root, none, &turned);
     }
-    let from = reach(rows, free);
-    subset_step(rows, &from, masks, ns, job, root, none)
+    let from = reach(query.rows, free);
+    subset_step(query, &from, root, none)
 }
 
 // The best admissible role set, of the roles that the user may activate: at least the lower bound, nothing outside the
 // upper, and each exclusion met.
-pub fn solve(
-    rows: &[[u64; 4]; 64],
-    upper: [u64; 4],
-    authorized: u64,
-    masks: &[u64; 32],
-    ns: &[u32; 32],
-    job: Job,
-) -> Choice
-    requires { job.count ≤ 32 }
+pub fn solve(query: &Query, upper: [u64; 4], authorized: u64) -> Option<u64>
     ensures { (m : Meaning) (l : Line) (k : ℕ)
-        → Given m l k authorized (rows_of rows.now) (reduced_met_of masks.now ns.now job.count)
-        → answered result ≡ choose m l k (value job.lower) (value upper) job.first job.second }
+        → Given m l k authorized (rows_of query.now.rows.now) (reduced_met_of query.now.exclusions.now)
+        → answered result ≡ choose m l k (value query.now.job.lower) (value upper) (number_of query.now.job.first)
+        (number_of query.now.job.second) }
 {
-    let count = job.count;
-    if !reduced_met(masks, ns, count, 0) {
-        return Choice::Nothing;
+    if !reduced_met(query.exclusions, 0) {
+        return None;
     }
-    let free = usable(rows, upper, authorized);
-    answer(best_of(rows, masks, ns, job, free))
+    let free = usable(query.rows, upper, authorized);
+    answer(best_of(query, free))
 }

@@ -6,7 +6,7 @@ use Prim.Native.Nat.{ℕ, ◌^◌, ◌<◌}
 use native.Mathlib.Nat.{lt_of_le_of_lt}
 use native.Mathlib.Omega.{arith}
 use Rattle.model.specs.Sets.{has, with, count}
-use Rattle.sets.specs.Members.{without, Lowest}
+use Rattle.sets.specs.Members.{without}
 use Rattle.query_rank.specs.declared.Best.{Best}
 use Rattle.query.specs.Carry.{Sub, Reaches}
 use Rattle.query.proofs.Members.{sub-le, sub_count, fewer_sub}
@@ -48,12 +48,6 @@ trying_start t tries chosen free a h = record { inside = h; fewer = λ i m. m; r
 pub trying_end : (t : Task) (tries chosen free : ℕ) (a : Best) (left still : ℕ) (b : Best) → Trying t tries chosen free a left still b → left ≡ 0
     → Tried t tries chosen free a b
 trying_end t tries chosen free a left still b w e = w.rest b (runs_out t left chosen still b e)
-
--- with one tried, fewer are left
-pub trying_less : (t : Task) (tries chosen free : ℕ) (a : Best) (left still : ℕ) (b : Best) → Trying t tries chosen free a left still b → free < 2 ^ 64
-    → (role rest : ℕ) → Lowest left role → rest ≡ without left role → count 64 rest < count 64 left
-trying_less t tries chosen free a left still b w small role rest low e =
-    fewer-left free left role rest small (λ i m. w.fewer i (w.inside i m)) low.small low.member e
 
 module _ (t : Task) (falls : Falls t) (tries chosen free : ℕ) (a : Best) (left still : ℕ) (c : Best) (w : Trying t tries chosen free a left still c)
     (role rest less more : ℕ) (b : Bool) (m : has left role ≡ true) (er : rest ≡ without left role) (el : less ≡ without still role)

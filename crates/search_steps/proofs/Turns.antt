@@ -16,11 +16,11 @@ use Rattle.model_laws.proofs.SetLaws.{has-union, has-inter}
 use Rattle.sets.specs.Members.{without, Lowest}
 use Rattle.sets.proofs.Taken.{count-without}
 use Rattle.query_rank.specs.declared.Best.{Best}
-use Rattle.query_rank.specs.declared.Job.{Job}
 use Rattle.query.specs.Carry.{rows_of, Turned, Sub, Keeps, Missing, Reaches}
 use Rattle.query_rank.specs.Ranks.{key_by, rank, rank_at, Judged, Settled}
 use Rattle.query.proofs.Members.{sub_count}
 use Rattle.query.proofs.Turned.{inter_keeps, keeps_turned}
+use Rattle.search_steps.specs.declared.Query.{Query}
 use Rattle.search_steps.specs.Search.{Task, task_of, carries, serves, rank_of, Ready, Modest, Found, Tried}
 use Rattle.search_steps.proofs.Between.{fewer-within}
 use Rattle.search_steps.proofs.Carried.{carried_sub, carried-with, Carried-none, top-bound}
@@ -31,7 +31,7 @@ abbrev pub Falls : Task → Type 0
 Falls t = (x y : ℕ) → Sub x y → t.met y ≡ true → t.met x ≡ true
 
 -- ---- the chosen roles judged: their key, and whether the best so far is no worse
-module _ (t : Task) (n chosen carried key : ℕ) (a : Best) (b : Bool) (ready : Ready t n chosen carried)
+module _ (t : Task) (chosen carried key : ℕ) (a : Best) (b : Bool) (ready : Ready t chosen carried)
     (keyed : key ≡ key_by t.first t.second carried chosen) (judged : b ≡ leb (rank_at a) (rank key chosen)) where
   same_rank : rank key chosen ≡ rank_of t chosen
   same_rank = ap (λ (k : ℕ). rank k chosen) (keyed ∙ ap (λ (c : ℕ). key_by t.first t.second c chosen) ready.carry)
@@ -57,18 +57,14 @@ module _ (t : Task) (n chosen carried key : ℕ) (a : Best) (b : Bool) (ready : 
         subst (λ (k : ℕ). Found t chosen free a (record { key = k; roles = chosen })) (sym same_key)
         (reached t chosen free a modest.permissions modest.roles (better e) (in-bound w l m) ready.met)
 
-module _ (t : Task) (n chosen carried : ℕ) (a : Best) (ready : Ready t n chosen carried) (w : Bool) (judged : w ≡ within t.lower carried) where
-  short : w ≡ false → within t.lower (carries t chosen) ≡ false
-  short e = ap (within t.lower) (sym ready.carry) ∙ sym judged ∙ e
-
-  -- the roles that carry a missing permission, by the turned table, were tried
-  pub goes_on : (table : List ℕ) (free p tries : ℕ) (r : Best) → w ≡ false → (within t.lower carried ≡ false → Missing t.lower carried p)
-      → Turned t.row table t.lower free → tries ≡ inter free (get_or table p 0) → Tried t tries chosen free a r → Found t chosen free a r
-  goes_on table free p tries r e miss turned both_have tried =
-      let m = miss (sym judged ∙ e) in
-      taken_up t chosen free p tries a r m.wanted (ap (λ (c : ℕ). has c p) (sym ready.carry) ∙ m.lacking)
-      (λ i f h. keeps_turned t.row table t.lower p free tries turned m.wanted (inter_keeps free (get_or table p 0) tries both_have) i
-      ∙ both (has free i) (has (t.row i) p) f h) tried
+-- the roles that carry a missing permission, by the turned table, were tried
+pub goes_on : (t : Task) (chosen carried : ℕ) (a : Best) → Ready t chosen carried → (table : List ℕ) (free p tries : ℕ) (r : Best)
+    → Missing t.lower carried p → Turned t.row table t.lower free → tries ≡ inter free (get_or table p 0) → Tried t tries chosen free a r
+    → Found t chosen free a r
+goes_on t chosen carried a ready table free p tries r m turned both_have tried =
+    taken_up t chosen free p tries a r m.wanted (ap (λ (c : ℕ). has c p) (sym ready.carry) ∙ m.lacking)
+    (λ i f h. keeps_turned t.row table t.lower p free tries turned m.wanted (inter_keeps free (get_or table p 0) tries both_have) i
+    ∙ both (has free i) (has (t.row i) p) f h) tried
 
 pub keeps_sub : (test : ℕ → Bool) (s r : ℕ) → Keeps test s r → Sub r s
 keeps_sub test s r k i m = and_l (has s i) (test i) (sym (k i) ∙ m)
@@ -78,14 +74,13 @@ pub tries_sub : (free x tries : ℕ) → tries ≡ inter free x → Sub tries fr
 tries_sub free x tries e = keeps_sub (has x) free tries (inter_keeps free x tries e)
 
 -- ---- a role taken up: with it, and without it
-module _ (t : Task) (n chosen carried role : ℕ) (ready : Ready t n chosen carried) where
+module _ (t : Task) (chosen carried role : ℕ) (ready : Ready t chosen carried) where
   pub ready_more : (more sum row : ℕ) (b : Bool) → role < 64 → more ≡ with chosen role → sum ≡ union carried row → row ≡ t.row role
       → b ≡ t.met more → b ≡ true
-      → Ready t n more sum
+      → Ready t more sum
   unfolding carries
   ready_more more sum row b l em es er eb e =
       record {
-        few = ready.few;
         carry = es ∙ ap (λ (x : ℕ). union x row) ready.carry ∙ ap (union (carries t chosen)) er ∙ sym (carried-with t.row 64 chosen role l)
             ∙ ap (carries t) (sym em);
         met = sym eb ∙ e;
@@ -119,25 +114,24 @@ pub barred_sub : (tries free role rest less : ℕ) → Sub tries free → has tr
 barred_sub tries free role rest less h m er el = rw (er, el) (fewer-within tries role m free (h role m) h)
 
 -- with no role free the chosen ones are judged
-pub judges : (rows : List (List ℕ)) (masks ns : List ℕ) (job : Job) (chosen free carried : ℕ) (a r : Best)
-    → Ready (task_of rows masks ns job) job.count chosen carried → free ≡ 0 → Judged job chosen carried a r
-    → Found (task_of rows masks ns job) chosen free a r
-judges rows masks ns job chosen free carried a r ready none judged =
-    let t = task_of rows masks ns job in
-    let j = subst (λ (c : ℕ). Judged job chosen c a r) ready.carry judged in
-    subst (λ (f : ℕ). Found t chosen f a r) (sym none) (leaf t chosen a r ready.met j.old j.new j.least)
+pub judges : (q : Query) (chosen free carried : ℕ) (a r : Best) → Ready (task_of q) chosen carried → free ≡ 0 → Judged q.job chosen carried a r
+    → Found (task_of q) chosen free a r
+judges q chosen free carried a r ready none judged =
+    let j = subst (λ (c : ℕ). Judged q.job chosen c a r) ready.carry judged in
+    subst (λ (f : ℕ). Found (task_of q) chosen f a r) (sym none) (leaf (task_of q) chosen a r ready.met j.old j.new j.least)
 
 -- no set between is better than the best so far, by what the free roles carry from the lowest on
-pub cuts_off : (rows reach : List (List ℕ)) (masks ns : List ℕ) (job : Job) (chosen free carried role top : ℕ) (a : Best) (b : Bool)
-    → Ready (task_of rows masks ns job) job.count chosen carried → Reaches (rows_of rows) (rows_of reach) free → Lowest free role
-    → top ≡ union carried (rows_of reach role) → (b ≡ true → Settled job chosen free carried top a) → b ≡ true
-    → Found (task_of rows masks ns job) chosen free a a
+pub cuts_off : (q : Query) (reach : List (List ℕ)) (chosen free carried role top : ℕ) (a : Best) (b : Bool)
+    → Ready (task_of q) chosen carried → Reaches (rows_of q.rows.now) (rows_of reach) free → Lowest free role
+    → top ≡ union carried (rows_of reach role) → (b ≡ true → Settled q.job chosen free carried top a) → b ≡ true
+    → Found (task_of q) chosen free a a
 unfolding serves carries
-cuts_off rows reach masks ns job chosen free carried role top a b ready reaches low et settled e =
-    let t = task_of rows masks ns job in
+cuts_off q reach chosen free carried role top a b ready reaches low et settled e =
+    let t = task_of q in
+    let row = rows_of q.rows.now in
     none_better t chosen free a (λ s between m. settled e s (carries t s) between
-    (λ p k. carried_sub (rows_of rows) 64 chosen s between.least p (ap (λ (x : ℕ). has x p) (sym ready.carry) ∙ k))
-    (λ p k. ap (λ (x : ℕ). has x p) et ∙ top-bound (rows_of rows) (rows_of reach) chosen free carried role reaches low ready.carry s between p k)
+    (λ p k. carried_sub row 64 chosen s between.least p (ap (λ (x : ℕ). has x p) (sym ready.carry) ∙ k))
+    (λ p k. ap (λ (x : ℕ). has x p) et ∙ top-bound row (rows_of reach) chosen free carried role reaches low ready.carry s between p k)
     (and_l (within t.lower (carries t s)) (t.met s) m))
 
 -- ---- what falls: the permissions still wanted and the roles still free
@@ -160,6 +154,6 @@ pub roles_less : (free role less : ℕ) → free < 2 ^ 64 → role < 64 → has 
 roles_less free role less h l m e = omega (arith, ap (count 64) e, count-without 64 free role h l m)
 
 -- the empty set, with which a search starts
-pub ready_none : (t : Task) (n c : ℕ) → n ≤ 32 → c ≡ 0 → t.met 0 ≡ true → Ready t n 0 c
+pub ready_none : (t : Task) (c : ℕ) → c ≡ 0 → t.met 0 ≡ true → Ready t 0 c
 unfolding carries
-ready_none t n c h e m = record { few = h; carry = e ∙ sym (Carried-none t.row 64); met = m }
+ready_none t c e m = record { carry = e ∙ sym (Carried-none t.row 64); met = m }

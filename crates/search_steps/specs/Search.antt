@@ -4,10 +4,12 @@ use Rattle.std.specs.Prelude.{◌≡◌, Bool, true, ◌&&◌, ◌⊎◌, List, 
 use Rattle.model.specs.Sets.{has, within, union_to}
 use Rattle.sets.specs.Words.{value}
 use Rattle.query_rank.specs.declared.Best.{Best}
-use Rattle.query_rank.specs.declared.Job.{Job}
 use Rattle.query_reduced.specs.Met.{reduced_met}
-use Rattle.query.specs.Carry.{rows_of}
+use Rattle.query.specs.Carry.{rows_of, Turned}
+use Rattle.query_rank.specs.Objectives.{number_of}
 use Rattle.query_rank.specs.Ranks.{key_by, rank, rank_at, Between}
+use Rattle.search_steps.specs.declared.Query.{Query}
+use Rattle.search_steps.specs.declared.Node.{Node}
 
 -- ---- the task
 
@@ -20,9 +22,15 @@ pub record Task : Type 0 where
   pub first : ℕ
   pub second : ℕ
 
-abbrev pub task_of : List (List ℕ) → List ℕ → List ℕ → Job → Task
-task_of rows masks ns job =
-    record { row = rows_of rows; lower = value job.lower; met = reduced_met masks ns job.count; first = job.first; second = job.second }
+abbrev pub task_of : Query → Task
+task_of q =
+    record {
+      row = rows_of q.rows.now;
+      lower = value q.job.lower;
+      met = reduced_met q.exclusions.now;
+      first = number_of q.job.first;
+      second = number_of q.job.second;
+    }
 
 -- the permissions that the roles of s carry
 unfoldable pub carries : Task → ℕ → ℕ
@@ -43,9 +51,8 @@ rank_of t s = rank (key_of t s) s
 
 -- ---- a step of a search: what it is given, and what it hands back
 
--- the permissions that the chosen roles carry are these, and the roles meet the exclusions, at most 32
-pub record Ready (t : Task) (count chosen carried : ℕ) : Type 0 where
-  pub few : count ≤ 32
+-- the permissions that the chosen roles carry are these, and the roles meet the exclusions
+pub record Ready (t : Task) (chosen carried : ℕ) : Type 0 where
   pub carry : carried ≡ carries t chosen
   pub met : t.met chosen ≡ true
 
@@ -53,6 +60,13 @@ pub record Ready (t : Task) (count chosen carried : ℕ) : Type 0 where
 pub record Modest (t : Task) : Type 0 where
   pub permissions : t.first < 2
   pub roles : t.second < 2
+
+-- what Procedure 3 steps on from: a node, objectives of which neither is the most, and the turned table, right for the
+-- free roles
+pub record Steps (t : Task) (turned : List ℕ) (node : Node) : Type 0 where
+  pub ready : Ready t node.chosen (value node.carried)
+  pub modest : Modest t
+  pub carriers : Turned t.row turned t.lower node.free
 
 -- r is a set between that serves, with its key
 pub record Served (t : Task) (chosen free : ℕ) (r : Best) : Type 0 where

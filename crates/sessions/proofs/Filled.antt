@@ -1,9 +1,9 @@
--- The bytes of an answer: a set's 32 bytes are those of its four words, and five numbers put one behind the other fill
--- the buffer.
+-- The bytes of an answer: a set's 32 bytes are those of its four words, and the roles with these behind them fill the
+-- buffer.
 -- Assumes nothing.
 use mathlib.Core.Path.{◌≡◌, refl, sym, ap, ap₂, subst, ◌∙◌}
-use mathlib.Core.List.{List, [], ◌∷◌, ◌++◌, append_assoc}
-use Prim.Native.Nat.{ℕ, zero, suc, ◌+◌, ◌*◌, ◌/◌, ◌%◌, ◌^◌, ◌≤◌, ◌<◌}
+use mathlib.Core.List.{List, [], ◌∷◌, ◌++◌, append_assoc, append-nil}
+use Prim.Native.Nat.{ℕ, zero, suc, ◌+◌, ◌*◌, ◌/◌, ◌%◌, ◌^◌, ◌<◌}
 use native.Mathlib.Nat.{zero-add, suc-add, add_comm, mul_comm, mul_assoc, pow-suc}
 use native.Mathlib.Omega.{arith}
 use lib.ListN.{length, get_or, length-append}
@@ -12,7 +12,7 @@ use mir.Syntax.{w64}
 use mir.Val.{Fits}
 use Rattle.model.specs.Bytes.{bytes_of}
 use Rattle.model_laws.proofs.LineLaws.{length-bytes_of}
-use Rattle.octets.specs.Splice.{splice}
+use Rattle.octets.specs.Splice.{splice, bytes_of_all}
 use Rattle.octets.proofs.Splices.{splice_all, splice-splice}
 use Rattle.sets.specs.Words.{joined, value}
 use Rattle.sets.proofs.Digits.{joined_lt}
@@ -66,42 +66,26 @@ set_bytes_lem ws h =
     let f : ℕ → List ℕ = λ i. bytes_of 8 (get_or ws i 0) in
     joined_bytes (λ i. get_or ws i 0) (λ i. (h i).fits) 4 ∙ append_assoc (f 0 ++ f 1) (f 2) (f 3) ∙ append_assoc (f 0) (f 1) (f 2 ++ f 3)
 
--- a number put behind n bytes
-put_behind : (s : List ℕ) (n : ℕ) (xs : List ℕ) (b : ℕ) → length xs ≡ n → n + 8 ≤ length s
-    → splice (splice s 0 xs) n (bytes_of 8 b) ≡ splice s 0 (xs ++ bytes_of 8 b)
-put_behind s n xs b e h =
-    ap (λ (k : ℕ). splice (splice s 0 xs) k (bytes_of 8 b)) (sym (zero-add (length xs) ∙ e))
-    ∙ splice-splice s 0 xs (bytes_of 8 b) (omega (arith, length-bytes_of 8 b))
-
-longer : (n : ℕ) (xs : List ℕ) (b : ℕ) → length xs ≡ n → length (xs ++ bytes_of 8 b) ≡ n + 8
-longer n xs b e = omega (arith, length-append xs (bytes_of 8 b), length-bytes_of 8 b)
-
--- five numbers fill a buffer of 40 bytes
-five : (s : List ℕ) (r a b c d : ℕ) → length s ≡ 40
-    → splice (splice (splice (splice (splice s 0 (bytes_of 8 r)) 8 (bytes_of 8 a)) 16 (bytes_of 8 b)) 24 (bytes_of 8 c)) 32 (bytes_of 8 d)
-    ≡ bytes_of 8 r ++ (bytes_of 8 a ++ (bytes_of 8 b ++ (bytes_of 8 c ++ bytes_of 8 d)))
-five s r a b c d h =
-    let x0 = bytes_of 8 r in
-    let x1 = x0 ++ bytes_of 8 a in
-    let x2 = x1 ++ bytes_of 8 b in
-    let x3 = x2 ++ bytes_of 8 c in
-    let n0 : length x0 ≡ 8 = length-bytes_of 8 r in
-    let n1 : length x1 ≡ 16 = longer 8 x0 a n0 in
-    let n2 : length x2 ≡ 24 = longer 16 x1 b n1 in
-    let n3 : length x3 ≡ 32 = longer 24 x2 c n2 in
-    ap (λ (l : List ℕ). splice (splice (splice l 16 (bytes_of 8 b)) 24 (bytes_of 8 c)) 32 (bytes_of 8 d)) (put_behind s 8 x0 a n0 (omega arith))
-    ∙ ap (λ (l : List ℕ). splice (splice l 24 (bytes_of 8 c)) 32 (bytes_of 8 d)) (put_behind s 16 x1 b n1 (omega arith))
-    ∙ ap (λ (l : List ℕ). splice l 32 (bytes_of 8 d)) (put_behind s 24 x2 c n2 (omega arith))
-    ∙ put_behind s 32 x3 d n3 (omega arith)
-    ∙ splice_all s (x3 ++ bytes_of 8 d) (longer 32 x3 d n3 ∙ sym h)
-    ∙ append_assoc x2 (bytes_of 8 c) (bytes_of 8 d) ∙ append_assoc x1 (bytes_of 8 b) (bytes_of 8 c ++ bytes_of 8 d)
-    ∙ append_assoc x0 (bytes_of 8 a) (bytes_of 8 b ++ (bytes_of 8 c ++ bytes_of 8 d))
+-- four words, each as its bytes
+four : (ws : List ℕ) → length ws ≡ 4
+    → bytes_of_all ws ≡ bytes_of 8 (get_or ws 0 0) ++ (bytes_of 8 (get_or ws 1 0) ++ (bytes_of 8 (get_or ws 2 0) ++ bytes_of 8 (get_or ws 3 0)))
+unfolding bytes_of_all
+four [] h = absurd (omega arith)
+four (a ∷ []) h = absurd (omega arith)
+four (a ∷ b ∷ []) h = absurd (omega arith)
+four (a ∷ b ∷ c ∷ []) h = absurd (omega arith)
+four (a ∷ b ∷ c ∷ d ∷ []) h =
+    ap (λ (l : List ℕ). bytes_of 8 a ++ (bytes_of 8 b ++ (bytes_of 8 c ++ l))) (append-nil (bytes_of 8 d))
+four (a ∷ b ∷ c ∷ d ∷ e ∷ ws) h = absurd (omega arith)
 
 -- the roles and the set behind them, as code puts them
-pub filled : (s ws : List ℕ) (r : ℕ) (x0 x1 x2 x3 x4 : List ℕ) → length s ≡ 40 → ((i : ℕ) → Fits w64 (get_or ws i 0)) → x0 ≡ splice s 0 (bytes_of 8 r)
-    → x1 ≡ splice x0 8 (bytes_of 8 (get_or ws 0 0)) → x2 ≡ splice x1 16 (bytes_of 8 (get_or ws 1 0)) → x3 ≡ splice x2 24 (bytes_of 8 (get_or ws 2 0))
-    → x4 ≡ splice x3 32 (bytes_of 8 (get_or ws 3 0)) → x4 ≡ bytes_of 8 r ++ bytes_of 32 (value ws)
-filled s ws r x0 x1 x2 x3 x4 h fit e0 e1 e2 e3 e4 =
-    let e = set_bytes_lem ws fit in
-    let f = five s r (get_or ws 0 0) (get_or ws 1 0) (get_or ws 2 0) (get_or ws 3 0) h in
-    cc (e, f)
+pub filled : (s ws : List ℕ) (r : ℕ) (x0 x1 : List ℕ) → length s ≡ 40 → length ws ≡ 4 → ((i : ℕ) → Fits w64 (get_or ws i 0))
+    → x0 ≡ splice s 0 (bytes_of 8 r) → x1 ≡ splice x0 8 (bytes_of_all ws) → x1 ≡ bytes_of 8 r ++ bytes_of 32 (value ws)
+filled s ws r x0 x1 h n fit e0 e1 =
+    let set = bytes_of 32 (value ws) in
+    let e : bytes_of_all ws ≡ set = four ws n ∙ sym (set_bytes_lem ws fit) in
+    let first = length-bytes_of 8 r in
+    let l : length (bytes_of 8 r ++ set) ≡ length s =
+    length-append (bytes_of 8 r) set ∙ omega (arith, first, length-bytes_of 32 (value ws), h) in
+    e1 ∙ ap₂ (λ (x y : List ℕ). splice x 8 y) e0 e ∙ ap (λ (k : ℕ). splice (splice s 0 (bytes_of 8 r)) k set) (sym (zero-add _ ∙ first))
+    ∙ splice-splice s 0 (bytes_of 8 r) set (omega (arith, first, length-bytes_of 32 (value ws), h)) ∙ splice_all s (bytes_of 8 r ++ set) l

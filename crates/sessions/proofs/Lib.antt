@@ -2,3 +2,4 @@
 pub mod FirstSteps
 pub mod SessionTests
 pub mod Filled
+pub mod Reasons

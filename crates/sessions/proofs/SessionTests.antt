@@ -1,9 +1,9 @@
 -- The refusals 12 and 13 of a call on a session, case by case, and what holds where there is none.
 -- Assumes nothing.
 use mathlib.Core.Path.{◌≡◌, sym, ◌∙◌}
-use mathlib.Core.Bool.{Bool, true, false, not}
+use mathlib.Core.Bool.{Bool, true, false}
 use Prim.Native.Nat.{ℕ, ◌≤◌, ◌<◌}
-use borrow.Author.Tests.{not-true, not-false, le-leb, lt-leb, leb-false}
+use borrow.Author.Tests.{not-false, le-leb, lt-leb, leb-false}
 use Rattle.model.specs.declared.Line.{Line}
 use Rattle.model.specs.Tests.{pick}
 use Rattle.model.specs.Line.{is_open}
@@ -16,13 +16,13 @@ module _ (W : ℕ) (l : Line) (k : ℕ) where
   session12 h = simp (le-leb _ _ h)
 
   module _ (h : k < W) (o : Bool) (e : o ≡ is_open l k) where
-    pub session13 : not o ≡ true → 13 ≡ session_refusal W l k
+    pub session13 : o ≡ false → 13 ≡ session_refusal W l k
     unfolding session_refusal pick
-    session13 t = simp (lt-leb _ _ h, sym e ∙ not-true o t)
+    session13 t = simp (lt-leb _ _ h, sym e ∙ t)
 
-    pub session0 : not o ≡ false → 0 ≡ session_refusal W l k
+    pub session0 : o ≡ true → 0 ≡ session_refusal W l k
     unfolding session_refusal pick
-    session0 t = simp (lt-leb _ _ h, sym e ∙ not-false o t)
+    session0 t = simp (lt-leb _ _ h, sym e ∙ t)
 
   -- the session is one of the W and open
   pub record Session : Type 0 where

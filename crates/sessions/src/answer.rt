@@ -9,8 +9,5 @@ pub fn fill(answer: &mut [u8], roles: u64, permissions: [u64; 4])
     ensures { answer.new ≡ bytes_of 8 roles ++ bytes_of 32 (value permissions) }
 {
     octets::put_u64(answer, 0, roles);
-    octets::put_u64(answer, 8, permissions[0]);
-    octets::put_u64(answer, 16, permissions[1]);
-    octets::put_u64(answer, 24, permissions[2]);
-    octets::put_u64(answer, 32, permissions[3]);
+    octets::put_numbers(answer, 8, &permissions);
 }

@@ -1,12 +1,4 @@
-// What a call on a line is given beside tables and bytes.
-use model::Head;
-
-// The numbers of an accepted policy, beside its tables: the head's, and how many exclusions there are.
-#[derive(Clone, Copy)]
-pub struct Sizes {
-    pub head: Head,
-    pub count: usize,
-}
+// What a call on a session is given beside tables and bytes.
 
 // A user's session (01: window), by the numbers that a host gives: the user's, and the session's among the user's own.
 #[derive(Clone, Copy)]

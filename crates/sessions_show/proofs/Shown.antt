@@ -16,7 +16,7 @@ use Rattle.model.specs.Session.{given, bad_room, refusal_number, refusal_extra, 
 use Rattle.model.specs.Run.{Event, step_on, show_by, returned, filled_with, answered, line_of}
 use Rattle.tables_rows.specs.Carried.{carried_of}
 use Rattle.sessions.specs.Calls.{Shows}
-use Rattle.sessions.proofs.FirstSteps.{Ready, shows-refusal, refuses, performs, passes, holds, fails, ends}
+use Rattle.sessions.proofs.FirstSteps.{refused_by, Ready, refuses, performs, passes, holds, fails, ends}
 
 -- what the active roles carry by the tables is what the policy says that they carry
 set-carries : (p : Policy) (u active : ℕ) (granted below : List ℕ) → granted ≡ p.granted → below ≡ below_table p
@@ -28,12 +28,11 @@ set-carries p u active granted below eg eb =
 
 module _ (W : ℕ) (p : Policy) (ledger : List ℕ) (u k : ℕ) (room : List ℕ) (r : Ready W p ledger u) (h : k < W)
     (o : is_open (line_of W ledger u) k ≡ true) where
-  pub show19 : (length room ≡ 40 → ⊥) → Shows (step_on W p ledger (show_by u k (length room))) 19 room room
+  pub show19 : (length room ≡ 40 → ⊥) → step_on W p ledger (show_by u k (length room)) ≡ refused_by 19 ledger
   unfolding show_by can_give applies refusal_number refusal_extra session_of query_of
   show19 n =
-      shows-refusal _ 19 ledger room
-      (refuses W p ledger (show_by u k (length room)) r bad_room refl
-      (passes W p ledger (show_by u k (length room)) r (bad_room ∷ []) refl h o ∙ holds _ _ _ (ap not (ne_eqb _ _ n))))
+      refuses W p ledger (show_by u k (length room)) r bad_room refl
+      (passes W p ledger (show_by u k (length room)) r (bad_room ∷ []) refl h o ∙ holds _ _ _ (ap not (ne_eqb _ _ n)))
 
   -- the active roles of the line that code holds, and what they carry by the tables, fill the buffer
   pub show0 : length room ≡ 40 → (l : Line) (c : ℕ) (granted below answer : List ℕ) → l ≡ line_of W ledger u → granted ≡ p.granted

@@ -1,52 +1,48 @@
 // Explaining a permission of a session under an accepted policy.
-ghost use Rattle.std.specs.Prelude.{◌≡◌, ◌≤◌, length};
+ghost use Rattle.std.specs.Prelude.{◌≡◌, ◌≤◌};
 ghost use Rattle.model.specs.Line.{SESSIONS};
 ghost use Rattle.model.specs.Policy.{Policy, below_table};
 ghost use Rattle.model.specs.Run.{step_on, explain_by, returned};
 ghost use Rattle.sets.specs.Words.{values};
-ghost use Rattle.exclusion_rows.specs.Rows.{exclusions_in};
+ghost use Rattle.exclusion_rows.specs.Table.{exclusions_of};
+ghost use Rattle.reasons.specs.Numbers.{returned_by};
 ghost use Rattle.sessions.specs.Calls.{Known};
 
 use ledger::bytes::line_of;
-use model::{Permission, refusals};
+use model::Permission;
+use policy_tables::PolicyTables;
+use reasons::{Reason, Refusal};
 use sessions::first::{first_refusal, session_refusal};
-use sessions::given::{Sizes, UserSession};
+use sessions::given::UserSession;
 use tables_rows::explain::explain;
 
-// The lowest active role of the user's session that carries the permission, with its granting role.
+// The lowest active role of the user's session that carries the permission, with its granting role: 64 times the one
+// plus the other.
 pub fn explain_session(
     ledger: &[u8],
-    sizes: Sizes,
-    authorized: &[u64; 64],
-    granted: &[[u64; 4]; 64],
-    below: &[u64; 64],
-    xs: &[[u64; 2]; 32],
+    tables: &PolicyTables,
     who: UserSession,
     permission: u64,
-) -> u64
-    requires { (sizes.head.users ≤ 64) × (sizes.head.permissions ≤ 256) × (sizes.count ≤ 32) × (length xs.now ≡ 32) }
-    ensures { (p : Policy) → Known sizes.head authorized.now (exclusions_in xs.now sizes.count) p
-        → values granted.now ≡ p.granted
-        → below.now ≡ below_table p
-        → result ≡ returned (step_on SESSIONS p ledger.now (explain_by who.user who.session permission)).reply }
+) -> Result<u64, Refusal>
+    requires { tables.now.head.permissions ≤ 256 }
+    ensures { (p : Policy) → Known tables.now.head tables.now.authorized (exclusions_of tables.now.exclusions) p
+        → values tables.now.granted ≡ p.granted
+        → tables.now.below ≡ below_table p
+        → returned_by result ≡ returned (step_on SESSIONS p ledger.now (explain_by who.user who.session permission)).reply }
 {
-    let user = who.user;
     let session = who.session;
-    let n = first_refusal(ledger, sizes, authorized, xs, user);
-    if n != 0 {
-        return n;
+    first_refusal(ledger, tables, who.user)?;
+    let l = line_of(ledger, who.user as usize);
+    session_refusal(l, session)?;
+    if tables.head.permissions as u64 <= permission {
+        return Err(Refusal::from(Reason::Permission));
     }
-    let u = user as usize;
-    let l = line_of(ledger, u);
-    let m = session_refusal(l, session);
-    if m != 0 {
-        return m;
-    }
-    let k = session as usize;
-    if sizes.head.permissions as u64 <= permission {
-        return refusals::PERMISSION;
-    }
-    let shown = l.sessions[k];
-    let active = shown.active;
-    explain(granted, below, active, Permission(permission as u8))
+    let active = l.sessions[session as usize].active;
+    let explained = explain(
+        &tables.granted,
+        &tables.below,
+        active,
+        Permission(permission as u8),
+    );
+    explained.ok_or(Refusal::from(Reason::NoRoles))
 }

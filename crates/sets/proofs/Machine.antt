@@ -7,11 +7,11 @@ use Prim.Native.Nat.{ℕ, ◌+◌, ◌*◌, ◌%◌, ◌^◌, ◌<◌}
 use native.Mathlib.Nat.{mul_comm}
 use native.Mathlib.Omega.{arith}
 use mir.Val.{Fits}
-use mir.Syntax.{w32, w64}
+use mir.Syntax.{w64}
 use lib.Dec.{eqb, ltb}
 use lib.Pow.{pow-add, pow-lt}
 use lib.Bits.{bit_and, bit_or, bit_xor, and_lt}
-use lib.Count.{ones, ones-le}
+use lib.Count.{ones}
 use lib.ListN.{length, set}
 use lib.Seq.{ext_get_or}
 use Rattle.model.specs.Sets.{has, union, inter, with, within, count}
@@ -26,26 +26,11 @@ pub word_without : (n r : ℕ) → r < 64 → bit_xor n ((1 * 2 ^ r) % 2 ^ 64) �
 unfolding without
 word_without n r h = ap (bit_xor n) (shl_one 64 r h)
 
-pub word_with : (n r : ℕ) → r < 64 → bit_or n ((1 * 2 ^ r) % 2 ^ 64) ≡ with n r
-word_with n r h = ap (bit_or n) (shl_one 64 r h)
-
 pub word_count : (n : ℕ) → Fits w64 n → ones n ≡ count 64 n
 word_count n h = ones_count 64 n h.fits
 
 pub word_fewer : (a m n : ℕ) → Fits w64 a → Fits w64 m → ltb (ones (bit_and a m)) n ≡ ltb (count 64 (inter a m)) n
 word_fewer a m n ha hm = ap (λ (x : ℕ). ltb x n) (ones_count 64 (bit_and a m) (and_lt 64 a m ha.fits hm.fits))
-
--- the sums of counts fit
-module _ (a b : ℕ) (ha : Fits w64 a) (hb : Fits w64 b) where
-  pub ones_2 : Fits w32 (ones a + ones b)
-  ones_2 = omega (arith, ones-le 64 a ha.fits, ones-le 64 b hb.fits)
-
-  pub ones_3 : (c : ℕ) → Fits w64 c → Fits w32 (ones a + ones b + ones c)
-  ones_3 c hc = omega (arith, ones-le 64 a ha.fits, ones-le 64 b hb.fits, ones-le 64 c hc.fits)
-
-  pub ones_4 : (c d : ℕ) → Fits w64 c → Fits w64 d → Fits w32 (ones a + ones b + ones c + ones d)
-  ones_4 c d hc hd =
-      omega (arith, ones-le 64 a ha.fits, ones-le 64 b hb.fits, ones-le 64 c hc.fits, ones-le 64 d hd.fits)
 
 -- ---- four words of 64 bits: what the code computes, as the set's operation
 module _ (ws : List ℕ) (fit : (i : ℕ) → Fits w64 (word ws i)) where

@@ -4,3 +4,4 @@
 pub mod Words
 -- Helpers of code and proofs: no theorem and no exported contract is stated in these.
 pub mod Members
+pub mod Walks

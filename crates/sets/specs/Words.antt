@@ -1,6 +1,6 @@
 -- Permission sets in four words of 64 bits.
 -- Assumes nothing.
-use Rattle.std.specs.Prelude.{◌≡◌, List, map, ℕ, zero, suc, ◌+◌, ◌*◌, ◌^◌, ◌<◌, length, get_or}
+use Rattle.std.specs.Prelude.{◌≡◌, List, map, ℕ, zero, suc, ◌+◌, ◌*◌, ◌^◌, length, get_or}
 use Rattle.std.proofs.Common.{Fits}
 use Rattle.std.specs.Int.{w64}
 

@@ -2,10 +2,14 @@
 // the model's definition of the same name says of the sets that the words hold.
 #![tactic(auto)]
 
+pub mod counted; // counted.rt: sets of either kind, counted
+
 ghost use Rattle.std.specs.Prelude.{◌≡◌, ◌<◌, ltb, get_or, set};
+ghost use Rattle.std.specs.Iterator.{at_most};
 ghost use Rattle.model.specs.Tests.{pick};
 ghost use Rattle.model.specs.Sets.{has as has_of, union as union_of, inter as inter_of, with as with_of, within as within_of, count, union_at};
 ghost use Rattle.sets.specs.Members.{without as without_of, Lowest};
+ghost use Rattle.sets.specs.Walks.{TakesLowest};
 ghost use Rattle.sets.specs.Words.{value, values, FourWords};
 
 use model::{Permission, Role};
@@ -18,7 +22,7 @@ pub fn lowest_bit(word: u64) -> u8
     requires { 0 < word }
     ensures { Lowest word result }
 {
-    u64::trailing_zeros(word) as u8
+    word.trailing_zeros() as u8
 }
 
 // The word without its bit k.
@@ -29,7 +33,39 @@ pub fn without_bit(word: u64, k: u8) -> u64
     word ^ (1 << k)
 }
 
+// The places of a word's bits, the lowest first.
+#[derive(Clone, Copy)]
+pub struct Bits {
+    pub left: u64,
+}
+
+impl Iterator for Bits {
+    type Item = u8;
+
+    ghost next_gives = { TakesLowest };
+
+    ghost remaining = { λ s. at_most (count 64 s.left) };
+
+    fn next(&mut self) -> Option<u8> {
+        if self.left == 0 {
+            return None;
+        }
+        let k = lowest_bit(self.left);
+        self.left = without_bit(self.left, k);
+        Some(k)
+    }
+}
+
+// The numbers of a set's members, the lowest first.
+pub fn members(set: u64) -> Bits
+    ensures { result.left ≡ set }
+{
+    Bits { left: set }
+}
+
 // ---- role sets
+
+// The functions on role sets and those on permission sets have two names each, so that a call says which it is about.
 
 pub fn has(set: u64, r: Role) -> bool
     requires { r.0 < 64 }
@@ -88,14 +124,14 @@ pub fn within(a: u64, b: u64) -> bool
 pub fn size(a: u64) -> u32
     ensures { result ≡ count 64 a }
 {
-    u64::count_ones(a)
+    a.count_ones()
 }
 
 // Fewer than n of the members are in the set.
 pub fn fewer(set: u64, members: u64, n: u32) -> bool
     ensures { result ≡ ltb (count 64 (inter_of set members)) n }
 {
-    u64::count_ones(set & members) < n
+    (set & members).count_ones() < n
 }
 
 // The lowest role of a set that has one.
@@ -116,7 +152,8 @@ pub fn perm_has(set: [u64; 4], p: Permission) -> bool
     (set[place] >> spot.bit) % 2 == 1
 }
 
-// What a row's type says of it, which nothing says of a row behind a reference. There is nothing to run.
+// What a row's type says of its words, for a proof about a row behind a reference, of which nothing says it. There is
+// nothing to run.
 fn four_words(row: [u64; 4])
     ensures { FourWords row }
 {}
@@ -129,18 +166,25 @@ pub struct WideRole(pub u32);
 #[derive(Clone, Copy)]
 pub struct WidePermission(pub u32);
 
-// Row r takes in the permission p: of its four words the one that has p is stored, and no other is read. A shift finds
-// the place, and a subtraction the bit: a pass over grants in any order guesses wrong at comparisons.
+// The row takes in the permission p: of its four words the one that has p is stored, and no other is read. A shift
+// finds the place, and a subtraction the bit: a pass over grants in any order guesses wrong at comparisons.
+fn row_put(row: &mut [u64; 4], p: WidePermission)
+    requires { p.0 < 256 }
+    ensures { value row.new ≡ with_of (value row.old) p.0 }
+{
+    four_words(*row);
+    let high = p.0 >> 6;
+    let place = high as usize;
+    let bit = p.0 - high * 64;
+    row[place] |= 1 << bit;
+}
+
+// Row r takes in the permission p.
 pub fn wide_put(rows: &mut [[u64; 4]; 64], r: WideRole, p: WidePermission)
     requires { (r.0 < 64) × (p.0 < 256) }
     ensures { values rows.new ≡ set (values rows.old) r.0 (with_of (get_or (values rows.old) r.0 0) p.0) }
 {
-    let who = r.0 as usize;
-    let high = p.0 >> 6;
-    let place = high as usize;
-    let bit = p.0 - high * 64;
-    four_words(rows[who]);
-    rows[who][place] = rows[who][place] | (1 << bit);
+    row_put(&mut rows[r.0 as usize], p);
 }
 
 // The same of a role and a permission in 8 bits.
@@ -157,18 +201,14 @@ pub fn perm_union(a: [u64; 4], b: [u64; 4]) -> [u64; 4]
     [a[0] | b[0], a[1] | b[1], a[2] | b[2], a[3] | b[3]]
 }
 
-// The permissions of the rows at the roles of a set, which is walked by its lowest member.
+// The permissions of the rows at the roles of a set.
 pub fn perm_union_at(rows: &[[u64; 4]; 64], roles: u64) -> [u64; 4]
     ensures { value result ≡ union_at (values rows.now) roles }
 {
-    let mut left = roles;
     let mut all = [0u64; 4];
-    while left != 0 {
-        let r = lowest(left);
-        let i = r.0 as usize;
-        let next = perm_union(all, rows[i]);
+    for r in members(roles) {
+        let next = perm_union(all, rows[r as usize]);
         all = next;
-        left = without(left, r);
     }
     all
 }
@@ -184,5 +224,5 @@ pub fn perm_within(a: [u64; 4], b: [u64; 4]) -> bool
 pub fn perm_size(a: [u64; 4]) -> u32
     ensures { result ≡ count 256 (value a) }
 {
-    u64::count_ones(a[0]) + u64::count_ones(a[1]) + u64::count_ones(a[2]) + u64::count_ones(a[3])
+    a[0].count_ones() + a[1].count_ones() + a[2].count_ones() + a[3].count_ones()
 }

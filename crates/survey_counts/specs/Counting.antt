@@ -5,7 +5,7 @@ use Rattle.model.specs.Judgement.{judge}
 use Rattle.model.specs.Session.{Reply}
 use Rattle.model_script.specs.Script.{answer_to, first_ledger}
 use Rattle.script_input.specs.Kept.{lines_from}
-use Rattle.survey_counts.specs.declared.counts.Counted.{Counted}
+use Rattle.script_input.specs.declared.lines.Run.{Run}
 
 -- the table with an answer counted
 unfoldable pub noted : List ℕ → Reply → List ℕ
@@ -22,7 +22,7 @@ Most counts n = (k : ℕ) → get_or counts k 0 ≤ n
 
 -- the lines that end in a chunk are answered and counted: whatever comes behind the chunk, the counts in the end are
 -- the same
-pub record CountsChunk (image chunk line : List ℕ) (kept : ℕ) (ledger counts : List ℕ) (calls : ℕ) (line' ledger' counts' : List ℕ) (r : Counted) : Type 0 where
+pub record CountsChunk (image chunk line : List ℕ) (kept : ℕ) (ledger counts : List ℕ) (calls : ℕ) (line' ledger' counts' : List ℕ) (r : Run) : Type 0 where
   pub few : r.kept ≤ 174
   pub counted : r.calls ≤ calls + length chunk
   pub most : Most counts' r.calls

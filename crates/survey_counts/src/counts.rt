@@ -6,15 +6,8 @@ ghost use Rattle.script_text.specs.Writing.{Stores};
 ghost use Rattle.model_survey.specs.Survey.{count_line as count_line_of, count_lines};
 ghost use Rattle.survey_counts.specs.Counting.{noted, tally, Most, CountsChunk};
 
-use script_input::lines::gather;
+use script_input::lines::{Run, gather};
 use survey_figures::figures::put_two;
-
-// A run between two chunks: how many bytes of the line are kept, and how many calls are answered.
-#[derive(Clone, Copy)]
-pub struct Counted {
-    pub kept: usize,
-    pub calls: u64,
-}
 
 // Answers a line and counts its answer; returns how many calls are answered.
 fn count_line(
@@ -24,12 +17,11 @@ fn count_line(
     counts: &mut [u64; 256],
     calls: u64,
 ) -> u64
-    requires { (length counts.old ≡ 256) × (Most counts.old calls) × (calls < 18446744073709551615) }
+    requires { (Most counts.old calls) × (calls < 18446744073709551615) }
     ensures { (result ≡ calls + 1)
         × (counts.new ≡ noted counts.old (answer_to image.now ledger.old line.now).reply)
         × (ledger.new ≡ (answer_to image.now ledger.old line.now).ledger)
-        × (Most counts.new result)
-        × (length counts.new ≡ 256) }
+        × (Most counts.new result) }
 {
     let n = script_replies::answer(image, ledger, line) as usize;
     let had = counts[n];
@@ -41,31 +33,32 @@ fn count_line(
 pub fn count_chunk(
     image: &[u8],
     ledger: &mut [u8],
-    line: &mut [u8],
+    line: &mut [u8; 174],
     chunk: &[u8],
     counts: &mut [u64; 256],
-    kept: usize,
-    calls: u64,
-) -> Counted
-    requires { (length line.old ≡ 174) × (kept ≤ 174) × (length counts.old ≡ 256) × (Most counts.old calls)
-        × (calls + length chunk.now ≤ 18446744073709551615) }
-    ensures { CountsChunk image.now chunk.now line.old kept ledger.old counts.old calls
+    run: Run,
+) -> Run
+    requires { (run.kept ≤ 174) × (Most counts.old run.calls) × (run.calls + length chunk.now ≤ 18446744073709551615) }
+    ensures { CountsChunk image.now chunk.now line.old run.kept ledger.old counts.old run.calls
         line.new ledger.new counts.new result }
 {
+    let Run {
+        mut kept,
+        mut calls,
+    } = run;
     let mut next: usize = 0;
-    let mut kept = kept;
-    let mut calls = calls;
+    // A turn takes a line, so the places are not counted one by one.
     while next < chunk.len() {
         let begun = gather(line, kept, chunk, next);
         kept = begun.kept;
         if chunk.len() <= begun.next {
-            return Counted { kept, calls };
+            return Run { kept, calls };
         }
         calls = count_line(image, ledger, &line[..kept], counts, calls);
         kept = 0;
         next = begun.next + 1;
     }
-    Counted { kept, calls }
+    Run { kept, calls }
 }
 
 // Answers a line that is begun at the end of the input, and counts its answer; returns how many calls are answered.
@@ -73,20 +66,19 @@ pub fn count_chunk(
 pub fn count_last(
     image: &[u8],
     ledger: &mut [u8],
-    line: &[u8],
+    line: &[u8; 174],
     counts: &mut [u64; 256],
-    kept: usize,
-    calls: u64,
+    run: Run,
 ) -> u64
-    requires { (length line.now ≡ 174) × (kept ≤ 174) × (length counts.old ≡ 256) × (Most counts.old calls) × (calls < 18446744073709551615) }
+    requires { (run.kept ≤ 174) × (Most counts.old run.calls) × (run.calls < 18446744073709551615) }
     ensures { (counts.new
-        ≡ tally image.now ledger.old counts.old (lines_from (take kept line.now) []))
-        × (length counts.new ≡ 256) × (Most counts.new result) × (result ≤ calls + 1) }
+        ≡ tally image.now ledger.old counts.old (lines_from (take run.kept line.now) []))
+        × (Most counts.new result) × (result ≤ run.calls + 1) }
 {
-    if kept < 1 {
-        return calls;
+    if run.kept < 1 {
+        return run.calls;
     }
-    count_line(image, ledger, &line[..kept], counts, calls)
+    count_line(image, ledger, &line[..run.kept], counts, run.calls)
 }
 
 // Writes the line of a number that has a count.

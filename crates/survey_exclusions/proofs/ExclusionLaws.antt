@@ -2,12 +2,14 @@
 -- Assumes nothing.
 use mathlib.Core.Path.{◌≡◌, sym, ap, subst, ◌∙◌}
 use mathlib.Core.Bool.{true, false}
-use mathlib.Core.List.{List, [], ◌∷◌, ◌++◌, map, append-nil, append_assoc}
+use mathlib.Core.List.{List, [], ◌∷◌, ◌++◌, append-nil, append_assoc}
 use Prim.Native.Nat.{ℕ, zero, suc, ◌+◌, ◌-◌, ◌/◌, ◌≤◌, ◌<◌}
 use native.Mathlib.Numerals.{add-one}
+use native.Mathlib.Decide.{dec_lt}
 use native.Mathlib.Omega.{arith}
-use lib.ListN.{length, get_or, take, drop, length-map}
-use lib.Seq.{drop-cons, take_all, length-take-le}
+use lib.ListN.{length, get_or, take, drop}
+use lib.Seq.{drop-cons, take_all}
+use Rattle.std.proofs.lemmas.List.{drop_all}
 use Rattle.model.specs.declared.Kind.TheVariants.{SsDmer}
 use Rattle.model.specs.declared.Entry.{Entry}
 use Rattle.model.specs.declared.Entry.TheVariants.{Assignment, Grant, Senior, Exclude, Member, Limit, End, Unknown}
@@ -19,10 +21,8 @@ use Rattle.model.specs.Judgement.{judge}
 use Rattle.model.specs.Image.{behind_head}
 use Rattle.model.specs.Policy.{entry_at, entries_from, exclusions_of, policy_of, kind_number}
 use Rattle.model.specs.Ranges.{Each}
-use Rattle.exclusion_rows.specs.Rows.{exclusion_of}
 use Rattle.image_reader.specs.Places.{exclusion_after, entries_behind, exclusion_by as walked_by}
-use Rattle.image_reader.proofs.Walk.{Visits, visits_next, visits_start}
-use Rattle.tables.specs.Tables.{Tables}
+use Rattle.image_reader.proofs.Walk.{Visits, visits_next, visits_some, visits_start}
 use Rattle.tables_exclusions.specs.Exclusions.{exclusion_by as read_by, exclusion_at}
 use Rattle.script_text.specs.Writing.{Stores}
 use Rattle.script_text.proofs.TextLaws.{put_nothing, puts-joined, puts_as, text_put}
@@ -85,6 +85,14 @@ module _ (s : List ℕ) where
   unfolding exclusion_lines policy_of
   walk_none out = record { behind = sym (visits_start s); lines = put_nothing out 0 }
 
+  -- where the walk goes on there is another
+  pub walk_more : {before : List ℕ} {place i : ℕ} {out : List ℕ} {next : ℕ} → Walked before place i out next → 0 < exclusion_after s place → i < length all
+  walk_more {before} {place} {i} w h =
+      elim (dec_lt i (length all)) [
+        | yes q ↦ q
+        | no q ↦ absurd (visits_some s place h (sym w.behind ∙ drop_all i all (omega arith)))
+      ]
+
   module _ {before : List ℕ} {place i : ℕ} {out : List ℕ} {next : ℕ} (w : Walked before place i out next) (h : i < length all) where
     visit : Visits s place (get_or all i other) (drop (i + 1) all)
     visit =
@@ -118,17 +126,16 @@ module _ (s : List ℕ) where
                   (puts-joined w.lines p);
             }
 
+  -- and where it ends there is none
+  pub walk_over : {before : List ℕ} {place i : ℕ} {out : List ℕ} {next : ℕ} → Walked before place i out next → 0 ≡ exclusion_after s place → length all ≤ i
+  walk_over {before} {place} {i} w e =
+      elim (dec_lt i (length all)) [ yes q ↦ let v = visit w q in absurd (omega (arith, v.before, e)) | no q ↦ omega arith ]
+
   pub walk_all : {before : List ℕ} {place i : ℕ} {out : List ℕ} {next : ℕ} → Walked before place i out next → length all ≤ i
       → Stores before 0 (exclusion_lines all) out next
   walk_all {before} {place} {i} w h = puts_as (ap (λ (l : List Exclusion). exclusion_lines l) (take_all i all h)) w.lines
 
 -- ---- what is printed before the script is read
-
--- as many exclusions as the tables have rows
-pub rows_all : (s own granted below limits : List ℕ) (rows : List (List ℕ)) (n : ℕ) → Tables (policy_of s) own granted below limits rows n
-    → n ≡ length (policy_of s).exclusions
-rows_all s own granted below limits rows n t =
-    sym (length-take-le n (map exclusion_of rows) (omega (arith, t.few, t.full, length-map rows exclusion_of))) ∙ ap length t.exclusions_are
 
 pub opens_accepted : (s : List ℕ) (h : Head) (out out' : List ℕ) (r : ℕ) → judge s ≡ Accepted h → 2688 ≤ length out
     → Stores out 0 (exclusion_lines (policy_of s).exclusions) out' r → r ≤ 2688 → Opens s out' (record { filled = r; accepted = true })

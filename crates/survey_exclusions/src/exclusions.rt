@@ -1,5 +1,5 @@
 // The lines of an image's exclusions, or that of its refusal.
-ghost use Rattle.std.specs.Prelude.{◌≡◌, ◌+◌, ◌≤◌, length};
+ghost use Rattle.std.specs.Prelude.{◌+◌, ◌≤◌, length};
 ghost use Rattle.model.specs.Policy.{policy_of};
 ghost use Rattle.model.specs.Ranges.{Each};
 ghost use Rattle.script_text.specs.Writing.{Stores};
@@ -7,11 +7,14 @@ ghost use Rattle.model_survey.specs.Survey.{exclusion_line, exclusion_lines};
 ghost use Rattle.survey_exclusions.specs.Writing.{Fitting, Opens};
 
 use image_reader::exclusion_after;
-use model::{Checked, Exclusion};
+use model::Exclusion;
+use reasons::number;
 use survey_figures::figures::{put_four, put_two};
+use tables::judge::judge;
 use tables_exclusions::exclusions::exclusion_at;
 
-// What is printed before the script is read: how much of the buffer it fills, and whether the image is accepted.
+// What is printed before the script is read: how much of the buffer it fills, and whether the image is accepted. It is
+// no Result: a refused image fills the buffer too.
 #[derive(Clone, Copy)]
 pub struct Opening {
     pub filled: usize,
@@ -30,20 +33,19 @@ fn put_exclusion(out: &mut [u8], at: usize, x: Exclusion) -> usize
     put_four(out, at, which as u64, x.n as u64, size as u64, sets)
 }
 
-// Writes the lines of an image's exclusions, so many, from the start of the buffer on. The reader goes from one to the
-// next, in image order, and a repeated one comes again.
-fn put_exclusions(out: &mut [u8], image: &[u8], count: usize) -> usize
-    requires { (2688 ≤ length out.old) × (count ≤ 32) × (count ≡ length (policy_of image.now).exclusions)
+// Writes the lines of an image's exclusions from the start of the buffer on. The reader goes from one to the next, in
+// image order, and a repeated one comes again.
+fn put_exclusions(out: &mut [u8], image: &[u8]) -> usize
+    requires { (2688 ≤ length out.old) × (length (policy_of image.now).exclusions ≤ 32)
         × (Each Fitting (policy_of image.now).exclusions) }
     ensures { (Stores out.old 0 (exclusion_lines (policy_of image.now).exclusions) out.new result) × (result ≤ 2688) }
 {
     let words = image.len() / 4;
     let mut next: usize = 0;
     let mut place: usize = 0;
-    for i in 0..count {
-        place = exclusion_after(image, place);
-        let x = exclusion_at(image, words, place);
-        next = put_exclusion(out, next, x);
+    while let Some(at) = exclusion_after(image, place) {
+        next = put_exclusion(out, next, exclusion_at(image, words, at));
+        place = at;
     }
     next
 }
@@ -54,30 +56,16 @@ pub fn put_opening(image: &[u8], out: &mut [u8]) -> Opening
     requires { 2688 ≤ length out.old }
     ensures { Opens image.now out.new result }
 {
-    let mut assigned = [0u64; 64];
-    let mut granted = [[0u64; 4]; 64];
-    let mut juniors = [0u64; 64];
-    let mut limits = [0u64; 64];
-    let mut rows = [[0u64; 2]; 32];
-    let all = tables::read::read(
-        image,
-        &mut assigned,
-        &mut granted,
-        &mut juniors,
-        &mut limits,
-        &mut rows,
-    );
-    let checked = all.checked;
-    match checked {
-        Checked::Accepted(_) => {
-            let filled = put_exclusions(out, image, all.count);
+    match judge(image) {
+        Ok(_) => {
+            let filled = put_exclusions(out, image);
             Opening {
                 filled,
                 accepted: true,
             }
         }
-        Checked::Refused(number, place) => {
-            let filled = put_two(out, 0, number as u64, place as u64);
+        Err(refusal) => {
+            let filled = put_two(out, 0, number(refusal.reason), refusal.extra as u64);
             Opening {
                 filled,
                 accepted: false,

@@ -26,7 +26,7 @@ use Rattle.script_input.proofs.KeptLines.{cut, kept_answer, kept_lines}
 use Rattle.model_survey.specs.Survey.{answers_for, answers_of, count_of, two_figures, exclusion_lines, count_lines, survey_by, survey}
 use Rattle.model_survey.specs.Parts.{opening_of, closing_of}
 use Rattle.model_survey.proofs.Answers.{answer_small}
-use Rattle.survey_counts.specs.declared.counts.Counted.{Counted}
+use Rattle.script_input.specs.declared.lines.Run.{Run}
 use Rattle.survey_counts.specs.Counting.{noted, tally, CountsChunk, Standing, Begins, counts_from}
 
 -- ---- the whole
@@ -98,7 +98,7 @@ unfolding survey
 run_prints image input = by_judgement (judge image) image input _ (run-counts image input)
 
 -- A chunk that is counted as `count_chunk` promises takes one standing to the other.
-pub chunk_taken : {image chunk line : List ℕ} {kept : ℕ} {ledger counts : List ℕ} {calls : ℕ} {line' ledger' counts' : List ℕ} {r : Counted}
+pub chunk_taken : {image chunk line : List ℕ} {kept : ℕ} {ledger counts : List ℕ} {calls : ℕ} {line' ledger' counts' : List ℕ} {r : Run}
     → CountsChunk image chunk line kept ledger counts calls line' ledger' counts' r
     → Takes Standing (List ℕ) (counts_from image) chunk (record { line = line; kept = kept; ledger = ledger; counts = counts })
     (record { line = line'; kept = r.kept; ledger = ledger'; counts = counts' })

@@ -1,6 +1,6 @@
 -- The exclusions of an image are those at the places of its exclusion words.
 -- Assumes nothing.
-use Rattle.std.proofs.Common.{◌≡◌, ℕ, zero, suc, ◌+◌, ◌-◌, ◌<◌, ◌≤◌, Bool, true, false, eqb, ltb, List, ◌∷◌, ◌++◌, map, length, get_or, take, set, replicate, sym, refl, ap, ◌∙◌, subst, ap₂, append-nil, add-one, arith, length-set, get_or-set_other, get_or-set_same, take-suc-set, ltb-false, ltb-true, eqb-true}
+use Rattle.std.proofs.Common.{◌≡◌, ℕ, zero, suc, ◌+◌, ◌-◌, ◌<◌, ◌≤◌, Bool, true, false, eqb, ltb, List, [], ◌∷◌, ◌++◌, map, length, get_or, take, set, replicate, sym, refl, ap, ◌∙◌, subst, ap₂, append-nil, add-one, arith, length-set, get_or-set_other, get_or-set_same, take-suc-set, ltb-false, ltb-true, eqb-true}
 use lib.Seq.{set_out, append_snoc}
 use borrow.Author.Tests.{eqb-false}
 use Rattle.model.specs.declared.Exclusion.{Exclusion}
@@ -125,3 +125,10 @@ next_few t (Member r) d h = h
 next_few t (Limit r n) d h = h
 next_few t End d h = h
 next_few t Unknown d h = h
+
+-- each of the first places is below the bound
+pub taken_below : (n b : ℕ) (ps : List ℕ) → ((j : ℕ) → get_or ps j 0 < b) → (k d : ℕ) → k < length (take n ps) → get_or (take n ps) k d < b
+taken_below zero b ps h k d l = absurd (omega arith)
+taken_below (suc n) b [] h k d l = absurd (omega arith)
+taken_below (suc n) b (p ∷ ps) h zero d l = h 0
+taken_below (suc n) b (p ∷ ps) h (suc k) d l = taken_below n b ps (λ j. h (suc j)) k d (omega arith)

@@ -1,191 +1,141 @@
 // One pass over an image that judges it and fills the tables of its policy on the way.
-ghost use Rattle.std.specs.Prelude.{◌≡◌, ◌-◌, ◌*◌, ◌/◌, ◌≤◌, length};
+ghost use Rattle.std.specs.Prelude.{◌≡◌, ◌-◌, ◌≤◌, IfOk, IfErr, Ok};
 ghost use Rattle.model.specs.declared.Head.{Head as HeadOf};
 ghost use Rattle.model.specs.Image.{scan, start, judge_words};
 ghost use Rattle.model.specs.Judgement.{judge};
 ghost use Rattle.model.specs.Policy.{policy_of};
-ghost use Rattle.sets.specs.Words.{values};
-ghost use Rattle.tables.specs.Tables.{Fresh, Gathered, Read, Tables};
+ghost use Rattle.reasons.specs.Numbers.{number_of, checked_of};
+ghost use Rattle.policy_tables.specs.Held.{Holds};
+ghost use Rattle.tables.specs.Tables.{Fresh, Gathered, Read};
 
 use hierarchy_judged::loops::{judged, settled};
 use image::check::{fresh, next};
 use image::ending::closing;
-use image::front::front_fault;
-use image_usual::usual::{Run, members};
+use image::front::words_of;
+use image_faults::fault::at_place;
+use image_usual::usual::members;
 use image_words::word::{decode, head_of};
+use image_words::words::{ImageWords, Run};
 use model::{Checked, Head};
+use policy_tables::PolicyTables;
+use reasons::Refusal;
 use tables_exclusions::exclusions::exclusions_at;
 use tables_usual::usual::pass;
 use tables_words::take::{Placed, step};
 
-// What a pass over an image answers: the judgement and, of an accepted image, the number of exclusions.
-#[derive(Clone, Copy)]
-pub struct Reading {
-    pub checked: Checked,
-    pub count: usize,
-}
-
-// A refusal, with no exclusion.
-fn refused(number: u8, place: u16) -> Reading
-    ensures { result.checked ≡ Checked.Refused number place }
-{
-    Reading {
-        checked: Checked::Refused(number, place),
-        count: 0,
-    }
-}
-
 // Judges the words behind a right head, and fills the tables; `first` is the head's word.
 fn read_words(
-    image: &[u8],
+    image: &ImageWords,
     h: Head,
     first: u32,
-    assigned: &mut [u64; 64],
-    granted: &mut [[u64; 4]; 64],
-    juniors: &mut [u64; 64],
-    limits: &mut [u64; 64],
-    xs: &mut [[u64; 2]; 32],
-) -> Reading
-    requires { (4 * (length image.now / 4) ≤ length image.now) × (2 ≤ length image.now / 4) × (length image.now / 4 ≤ 4096)
-        × (length xs.old ≡ 32) }
-    ensures { (result.checked ≡ scan image.now h (length image.now / 4 - 1) 1 assigned.old start first)
-        × ((g : HeadOf) → result.checked ≡ Checked.Accepted g
-        → Gathered image.now (length image.now / 4 - 1) assigned.old (values granted.old)
-        juniors.old limits.old
-        assigned.new (values granted.new) juniors.new limits.new xs.new result.count) }
+    tables: &mut PolicyTables,
+) -> Result<Head, Refusal>
+    requires { 2 ≤ image.now.count }
+    ensures { (checked_of result ≡ scan image.now.bytes.now h (image.now.count - 1) 1 tables.old.authorized start first)
+        × ((g : HeadOf) → result ≡ Ok g → Gathered image.now.bytes.now (image.now.count - 1) tables.old tables.new) }
 {
-    let words = image.len() / 4;
+    let end = image.last();
     let mut places = [0usize; 32];
     let mut t = fresh();
     let mut at = Run {
         place: 1,
         sum: first,
     };
-    while at.place + 1 < words {
-        let joined = members(image, words, at, h.roles, t);
+    // A turn takes the members that are due, a run of usual words and one other word, so the places are not counted one
+    // by one.
+    while at.place < end {
+        let joined = members(image, at, h.roles, t);
         t = joined.scan;
-        let from = Run {
-            place: joined.place,
-            sum: joined.sum,
-        };
-        let here = pass(image, words, from, h, t.due, assigned, granted, juniors);
-        if words <= here.place + 1 {
+        let here = pass(
+            image,
+            joined.run,
+            h,
+            t.due,
+            &mut tables.authorized,
+            &mut tables.granted,
+            &mut tables.below,
+        );
+        if end <= here.place {
             at = here;
             continue;
         }
-        let w = octets::word_at(image, here.place);
+        let w = image.word(here.place);
         let word = decode(w);
         let placed = Placed {
             word,
             place: here.place,
         };
-        let number = step(
+        let taken = step(
             h,
-            assigned,
-            granted,
-            juniors,
-            limits,
+            &mut tables.authorized,
+            &mut tables.granted,
+            &mut tables.below,
+            &mut tables.limits,
             &mut places,
             t,
             placed,
         );
-        if number != 0 {
-            return refused(number, here.place as u16);
-        }
+        at_place(taken, here.place)?;
         let e = word.entry;
         t = next(t, e);
-        at = Run {
-            place: here.place + 1,
-            sum: std::num::wrapping_add_u32(here.sum, w),
-        };
+        at = here.past(w);
     }
-    let checked = closing(image, words, h, t.due, at.sum);
-    let Checked::Accepted(_) = checked else {
-        return Reading { checked, count: 0 };
-    };
-    let count = t.exclusions as usize;
-    exclusions_at(image, words, &places, count, xs);
-    Reading { checked, count }
+    let head = closing(image, h, t.due, at.sum)?;
+    exclusions_at(
+        image,
+        &places[..t.exclusions as usize],
+        &mut tables.exclusions,
+    );
+    Ok(head)
 }
 
-// Judges an image by its words and, where they pass, leaves in the tables the roles assigned to each user, the
-// permissions granted to each role, the direct juniors of each role, the limit of each role and the exclusions.
-fn gather(
-    image: &[u8],
-    assigned: &mut [u64; 64],
-    granted: &mut [[u64; 4]; 64],
-    juniors: &mut [u64; 64],
-    limits: &mut [u64; 64],
-    xs: &mut [[u64; 2]; 32],
-) -> Reading
-    requires { (Fresh assigned.old (values granted.old) juniors.old limits.old) × (length xs.old ≡ 32) }
-    ensures { (result.checked ≡ judge_words image.now)
-        × ((g : HeadOf) → result.checked ≡ Checked.Accepted g
-        → Read (policy_of image.now) assigned.new (values granted.new) juniors.new limits.new
-        xs.new result.count) }
+// Judges an image by its words and, where they pass, leaves in the tables the head's numbers, the roles assigned to
+// each user, the permissions granted to each role, the direct juniors of each role, the limit of each role and the
+// exclusions.
+fn gather(image: &[u8], tables: &mut PolicyTables) -> Result<Head, Refusal>
+    requires { Fresh tables.old }
+    ensures { (checked_of result ≡ judge_words image.now)
+        × ((g : HeadOf) → result ≡ Ok g → Read (policy_of image.now) tables.new) }
 {
-    let number = front_fault(image);
-    if number != 0 {
-        return refused(number, 0);
-    }
-    let w = octets::word_at(image, 0);
-    read_words(image, head_of(w), w, assigned, granted, juniors, limits, xs)
+    let words = words_of(image)?;
+    let w = words.word(0);
+    let head = read_words(&words, head_of(w), w, tables)?;
+    tables.head = head;
+    Ok(head)
 }
 
-// Judges an image and, where it is accepted, leaves in the tables the roles that each user may activate, the
-// permissions granted to each role, the roles below each role, the limit of each role and the exclusions.
-pub fn read(
-    image: &[u8],
-    authorized: &mut [u64; 64],
-    granted: &mut [[u64; 4]; 64],
-    below: &mut [u64; 64],
-    limits: &mut [u64; 64],
-    xs: &mut [[u64; 2]; 32],
-) -> Reading
-    requires { (Fresh authorized.old (values granted.old) below.old limits.old) × (length xs.old ≡ 32) }
-    ensures { (result.checked ≡ judge image.now)
-        × ((g : HeadOf) → result.checked ≡ Checked.Accepted g
-        → Tables (policy_of image.now) authorized.new (values granted.new) below.new limits.new
-        xs.new result.count) }
+// Judges an image and, where it is accepted, leaves the tables of its policy: the roles that each user may activate,
+// the permissions granted to each role, the roles below each role, the limit of each role and the exclusions.
+// One copy of it serves every call, so that the archive keeps within its size.
+#[inline(never)]
+pub fn read(image: &[u8], tables: &mut PolicyTables) -> Result<(), Refusal>
+    requires { Fresh tables.old }
+    ensures accepted { IfOk result (λ _. (judge image.now ≡ Checked.Accepted tables.new.head) × Holds tables.new (policy_of image.now)) }
+    ensures refused { IfErr result (λ r. judge image.now ≡ Checked.Refused (number_of r.reason) r.extra) }
 {
-    let all = gather(image, authorized, granted, below, limits, xs);
-    let c = all.checked;
-    if settled(c, below) {
-        return all;
+    let words = gather(image, tables);
+    if settled(words, &tables.below) {
+        words?;
+        return Ok(());
     }
-    let checked = judged(c, authorized, below);
-    Reading {
-        checked,
-        count: all.count,
-    }
+    judged(words, &mut tables.authorized, &mut tables.below)?;
+    Ok(())
 }
 
 // Judges an image and, where it is accepted, leaves in the tables what its words say: the roles assigned to each user,
 // the permissions granted to each role, the direct juniors of each role, the limit of each role and the exclusions.
-pub fn read_direct(
-    image: &[u8],
-    assigned: &mut [u64; 64],
-    granted: &mut [[u64; 4]; 64],
-    juniors: &mut [u64; 64],
-    limits: &mut [u64; 64],
-    xs: &mut [[u64; 2]; 32],
-) -> Reading
-    requires { (Fresh assigned.old (values granted.old) juniors.old limits.old) × (length xs.old ≡ 32) }
-    ensures { (result.checked ≡ judge image.now)
-        × ((g : HeadOf) → result.checked ≡ Checked.Accepted g
-        → Read (policy_of image.now) assigned.new (values granted.new) juniors.new limits.new
-        xs.new result.count) }
+pub fn read_direct(image: &[u8], tables: &mut PolicyTables) -> Result<(), Refusal>
+    requires { Fresh tables.old }
+    ensures accepted { IfOk result (λ _. (judge image.now ≡ Checked.Accepted tables.new.head) × Read (policy_of image.now) tables.new) }
+    ensures refused { IfErr result (λ r. judge image.now ≡ Checked.Refused (number_of r.reason) r.extra) }
 {
-    let all = gather(image, assigned, granted, juniors, limits, xs);
-    let c = all.checked;
-    if settled(c, juniors) {
-        return all;
+    let words = gather(image, tables);
+    if settled(words, &tables.below) {
+        words?;
+        return Ok(());
     }
-    let mut own = *assigned;
-    let mut below = *juniors;
-    let checked = judged(c, &mut own, &mut below);
-    Reading {
-        checked,
-        count: all.count,
-    }
+    let mut own = tables.authorized;
+    let mut below = tables.below;
+    judged(words, &mut own, &mut below)?;
+    Ok(())
 }

@@ -1,12 +1,13 @@
 // The exclusions of an image, read at the places of their words.
-ghost use Rattle.std.specs.Prelude.{◌≡◌, map, ℕ, ◌+◌, ◌-◌, ◌*◌, ◌^◌, ◌≤◌, ◌<◌, length, get_or, take};
+ghost use Rattle.std.specs.Prelude.{◌≡◌, map, ◌+◌, ◌-◌, ◌*◌, ◌^◌, ◌≤◌, ◌<◌, length, take, All};
 ghost use Rattle.model.specs.Policy.{fold, joining, entries_from};
 ghost use Rattle.image_words.specs.Bounds.{Small};
 ghost use Rattle.exclusion_rows.specs.Rows.{exclusion_of};
 ghost use Rattle.tables_exclusions.specs.Exclusions.{nothing as nothing_of, exclusion_at as exclusion_at_of};
 
-use exclusion_rows::row_of;
+use exclusion_rows::{ExclusionTable, row_of};
 use image_words::word::decode;
+use image_words::words::ImageWords;
 use model::{Entry, Exclusion, Kind};
 
 // No exclusion.
@@ -45,19 +46,9 @@ fn members_in(image: &[u8], from: usize, to: usize, members: u64) -> u64
     set
 }
 
-// The place behind m words from a place on, or behind the last word.
-fn place_behind(from: usize, m: u8, words: usize) -> usize
-    requires { (from ≤ words) × (words ≤ 2 ^ 62) }
-    ensures { (result ≤ words) × (from ≤ result) × (result ≤ from + m) × (result < from + m → result ≡ words) }
-{
-    let to = from + (m as usize);
-    if to < words {
-        return to;
-    }
-    words
-}
-
-// The exclusion at a place, of an image of so many words.
+// The exclusion at a place, of an image of so many words. It is no Option: a caller gives the place of an exclusion
+// word, so there is nothing to test. Bytes and words go one by one: ImageWords has 4,096 words at most, and `words` may
+// be more.
 pub fn exclusion_at(image: &[u8], words: usize, place: usize) -> Exclusion
     requires { (4 * words ≤ length image.now) × (place < words) × (words ≤ 2 ^ 62) }
     ensures { result ≡ exclusion_at_of image.now words place }
@@ -67,31 +58,23 @@ pub fn exclusion_at(image: &[u8], words: usize, place: usize) -> Exclusion
     let Entry::Exclude(x, m) = e else {
         return nothing();
     };
-    let to = place_behind(place + 1, m, words);
-    let members = members_in(image, place + 1, to, x.members);
+    let to = (place + 1 + m as usize).min(words);
     let k = x.kind;
     Exclusion {
         kind: k,
         n: x.n,
-        members,
+        members: members_in(image, place + 1, to, x.members),
     }
 }
 
-// The exclusions at the first `count` of the places, a row each.
-pub fn exclusions_at(
-    image: &[u8],
-    words: usize,
-    places: &[usize; 32],
-    count: usize,
-    xs: &mut [[u64; 2]; 32],
-)
-    requires { (4 * words ≤ length image.now) × (words ≤ 4096) × (count ≤ 32) × (length places.now ≡ 32)
-        × ((i : ℕ) → get_or places.now i 0 < words) × (length xs.old ≡ 32) }
-    ensures { (take count (map exclusion_of xs.new) ≡ map (exclusion_at_of image.now words) (take count places.now))
-        × (length xs.new ≡ 32) }
+// The exclusions at the places, a row each.
+pub fn exclusions_at(image: &ImageWords, places: &[usize], table: &mut ExclusionTable)
+    requires { (length places.now ≤ 32) × All (λ p. p < image.now.count) places.now }
+    ensures { take table.new.count (map exclusion_of table.new.rows)
+        ≡ map (exclusion_at_of image.now.bytes.now image.now.count) places.now }
 {
-    for i in 0..count {
-        let row = row_of(exclusion_at(image, words, places[i]));
-        xs[i] = row;
+    for (i, place) in places.iter().enumerate() {
+        table.rows[i] = row_of(exclusion_at(image.bytes, image.count, *place));
     }
+    table.count = places.len();
 }

@@ -10,14 +10,14 @@ use lib.ListN.{length, get_or, set, replicate, length-map, length-set}
 use lib.Seq.{ext_get_or, get_or-set_same, get_or-set_other}
 use borrow.Author.Tests.{eqb-true, eqb-false}
 use Rattle.model.specs.Tests.{pick}
-use Rattle.model.specs.Sets.{has, with, count, union_at}
+use Rattle.model.specs.Sets.{has, with, union_at}
 use Rattle.model.specs.Policy.{table_of, with_selves}
 use Rattle.model_laws.proofs.Bools.{and_l}
 use Rattle.model_laws.proofs.UnionLaws.{has_none}
 use Rattle.model_laws.proofs.Closure.{length-table_of, get_d_table_of}
 use Rattle.sets.specs.Members.{without, Lowest}
 use Rattle.sets.specs.Words.{value, joined, values}
-use Rattle.sets.proofs.Taken.{has-without, without_lt, without_other, count-without}
+use Rattle.sets.proofs.Taken.{has-without, without_lt, without_other}
 use Rattle.sets.proofs.Unions.{values-set}
 use Rattle.tables_rows.specs.Carried.{carried_rows}
 
@@ -91,10 +91,6 @@ module _ (granted reached : List ℕ) (wanted : ℕ) where
         go i h false e =
             let q = eqb-false i r e in
             get_or-set_other (values out) r i (value row) 0 q ∙ m.rows i (sym (without_other left r i low.member q) ∙ h)
-
-    -- one role fewer is to come
-    pub made_less : count 64 less < count 64 left
-    made_less = omega (arith, ap (count 64) el, count-without 64 left r m.small low.small low.member)
 
 -- by the closed table, these are the rows that roles carry
 pub made_all : (granted below : List ℕ) (wanted left : ℕ) (out : List (List ℕ)) → left ≡ 0 → Made granted (with_selves below) wanted left out

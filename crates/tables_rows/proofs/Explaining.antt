@@ -3,19 +3,21 @@
 use mathlib.Core.Path.{◌≡◌, refl, sym, ap, ◌∙◌}
 use mathlib.Core.Bool.{Bool, true, false, ◌&&◌}
 use mathlib.Core.Option.{Option, none, some}
-use Prim.Native.Nat.{ℕ, ◌^◌, ◌≤◌, ◌<◌}
+use mathlib.Core.List.{List}
+use lib.ListN.{get_or}
+use Prim.Native.Nat.{ℕ, ◌+◌, ◌*◌, ◌^◌, ◌≤◌, ◌<◌}
 use native.Mathlib.Omega.{arith}
 use lib.Dec.{eqb}
 use borrow.Author.Tests.{eqb-true, eqb-false}
 use Rattle.model.specs.Tests.{is_some}
-use Rattle.model.specs.Sets.{has, count, lowest_in}
+use Rattle.model.specs.Sets.{has, lowest_in}
 use Rattle.model.specs.Session.{carrier, two_roles, with_granter, explanation}
+use Rattle.model.specs.Policy.{granter_by}
 use Rattle.model_laws.proofs.Bools.{not_both}
 use Rattle.model_laws.proofs.UnionLaws.{has_none}
 use Rattle.model_laws.proofs.LowestLaws.{lowest_some, lowest-named, unnamed_none, lowest_same}
 use Rattle.sets.specs.Members.{without, Lowest}
-use Rattle.sets.proofs.Taken.{without_other, without_lt, count-without, lowest_least}
-use Rattle.tables_rows.specs.Told.{told}
+use Rattle.sets.proofs.Taken.{without_other, without_lt, lowest_least}
 
 -- ---- a walk up to the first member that passes a test
 
@@ -68,28 +70,24 @@ module _ (f : ℕ → Bool) (s : ℕ) where
         rest : (j : ℕ) → (has (without left r) j && f j) ≡ (has left j && f j)
         rest j = passed j (eqb j r) refl
 
-    pub seeks_less : (next : ℕ) → next ≡ without left r → count 64 next < count 64 left
-    seeks_less next n = rw (n, count-without 64 left r w.small l.small l.member) (omega arith)
-
--- ---- what is told
-
--- a number other than 20 tells that a role is named, and 20 that none is
-pub told_some : (r n : ℕ) (o : Option ℕ) → n ≡ told (two_roles r o) → (n ≡ 20 → ⊥) → is_some o ≡ true
-unfolding told two_roles is_some
-told_some r n none e h = absurd (h e)
-told_some r n (some g) e h = refl
-
-pub told_none : (r n : ℕ) (o : Option ℕ) → n ≡ told (two_roles r o) → n ≡ 20 → is_some o ≡ false
-unfolding told two_roles is_some
-told_none r n none e h = refl
-told_none r n (some g) e h = absurd (omega arith)
-
--- the walk ends at the lowest role that has a granting role, or at none
+-- ---- the walk ends at the lowest role that has a granting role, or at none
 module _ (name : ℕ → Option ℕ) (s : ℕ) where
-  pub explains_found : (r n : ℕ) → lowest_in (λ k. is_some (name k)) s ≡ some r → n ≡ told (two_roles r (name r)) → n ≡ told (explanation name s)
-  unfolding explanation carrier with_granter
-  explains_found r n e q = q ∙ sym (ap (λ (o : Option ℕ). told (with_granter name o)) e)
+  pub explains_found : (r g : ℕ) → some g ≡ name r → (is_some (name r) ≡ true → lowest_in (λ k. is_some (name k)) s ≡ some r)
+      → some (64 * r + g) ≡ explanation name s
+  unfolding explanation carrier with_granter two_roles is_some
+  explains_found r g e found =
+      sym (ap (with_granter name) (found (ap is_some (sym e))) ∙ ap (two_roles r) (sym e))
 
-  pub explains_none : lowest_in (λ k. is_some (name k)) s ≡ none → 20 ≡ told (explanation name s)
-  unfolding explanation carrier with_granter told
-  explains_none e = sym (ap (λ (o : Option ℕ). told (with_granter name o)) e)
+  pub explains_none : lowest_in (λ k. is_some (name k)) s ≡ none → none ≡ explanation name s
+  unfolding explanation carrier with_granter
+  explains_none e = sym (ap (with_granter name) e)
+
+-- a role that has no granting role
+pub unnamed : (o : Option ℕ) → none ≡ o → is_some o ≡ false
+unfolding is_some
+unnamed o e = ap is_some (sym e)
+
+-- a granting role is one of 64
+pub granter_small : (reached : List ℕ) (holding : ℕ → Bool) (r g : ℕ) → some g ≡ granter_by reached holding r → g < 64
+unfolding granter_by
+granter_small reached holding r g e = ((lowest_some holding (get_or reached r 0) g).0 (sym e)).small

@@ -5,6 +5,7 @@ ghost use Rattle.sets.specs.Words.{value, values};
 ghost use Rattle.tables_rows.specs.Carried.{blank, carried_rows, carried_of};
 
 use hierarchy::reach::{reach, reached_by};
+use model::Role;
 
 // What each role of `wanted` carries goes into its row of an empty table: the permissions granted to the roles that it
 // reaches by the closed table.
@@ -17,12 +18,8 @@ pub fn fill_carried(
     requires { out.old ≡ blank }
     ensures { values out.new ≡ carried_rows (values granted.now) below.now wanted }
 {
-    let mut left = wanted;
-    while left != 0 {
-        let r = sets::lowest(left);
-        let row = sets::perm_union_at(granted, reach(below, r));
-        out[r.0 as usize] = row;
-        left = sets::without(left, r);
+    for k in sets::members(wanted) {
+        out[k as usize] = sets::perm_union_at(granted, reach(below, Role(k)));
     }
 }
 

@@ -11,8 +11,8 @@ pub fn holders(granted: &[[u64; 4]; 64], p: Permission) -> u64
     ensures { result ≡ holders_of (values granted.now) p.0 }
 {
     let mut found: u64 = 0;
-    for r in 0..64usize {
-        found = joined(found, r, sets::perm_has(granted[r], p));
+    for (r, row) in granted.iter().enumerate() {
+        found = joined(found, r, sets::perm_has(*row, p));
     }
     found
 }

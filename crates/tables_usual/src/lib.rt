@@ -1,4 +1,4 @@
-// The usual words of a policy image taken into the tables by runs.
+// The usual words of a policy image taken into the tables of a policy.
 #![tactic(auto)]
 
-pub mod usual; // usual.rt: what one step takes in, and a run
+pub mod usual; // usual.rt: a run of them

@@ -2,6 +2,7 @@
 ghost use Rattle.std.specs.Prelude.{◌≡◌, false, List, ℕ, ◌<◌};
 ghost use Rattle.model.specs.Image.{sparing, entry_fault};
 ghost use Rattle.model.specs.Policy.{granting, lesser as lesser_of, limiting};
+ghost use Rattle.reasons.specs.Numbers.{fault_of};
 ghost use Rattle.sets.specs.Words.{values};
 ghost use Rattle.image_words.specs.Bounds.{Small};
 ghost use Rattle.tables_words.specs.Step.{noting, Step};
@@ -10,19 +11,23 @@ use image::check::{take_assignment, take_senior};
 use image_faults::fault::{
     exclusion_fault, grant_fault, limit_fault, member_fault, spared, wrong_kind,
 };
-use model::{Entry, Exclusion, Head, Permission, Role, Scan, Word, refusals};
+use model::{Entry, Exclusion, Head, Permission, Role, Scan, Word};
+use reasons::Reason;
 
-fn take_grant(h: Head, granted: &mut [[u64; 4]; 64], spare: u32, r: Role, p: Permission) -> u8
+fn take_grant(
+    h: Head,
+    granted: &mut [[u64; 4]; 64],
+    spare: u32,
+    r: Role,
+    p: Permission,
+) -> Result<(), Reason>
     requires { r.0 < 64 }
-    ensures { ((rows : List ℕ) (t : Scan) → result ≡ sparing spare (entry_fault h rows t (Entry.Grant r p)))
-        × (result ≡ 0 → values granted.new ≡ granting (values granted.old) (Entry.Grant r p)) }
+    ensures { ((rows : List ℕ) (t : Scan) → fault_of result ≡ sparing spare (entry_fault h rows t (Entry.Grant r p)))
+        × (fault_of result ≡ 0 → values granted.new ≡ granting (values granted.old) (Entry.Grant r p)) }
 {
-    let n = spared(spare, grant_fault(h, r, p));
-    if n != 0 {
-        return n;
-    }
+    spared(spare, grant_fault(h, r, p))?;
     sets::perm_put(granted, r, p);
-    n
+    Ok(())
 }
 
 // The smaller of a limit so far, 0 where there is none, and t.
@@ -38,19 +43,16 @@ fn lesser(a: u64, t: u64) -> u64
     a
 }
 
-fn take_limit(h: Head, limits: &mut [u64; 64], spare: u32, r: Role, t: u16) -> u8
+fn take_limit(h: Head, limits: &mut [u64; 64], spare: u32, r: Role, t: u16) -> Result<(), Reason>
     requires { r.0 < 64 }
-    ensures { ((rows : List ℕ) (s : Scan) → result ≡ sparing spare (entry_fault h rows s (Entry.Limit r t)))
-        × (result ≡ 0 → limits.new ≡ limiting limits.old (Entry.Limit r t)) }
+    ensures { ((rows : List ℕ) (s : Scan) → fault_of result ≡ sparing spare (entry_fault h rows s (Entry.Limit r t)))
+        × (fault_of result ≡ 0 → limits.new ≡ limiting limits.old (Entry.Limit r t)) }
 {
-    let n = spared(spare, limit_fault(h, r, t));
-    if n != 0 {
-        return n;
-    }
+    spared(spare, limit_fault(h, r, t))?;
     let who = r.0 as usize;
     let row = lesser(limits[who], t as u64);
     limits[who] = row;
-    n
+    Ok(())
 }
 
 // An exclusion's place is noted; its members are read later.
@@ -62,17 +64,14 @@ fn take_exclusion(
     x: Exclusion,
     m: u8,
     place: usize,
-) -> u8
-    ensures { ((rows : List ℕ) → result ≡ sparing spare (entry_fault h rows t (Entry.Exclude x m)))
-        × (result ≡ 0 → places.new ≡ noting place t.exclusions places.old (Entry.Exclude x m)) }
+) -> Result<(), Reason>
+    ensures { ((rows : List ℕ) → fault_of result ≡ sparing spare (entry_fault h rows t (Entry.Exclude x m)))
+        × (fault_of result ≡ 0 → places.new ≡ noting place t.exclusions places.old (Entry.Exclude x m)) }
 {
-    let n = spared(spare, exclusion_fault(h, t, x, m));
-    if n != 0 {
-        return n;
-    }
+    spared(spare, exclusion_fault(h, t, x, m))?;
     let i = t.exclusions as usize;
     places[i] = place;
-    n
+    Ok(())
 }
 
 // A word of an image, and its place.
@@ -83,6 +82,7 @@ pub struct Placed {
 }
 
 // A word before the last. One match a word: each arm judges and stores.
+// The tables are lent one by one: an arm stores in one of them, and its contract speaks of that one alone.
 pub fn step(
     h: Head,
     assigned: &mut [u64; 64],
@@ -92,17 +92,17 @@ pub fn step(
     places: &mut [usize; 32],
     t: Scan,
     at: Placed,
-) -> u8
+) -> Result<(), Reason>
     requires { Small at.word.entry }
     ensures { Step h t false at.place at.word assigned.old (values granted.old) juniors.old limits.old
-        places.old result
+        places.old (fault_of result)
         assigned.new (values granted.new) juniors.new limits.new places.new }
 {
     let w = at.word;
     let e = w.entry;
     let spare = w.spare;
     if wrong_kind(false, t.due, e) {
-        return refusals::KIND;
+        return Err(Reason::Kind);
     }
     match e {
         Entry::Assignment(u, r) => take_assignment(h, assigned, spare, u, r),
@@ -111,7 +111,7 @@ pub fn step(
         Entry::Exclude(x, m) => take_exclusion(h, places, spare, t, x, m, at.place),
         Entry::Member(r) => spared(spare, member_fault(h, t, r)),
         Entry::Limit(r, n) => take_limit(h, limits, spare, r, n),
-        Entry::End => spared(spare, 0),
-        Entry::Unknown => spared(spare, 0),
+        Entry::End => spared(spare, Ok(())),
+        Entry::Unknown => spared(spare, Ok(())),
     }
 }

@@ -4,6 +4,8 @@ use Rattle.std.specs.Prelude.{◌≡◌, List, map, ℕ, ◌+◌, ◌*◌, take}
 use Rattle.model.specs.declared.Head.{Head}
 use Rattle.model.specs.Policy.{Policy}
 use Rattle.exclusion_rows.specs.Rows.{exclusion_of}
+use Rattle.sets.specs.Words.{values}
+use Rattle.policy_tables.specs.declared.PolicyTables.{PolicyTables}
 use Rattle.model_tidy.specs.Tidy.{Written}
 
 -- the policy of a head, three tables, the first n of the exclusions' rows and the limits
@@ -17,6 +19,11 @@ policy_by h assigned granted juniors rows n limits =
       exclusions = take n (map exclusion_of rows);
       limits = limits;
     }
+
+-- the policy that tables state, of which one has the roles assigned to each user and one the direct juniors of each
+-- role
+abbrev pub policy_held : PolicyTables → Policy
+policy_held t = policy_by t.head t.authorized (values t.granted) t.below t.exclusions.rows t.exclusions.count t.limits
 
 -- what is returned and the buffer after the call are what the definition says
 pub record Writes (e : Written) (x : ℕ) (buffer : List ℕ) : Type 0 where

@@ -1,37 +1,27 @@
 // The tidy image as a whole: its exclusions sorted, its words counted, and written where there is room for them.
-ghost use Rattle.std.specs.Prelude.{◌≡◌, ◌≤◌, length};
-ghost use Rattle.sets.specs.Words.{values};
+ghost use Rattle.reasons.specs.Numbers.{returned_by};
 ghost use Rattle.model_tidy.specs.Tidy.{tidy_by};
-ghost use Rattle.tidy_words.specs.Whole.{Fitted};
-ghost use Rattle.tidy.specs.Whole.{policy_by, Writes};
+ghost use Rattle.tidy_words.specs.Whole.{FittedTables};
+ghost use Rattle.tidy.specs.Whole.{policy_held, Writes};
 
-use model::{Checked, Head, refusals};
+use model::Checked;
+use policy_tables::PolicyTables;
+use reasons::{Reason, Refusal};
 use tidy_order::sort::sort;
 use tidy_words::image::{count_words, put_image};
 
-// The tidy image of the policy that a head, three tables, the first `count` exclusions and the limits make: 256 times
-// the number of its words, which stand at the front of the buffer; 19 for a buffer that is too small for them.
-pub fn tidy(
-    h: Head,
-    assigned: &[u64; 64],
-    granted: &[[u64; 4]; 64],
-    juniors: &[u64; 64],
-    xs: &[[u64; 2]; 32],
-    limits: &[u64; 64],
-    count: usize,
-    out: &mut [u8],
-) -> u64
-    requires { Fitted h assigned.now (values granted.now) juniors.now limits.now × (count ≤ 32) × (length xs.now ≡ 32) }
-    ensures { Writes (tidy_by (Checked.Accepted h)
-        (policy_by h assigned.now (values granted.now) juniors.now xs.now count limits.now)
-        out.old) result out.new }
+// The tidy image of the policy that the tables state, at the front of the buffer: the number of its words, or that the
+// buffer is too small for them. The tables are those that the image's words state: `authorized` has the roles that are
+// assigned to each user, and `below` the direct juniors of each role.
+pub fn tidy(tables: &PolicyTables, out: &mut [u8]) -> Result<u64, Refusal>
+    requires { FittedTables tables.now }
+    ensures { Writes (tidy_by (Checked.Accepted tables.now.head) (policy_held tables.now) out.old) (returned_by result) out.new }
 {
-    let mut sorted = [[0u64; 2]; 32];
-    let n = sort(xs, count, &mut sorted);
-    let words = count_words(h, assigned, granted, juniors, &sorted, limits, n);
+    let sorted = sort(&tables.exclusions);
+    let words = count_words(tables, &sorted);
     if out.len() < 4 * words {
-        return refusals::ROOM;
+        return Err(Reason::Room.into());
     }
-    put_image(out, h, assigned, granted, juniors, &sorted, limits, n);
-    256 * (words as u64)
+    put_image(out, tables, &sorted);
+    Ok(words as u64)
 }

@@ -1,3 +1,3 @@
 -- The laws that the proofs of the sorting use.
-pub mod Order
 pub mod Placing
+pub mod Derived

@@ -1,6 +1,6 @@
 -- The words of limits, one role after another, and how many they are.
 -- Assumes nothing.
-use Rattle.std.proofs.Common.{◌≡◌, ℕ, ◌+◌, ◌*◌, ◌<◌, ◌≤◌, Bool, true, false, not, eqb, List, [], ◌∷◌, ◌++◌, map, length, get_or, refl, ap, ◌∙◌, arith, length-append, eq-eqb, ne_eqb}
+use Rattle.std.proofs.Common.{◌≡◌, ℕ, ◌+◌, ◌<◌, ◌≤◌, Bool, true, false, not, eqb, List, [], ◌∷◌, ◌++◌, map, length, get_or, refl, ap, ◌∙◌, arith, length-append, eq-eqb, ne_eqb}
 use lib.ListN.{length-map}
 use Rattle.model.specs.Tests.{pick}
 use Rattle.model.specs.Sets.{has, one}
@@ -8,7 +8,6 @@ use Rattle.model.specs.Words.{limit_word}
 use Rattle.model.specs.Policy.{limited}
 use Rattle.model_tidy.specs.Tidy.{members_to, limited_rows}
 use Rattle.model_tidy_laws.proofs.TidyLimits.{row_is, row-limited}
-use Rattle.tidy_words.specs.Buffers.{Buffer, put_word, puts}
 use Rattle.tidy_words.specs.Tables.{row_words, table_words, Table, limit_row, limit_words, Limited}
 use Rattle.tidy_words.proofs.Writing.{Begins}
 use Rattle.tidy_words.proofs.Turns.{table_next, table_end}
@@ -58,16 +57,11 @@ limits_count limits r h =
     ap length (limits_words limits r h) ∙ length-append (limit_row r (get_or limits r 0)) (limit_words limits (r + 1))
     ∙ ap (λ (n : ℕ). n + length (limit_words limits (r + 1))) (row_count r (get_or limits r 0))
 
--- ---- one word written, or none
-pub limit_none : (s : Buffer) (r t : ℕ) → t ≡ 0 → s ≡ puts s (limit_row r t)
-unfolding limit_row pick puts
-limit_none s r t e = simp (eq-eqb t 0 e)
+-- ---- the words of one role's limit
+pub limit_none : (r t : ℕ) → t ≡ 0 → limit_row r t ≡ []
+unfolding limit_row pick
+limit_none r t e = simp (eq-eqb t 0 e)
 
-pub limit_some : (s : Buffer) (r t w : ℕ) → (t ≡ 0 → ⊥) → w ≡ limit_word r t → put_word s w ≡ puts s (limit_row r t)
-unfolding limit_row pick puts
-limit_some s r t w z e = ap (put_word s) e ∙ simp (ne_eqb t 0 z)
-
-pub limit_room : (r t at n : ℕ) → (t ≡ 0 → ⊥) → at + 4 * length (limit_row r t) ≤ n → at + 4 ≤ n
-limit_room r t at n z h =
-    let k = row_count r t ∙ ap (λ (b : Bool). one (not b)) (ne_eqb t 0 z) in
-    omega (arith, k, h)
+pub limit_some : (r t : ℕ) → (t ≡ 0 → ⊥) → limit_row r t ≡ limit_word r t ∷ []
+unfolding limit_row pick
+limit_some r t z = simp (ne_eqb t 0 z)

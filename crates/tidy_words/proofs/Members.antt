@@ -1,19 +1,17 @@
 -- The members of a set, ascending: by the lowest first, and by four words one after another.
 -- Assumes nothing.
-use Rattle.std.proofs.Common.{◌≡◌, ℕ, zero, suc, ◌+◌, ◌*◌, ◌^◌, ◌<◌, ◌≤◌, Bool, true, false, ◌⊎◌, List, [], ◌∷◌, ◌++◌, map, get_or, sym, refl, ap, ◌∙◌, subst, ap₂, inl, inr, append_assoc, append-nil, add-zero, add-suc, mul-le-mul_right, arith, w32, w64, Fits}
+use Rattle.std.proofs.Common.{◌≡◌, ℕ, zero, suc, ◌+◌, ◌*◌, ◌<◌, ◌≤◌, Bool, true, false, ◌⊎◌, List, [], ◌∷◌, ◌++◌, map, get_or, sym, refl, ap, ◌∙◌, ap₂, inl, inr, append_assoc, append-nil, add-zero, add-suc, arith, w64, Fits}
 use mathlib.Core.List.{map-map, map-append}
 use borrow.Table.Steps.{cases}
 use Rattle.model.specs.Tests.{pick}
-use Rattle.model.specs.Sets.{has, count}
-use Rattle.model.specs.Words.{grant_word}
+use Rattle.model.specs.Sets.{has}
 use Rattle.model_laws.proofs.UnionLaws.{below_or_last}
 use Rattle.sets.specs.Members.{without, Lowest}
 use Rattle.sets.specs.Words.{value}
-use Rattle.sets.proofs.Taken.{without_gone, without_other, without_lt, count-without, lowest_least}
+use Rattle.sets.proofs.Taken.{without_gone, without_other, lowest_least}
 use Rattle.sets.proofs.Machine.{value-has}
 use Rattle.model_tidy.specs.Tidy.{members_to}
 use Rattle.tidy_words.specs.Buffers.{set_words}
-use Rattle.tidy_words.specs.Tables.{row_words}
 use Rattle.tidy_words.proofs.Writing.{Begins, Fours}
 
 -- ---- equal lists
@@ -66,7 +64,7 @@ module _ (first unit left k : ℕ) (low : Lowest left k) where
   walk_least j h = lowest_least left k j low h
 
   -- the words of a set begin with that of its lowest member
-  pub walk-next : (less : ℕ) → less ≡ without left k → Begins (set_words first unit left) ((first + k * unit) ∷ []) (set_words first unit less)
+  pub walk-next : (less : ℕ) → less ≡ without left k → Begins (set_words 64 first unit left) ((first + k * unit) ∷ []) (set_words 64 first unit less)
   unfolding set_words
   walk-next less e = record {
     is =
@@ -74,33 +72,8 @@ module _ (first unit left k : ℕ) (low : Lowest left k) where
         ∙ ap (λ (x : ℕ). (first + k * unit) ∷ map (λ j. first + j * unit) (members_to 64 x)) (sym e);
   }
 
-  pub walk_small : (less : ℕ) → less ≡ without left k → left < 2 ^ 64 → less < 2 ^ 64
-  walk_small less e h = subst (λ (x : ℕ). x < 2 ^ 64) (sym e) (without_lt 64 left k h low.small)
-
-  -- and are one fewer without it
-  pub walk_less : (less : ℕ) → less ≡ without left k → left < 2 ^ 64 → count 64 less < count 64 left
-  walk_less less e h =
-      let a = count-without 64 left k h low.small low.member in
-      let b : count 64 less ≡ count 64 (without left k) = ap (count 64) e in
-      omega arith
-
--- the words of a walk fit a machine word, since 64 units do
-pub unit_most : (first unit k : ℕ) {left : ℕ} → Lowest left k → first + 64 * unit ≤ 2 ^ 32 → Fits w32 (k * unit)
-unit_most first unit k low h =
-    let s = low.small in
-    let l : k ≤ 63 = omega arith in
-    let m = mul-le-mul_right unit l in
-    omega arith
-
-pub unit_sum : (first unit k : ℕ) {left : ℕ} → Lowest left k → first < 2 ^ 32 → first + 64 * unit ≤ 2 ^ 32 → Fits w32 (first + k * unit)
-unit_sum first unit k low f h =
-    let s = low.small in
-    let l : k ≤ 63 = omega arith in
-    let m = mul-le-mul_right unit l in
-    omega arith
-
 -- the empty set has none
-pub walk_end : (first unit left : ℕ) → left ≡ 0 → set_words first unit left ≡ []
+pub walk_end : (first unit left : ℕ) → left ≡ 0 → set_words 64 first unit left ≡ []
 unfolding set_words members_to has pick
 walk_end first unit left e = ap (λ (x : ℕ). map (λ j. first + j * unit) (members_to 64 x)) e
 
@@ -137,41 +110,32 @@ module _ (row : List ℕ) (fit : (i : ℕ) → Fits w64 (get_or row i 0)) where
       ∙ ap (λ (l : List ℕ). l ++ map (λ j. 64 + j) (members_to 64 (get_or row 1 0)))
       (members_same 64 (value row) (get_or row 0 0) (λ k l. sym (value-has row fit k 0 k (record { whole = omega arith; inside = omega arith; small = l }))))))
 
--- ---- the words of a role's grants
+-- ---- the words of a set in four machine words
 
-grant_at : (r first base j : ℕ) → first ≡ 805306368 + 4194304 * r → grant_word r (base + j) ≡ first + base * 16384 + j * 16384
-unfolding grant_word
-grant_at r first base j e = omega arith
-
-grants_from : (r first base s : ℕ) → first ≡ 805306368 + 4194304 * r
-    → map (grant_word r) (map (λ j. base + j) (members_to 64 s)) ≡ set_words (first + base * 16384) 16384 s
+words_from : (first unit base s : ℕ) → map (λ j. first + j * unit) (map (λ j. base + j) (members_to 64 s)) ≡ set_words 64 (first + base * unit) unit s
 unfolding set_words
-grants_from r first base s e =
-    map-map (grant_word r) (λ j. base + j) (members_to 64 s)
-    ∙ map_same (λ j. grant_word r (base + j)) (λ j. first + base * 16384 + j * 16384) (members_to 64 s) (λ j. grant_at r first base j e)
-
-grants-first : (r first s : ℕ) → first ≡ 805306368 + 4194304 * r → map (grant_word r) (members_to 64 s) ≡ set_words first 16384 s
-unfolding set_words grant_word
-grants-first r first s e = map_same (grant_word r) (λ j. first + j * 16384) (members_to 64 s) (λ j. omega arith)
+words_from first unit base s =
+    map-map (λ j. first + j * unit) (λ j. base + j) (members_to 64 s)
+    ∙ map_same (λ j. first + (base + j) * unit) (λ j. first + base * unit + j * unit) (members_to 64 s) (λ j. omega arith)
 
 -- four runs, one for each word of the row
-pub grants_four : (row : List ℕ) → ((i : ℕ) → Fits w64 (get_or row i 0)) → (r first : ℕ) → first ≡ 805306368 + 4194304 * r
-    → Fours (row_words grant_word 256 r (value row)) (set_words first 16384 (get_or row 0 0)) (set_words (first + 1048576) 16384 (get_or row 1 0))
-    (set_words (first + 2097152) 16384 (get_or row 2 0)) (set_words (first + 3145728) 16384 (get_or row 3 0))
-unfolding row_words
-grants_four row fit r first e =
-    let g : List ℕ → List ℕ = map (grant_word r) in
+pub words_four : (row : List ℕ) → ((i : ℕ) → Fits w64 (get_or row i 0)) → (first unit : ℕ)
+    → Fours (set_words 256 first unit (value row)) (set_words 64 first unit (get_or row 0 0)) (set_words 64 (first + 64 * unit) unit (get_or row 1 0))
+    (set_words 64 (first + 128 * unit) unit (get_or row 2 0)) (set_words 64 (first + 192 * unit) unit (get_or row 3 0))
+unfolding set_words
+words_four row fit first unit =
+    let g : List ℕ → List ℕ = map (λ j. first + j * unit) in
     let a : List ℕ = members_to 64 (get_or row 0 0) in
     let b : List ℕ = map (λ j. 64 + j) (members_to 64 (get_or row 1 0)) in
     let c : List ℕ = map (λ j. 128 + j) (members_to 64 (get_or row 2 0)) in
     let d : List ℕ = map (λ j. 192 + j) (members_to 64 (get_or row 3 0)) in
-    let p0 = grants-first r first (get_or row 0 0) e in
-    let p1 = grants_from r first 64 (get_or row 1 0) e in
-    let p2 = grants_from r first 128 (get_or row 2 0) e in
-    let p3 = grants_from r first 192 (get_or row 3 0) e in
+    let p1 = words_from first unit 64 (get_or row 1 0) in
+    let p2 = words_from first unit 128 (get_or row 2 0) in
+    let p3 = words_from first unit 192 (get_or row 3 0) in
     record {
       is = ap g (members_four row fit ∙ append_assoc (a ++ b) c d ∙ append_assoc a b (c ++ d))
-          ∙ map-append (grant_word r) a (b ++ (c ++ d))
-          ∙ ap (λ (l : List ℕ). g a ++ l) (map-append (grant_word r) b (c ++ d) ∙ ap (λ (l : List ℕ). g b ++ l) (map-append (grant_word r) c d))
-          ∙ (λ i. p0 i ++ (p1 i ++ (p2 i ++ p3 i)));
+          ∙ map-append (λ j. first + j * unit) a (b ++ (c ++ d))
+          ∙ ap (λ (l : List ℕ). g a ++ l) (map-append (λ j. first + j * unit) b (c ++ d)
+          ∙ ap (λ (l : List ℕ). g b ++ l) (map-append (λ j. first + j * unit) c d))
+          ∙ (λ i. g a ++ (p1 i ++ (p2 i ++ p3 i)));
     }

@@ -2,25 +2,42 @@
 -- Assumes nothing.
 use Rattle.std.proofs.Common.{◌≡◌, ℕ, suc, ◌+◌, ◌*◌, ◌^◌, ◌<◌, ◌≤◌, true, List, [], ◌∷◌, ◌++◌, map, length, get_or, take, drop, sym, refl, ap, ◌∙◌, subst, ap₂, add-one, arith, length-append, drop_of_length-le, length-take-le, get_or-drop, drop-cons, get_or-take}
 use lib.ListN.{length-map}
+use Rattle.std.proofs.lemmas.List.{length-take}
 use borrow.Table.Steps.{cases}
 use Rattle.model.specs.declared.Kind.{Kind}
 use Rattle.model.specs.declared.Exclusion.{Exclusion}
 use Rattle.model.specs.Sets.{has, count}
-use Rattle.model.specs.Words.{grant_word, exclusion_word, member_word}
+use Rattle.model.specs.Words.{exclusion_word, member_word}
 use Rattle.model.specs.Policy.{kind_number}
 use Rattle.model_laws.proofs.Ranks.{count_most}
 use Rattle.model_laws.proofs.SortedLaws.{kind_below}
-use Rattle.sets.specs.Words.{value, values}
-use Rattle.sets.proofs.Unions.{values_at}
 use Rattle.exclusion_rows.specs.Rows.{exclusion_of}
 use Rattle.exclusion_rows.proofs.Packing.{row_at}
 use Rattle.model_tidy.specs.Groups.{spread}
 use Rattle.model_tidy.specs.Tidy.{members_to, table_groups, exclusion_group}
 use Rattle.model_tidy_laws.proofs.TidyLists.{members-length, row_words_lem}
 use Rattle.tidy_words.specs.Buffers.{set_words}
-use Rattle.tidy_words.specs.Tables.{pair_word, row_words, table_words, Table, exclusion_words}
+use Rattle.tidy_words.specs.Tables.{word_by, row_words, table_words, Table, exclusion_words}
 use Rattle.tidy_words.proofs.Writing.{Begins}
 use Rattle.tidy_words.proofs.Members.{members_none, map_same}
+
+-- ---- the first n rows of a table
+
+-- row i of them
+pub record Within {A : Type 0} (rows : List A) (n i : ℕ) (d : A) : Type 0 where
+  pub inside : i < length rows
+  pub early : i < n
+  pub same : get_or (take n rows) i d ≡ get_or rows i d
+
+pub within_first : {A : Type 0} (rows : List A) (n i : ℕ) (d : A) → i < length (take n rows) → Within rows n i d
+within_first rows n i d h =
+    let l = length-take n rows in
+    let e : i < n = omega arith in
+    record { inside = omega arith; early = e; same = get_or-take n rows i d e }
+
+-- none of them is left
+pub none_left : {A : Type 0} (rows : List A) (n i : ℕ) → n ≤ length rows → length (take n rows) ≤ i → n ≤ i
+none_left rows n i f h = let l = length-take-le n rows f in omega arith
 
 -- ---- tables
 
@@ -48,29 +65,19 @@ table_end word d rows n i t h =
     none_words word d i (drop i rows)
     (λ k j e. let q = t.inside (i + k) j (ap (λ (x : ℕ). has x j) (sym (get_or-drop i rows k 0)) ∙ e) in omega arith)
 
--- the words of a row of roles
-pair_words : (kind i row : ℕ) → row_words (pair_word kind) 64 i row ≡ set_words (268435456 * kind + 4194304 * i) 65536 row
-unfolding row_words pair_word set_words
-pair_words kind i row =
-    map_same (λ j. kind * 2 ^ 28 + i * 2 ^ 22 + j * 2 ^ 16) (λ j. 268435456 * kind + 4194304 * i + j * 65536) (members_to 64 row) (λ j. omega arith)
+-- the words of a row
+words_of_row : (first unit d i row : ℕ) → row_words (word_by first unit) d i row ≡ set_words d (first + 4194304 * i) unit row
+unfolding row_words word_by set_words
+words_of_row first unit d i row =
+    map_same (λ j. first + i * 2 ^ 22 + j * unit) (λ j. first + 4194304 * i + j * unit) (members_to d row) (λ j. omega arith)
 
-pub pair_next : (kind : ℕ) (rows : List ℕ) (i : ℕ) → i < length rows
-    → Begins (table_words (pair_word kind) 64 rows i) (set_words (268435456 * kind + 4194304 * i) 65536 (get_or rows i 0))
-    (table_words (pair_word kind) 64 rows (i + 1))
-pair_next kind rows i h = record {
+pub row_next : (first unit d : ℕ) (rows : List ℕ) (i : ℕ) → i < length rows
+    → Begins (table_words (word_by first unit) d rows i) (set_words d (first + 4194304 * i) unit (get_or rows i 0))
+    (table_words (word_by first unit) d rows (i + 1))
+row_next first unit d rows i h = record {
   is =
-      table_next (pair_word kind) 64 rows i h
-      ∙ ap (λ (l : List ℕ). l ++ table_words (pair_word kind) 64 rows (i + 1)) (pair_words kind i (get_or rows i 0));
-}
-
--- the words of the grants of role r, and those of the roles behind it
-pub grants-next : (rows : List (List ℕ)) (r : ℕ) → r < length (values rows)
-    → Begins (table_words grant_word 256 (values rows) r) (row_words grant_word 256 r (value (get_or rows r [])))
-    (table_words grant_word 256 (values rows) (r + 1))
-grants-next rows r h = record {
-  is =
-      table_next grant_word 256 (values rows) r h
-      ∙ ap (λ (x : ℕ). row_words grant_word 256 r x ++ table_words grant_word 256 (values rows) (r + 1)) (values_at rows r);
+      table_next (word_by first unit) d rows i h
+      ∙ ap (λ (l : List ℕ). l ++ table_words (word_by first unit) d rows (i + 1)) (words_of_row first unit d i (get_or rows i 0));
 }
 
 row-length : (word : ℕ → ℕ → ℕ) (d i row : ℕ) → length (row_words word d i row) ≡ count d row
@@ -93,7 +100,7 @@ size_most d m s e = subst (λ (x : ℕ). x ≤ d) (sym e) (count_most (has s) d)
 
 -- the word of an exclusion, and those of its members
 pub exclusion-words : (x : Exclusion) (k m : ℕ) → k ≡ kind_number x.kind → m ≡ count 64 x.members
-    → Begins (exclusion_words x) ((1342177280 + 67108864 * k + 524288 * x.n + 4096 * m) ∷ []) (set_words 1610612736 4194304 x.members)
+    → Begins (exclusion_words x) ((1342177280 + 67108864 * k + 524288 * x.n + 4096 * m) ∷ []) (set_words 64 1610612736 4194304 x.members)
 unfolding exclusion_words exclusion_group exclusion_word member_word set_words
 exclusion-words x k m ek e =
     let w : 5 * 2 ^ 28 + kind_number x.kind * 2 ^ 26 + x.n * 2 ^ 19 + count 64 x.members * 2 ^ 12
@@ -104,39 +111,49 @@ exclusion-words x k m ek e =
 pub number_small : (n : ℕ) (k : Kind) → n ≡ kind_number k → n < 4
 number_small n k e = let c = kind_below k in omega arith
 
+-- the exclusion of a row that is read among the first
+pub row_is : {x : Exclusion} (rows items : List (List ℕ)) (n i : ℕ) → x ≡ exclusion_of (get_or items i []) → items ≡ take n rows
+    → get_or (take n rows) i [] ≡ get_or rows i [] → x ≡ exclusion_of (get_or rows i [])
+row_is rows items n i e f g = e ∙ ap (λ (l : List (List ℕ)). exclusion_of (get_or l i [])) f ∙ ap exclusion_of g
+
 -- the first n exclusions of a table, those from exclusion i on
 abbrev pub listed : List (List ℕ) → ℕ → ℕ → List ℕ
 listed rows n i = spread (map exclusion_group (drop i (take n (map exclusion_of rows))))
 
 module _ (rows : List (List ℕ)) (n i : ℕ) where
+  taken_length : length (take n (map exclusion_of rows)) ≡ length (take n rows)
+  taken_length =
+      let l = length-take n rows in
+      let m = length-take n (map exclusion_of rows) in
+      omega (arith, length-map rows exclusion_of)
+
   -- exclusion i, and those behind it
-  pub listed_next : i < n → n ≤ length rows → (x : Exclusion) → x ≡ exclusion_of (get_or rows i [])
+  pub listed_next : i < length (take n rows) → (x : Exclusion) → x ≡ exclusion_of (get_or rows i [])
       → Begins (listed rows n i) (exclusion_words x) (listed rows n (i + 1))
   unfolding spread exclusion_words
-  listed_next h k x e =
-      let all : List Exclusion = map exclusion_of rows in
-      let m : n ≤ length all = omega (arith, length-map rows exclusion_of) in
-      let l : length (take n all) ≡ n = length-take-le n all m in
-      let y : get_or (take n all) i (exclusion_of []) ≡ x = get_or-take n all i (exclusion_of []) h ∙ row_at rows i ∙ sym e in
+  listed_next h x e =
+      let t = taken_length in
+      let l = length-take n rows in
+      let k : i < n = omega arith in
+      let y : get_or (take n (map exclusion_of rows)) i (exclusion_of []) ≡ x
+      = get_or-take n (map exclusion_of rows) i (exclusion_of []) k ∙ row_at rows i ∙ sym e in
       record {
-        is = ap (λ (l : List Exclusion). spread (map exclusion_group l)) (drop-cons (take n all) i (exclusion_of []) (omega arith))
+        is = ap (λ (l : List Exclusion). spread (map exclusion_group l)) (drop-cons (take n (map exclusion_of rows)) i (exclusion_of []) (omega arith))
             ∙ (λ j. exclusion_words (y j) ++ listed rows n (sym (add-one i) j));
       }
 
-  pub listed_end : n ≤ i → n ≤ length rows → listed rows n i ≡ []
+  pub listed_end : length (take n rows) ≤ i → listed rows n i ≡ []
   unfolding spread
-  listed_end h k =
-      let all : List Exclusion = map exclusion_of rows in
-      let m : n ≤ length all = omega (arith, length-map rows exclusion_of) in
-      let l : length (take n all) ≡ n = length-take-le n all m in
-      let q : length (take n all) ≤ i = omega arith in
-      ap (λ (l : List Exclusion). spread (map exclusion_group l)) (drop_of_length-le (take n all) q)
+  listed_end h =
+      let t = taken_length in
+      let q : length (take n (map exclusion_of rows)) ≤ i = omega arith in
+      ap (λ (l : List Exclusion). spread (map exclusion_group l)) (drop_of_length-le (take n (map exclusion_of rows)) q)
 
-  pub listed_count : i < n → n ≤ length rows → (x : Exclusion) → x ≡ exclusion_of (get_or rows i [])
+  pub listed_count : i < length (take n rows) → (x : Exclusion) → x ≡ exclusion_of (get_or rows i [])
       → length (listed rows n i) ≡ 1 + count 64 x.members + length (listed rows n (i + 1))
   unfolding exclusion_words exclusion_group
-  listed_count h k x e =
-      let a = ap length (listed_next h k x e).is in
+  listed_count h x e =
+      let a = ap length (listed_next h x e).is in
       let b = length-append (exclusion_words x) (listed rows n (i + 1)) in
       let c = length-map (members_to 64 x.members) member_word in
       let d = members-length 64 x.members in

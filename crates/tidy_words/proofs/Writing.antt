@@ -1,29 +1,23 @@
--- Words written one behind another: a word's four stores, the rest of a list written behind its start, and what the
+-- Words written one behind another: a word's four bytes, the rest of a list written behind its start, and what the
 -- bytes then are.
 -- Assumes nothing.
-use Rattle.std.proofs.Common.{◌≡◌, ℕ, suc, ◌+◌, ◌*◌, ◌/◌, ◌%◌, ◌^◌, ◌≤◌, List, [], ◌∷◌, ◌++◌, length, take, drop, set, sym, refl, ap, ◌∙◌, append_assoc, arith, length-append}
-use lib.Seq.{sets-eq}
+use Rattle.std.proofs.Common.{◌≡◌, ℕ, ◌+◌, ◌*◌, ◌%◌, ◌^◌, ◌≤◌, List, [], ◌∷◌, ◌++◌, length, sym, refl, ap, ◌∙◌, append-nil, arith, length-append}
+use Rattle.std.proofs.Math.Nat.{div-div-eq-div-mul}
+use Rattle.std.specs.Int.{w32, to_le_bytes}
 use Rattle.model.specs.Bytes.{bytes_of}
 use Rattle.model.specs.Words.{sum_of, image_bytes}
 use Rattle.octets.specs.Splice.{splice}
 use Rattle.octets.proofs.Splices.{splice_nil, length-splice, splice-splice}
 use Rattle.model_tidy_laws.proofs.WordLaws.{bytes_length}
-use Rattle.tidy_words.specs.Buffers.{Buffer, put_word, puts}
+use Rattle.tidy_words.specs.declared.words.Writer.{Writer}
+use Rattle.tidy_words.specs.Buffers.{Buffer, written, put_word, puts, Puts, Room}
 
 -- ---- one word
 
--- four stores are the word put in
-pub word_stored : (s : List ℕ) (at w : ℕ) → at + 4 ≤ length s
-    → set (set (set (set s at (w % 256)) (at + 1) (w / 256 % 256)) (at + 2) (w / 256 / 256 % 256)) (at + 3) (w / 256 / 256 / 256 % 256)
-    ≡ splice s at (bytes_of 4 w)
-unfolding splice bytes_of
-word_stored s at w h =
-    let bs : List ℕ = w % 256 ∷ w / 256 % 256 ∷ w / 256 / 256 % 256 ∷ w / 256 / 256 / 256 % 256 ∷ [] in
-    let e1 : at + 1 ≡ suc at = omega arith in
-    let e2 : at + 2 ≡ suc (suc at) = omega arith in
-    let e3 : at + 3 ≡ suc (suc (suc at)) = omega arith in
-    (λ i. set (set (set (set s at (w % 256)) (e1 i) (w / 256 % 256)) (e2 i) (w / 256 / 256 % 256)) (e3 i) (w / 256 / 256 / 256 % 256))
-    ∙ sets-eq bs s at h ∙ append_assoc (take at s) bs (drop (at + 4) s)
+-- the library's bytes of a word
+pub bytes_of_word : (w : ℕ) → to_le_bytes w32 w ≡ bytes_of 4 w
+unfolding bytes_of
+bytes_of_word w = simp div-div-eq-div-mul
 
 -- ---- words
 
@@ -106,41 +100,42 @@ module _ {s₀ : Buffer} {whole : List ℕ} {s : Buffer} {rest : List ℕ} (r : 
           size = z ∙ r.size;
         }
 
+-- ---- a writer on its way
+
+-- a writer has written so much of the whole that the rest, written next, makes it whole
+pub record Goes (first : Writer) (whole : List ℕ) (now : Writer) (rest : List ℕ) : Type 0 where
+  pub same_bytes : now.out.ghost_name ≡ first.out.ghost_name
+  pub rests : Rests (written first) whole (written now) rest
+
+pub goes_start : (a : Writer) (ws : List ℕ) → Room (written a) ws → Goes a ws a ws
+goes_start a ws h = record { same_bytes = refl; rests = rests_start (written a) ws h }
+
+module _ {a : Writer} {whole : List ℕ} {b : Writer} {rest : List ℕ} (g : Goes a whole b rest) where
+  pub goes_end : rest ≡ [] → Puts a b whole
+  goes_end e = record { same_bytes = g.same_bytes; words = rests_end g.rests e }
+
+  -- the next words of the rest
+  module _ {next behind : List ℕ} (n : Begins rest next behind) where
+    pub goes_room : Room (written b) next
+    goes_room = rests_room g.rests n
+
+    pub goes_next : {c : Writer} → Puts b c next → Goes a whole c behind
+    goes_next p = record { same_bytes = p.same_bytes ∙ g.same_bytes; rests = rests_next g.rests n p.words }
+
+-- all of the rest
+pub all_of : (ws : List ℕ) → Begins ws ws []
+all_of ws = record { is = sym (append-nil ws) }
+
+pub goes_last : {a : Writer} {whole : List ℕ} {b : Writer} {rest : List ℕ} → Goes a whole b rest → {c : Writer} → Puts b c rest → Puts a c whole
+goes_last {a} {whole} {b} {rest} g p = goes_end (goes_next g (all_of rest) p) refl
+
 -- ---- four runs of words, one behind another
 
 pub record Fours (whole a b c d : List ℕ) : Type 0 where
   pub is : whole ≡ a ++ (b ++ (c ++ d))
 
-begun : (next behind : List ℕ) → Begins (next ++ behind) next behind
-begun next behind = record { is = refl }
+pub first_of : {whole a b c d : List ℕ} → Fours whole a b c d → Begins whole a (b ++ (c ++ d))
+first_of e = record { is = e.is }
 
-begins : {whole a b c d : List ℕ} → Fours whole a b c d → Begins whole a (b ++ (c ++ d))
-begins e = record { is = e.is }
-
-module _ (s₀ : Buffer) {whole a b c d : List ℕ} (e : Fours whole a b c d) (room : s₀.at + 4 * length whole ≤ length s₀.bytes) where
-  pub four_first : s₀.at + 4 * length a ≤ length s₀.bytes
-  four_first = rests_room (rests_start s₀ whole room) (begins e)
-
-  module _ {s₁ : Buffer} (p : s₁ ≡ puts s₀ a) where
-    after_first : Rests s₀ whole s₁ (b ++ (c ++ d))
-    after_first = rests_next (rests_start s₀ whole room) (begins e) p
-
-    pub four_second : s₁.at + 4 * length b ≤ length s₁.bytes
-    four_second = rests_room after_first (begun b (c ++ d))
-
-    module _ {s₂ : Buffer} (q : s₂ ≡ puts s₁ b) where
-      after_second : Rests s₀ whole s₂ (c ++ d)
-      after_second = rests_next after_first (begun b (c ++ d)) q
-
-      pub four_third : s₂.at + 4 * length c ≤ length s₂.bytes
-      four_third = rests_room after_second (begun c d)
-
-      module _ {s₃ : Buffer} (r : s₃ ≡ puts s₂ c) where
-        after_third : Rests s₀ whole s₃ d
-        after_third = rests_next after_second (begun c d) r
-
-        pub four_fourth : s₃.at + 4 * length d ≤ length s₃.bytes
-        four_fourth = after_third.room
-
-        pub four_all : {s₄ : Buffer} → s₄ ≡ puts s₃ d → s₄ ≡ puts s₀ whole
-        four_all t = t ∙ after_third.same
+pub next_of : (next behind : List ℕ) → Begins (next ++ behind) next behind
+next_of next behind = record { is = refl }

@@ -9,9 +9,10 @@ use Rattle.model.specs.Policy.{limited}
 use Rattle.model_tidy.specs.Groups.{spread}
 use Rattle.model_tidy.specs.Tidy.{members_to, table_groups, exclusion_group, limited_rows}
 
--- a word of a kind with two numbers of 6 bits: an assignment or a senior word
-unfoldable pub pair_word : ℕ → ℕ → ℕ → ℕ
-pair_word kind i j = kind * 2 ^ 28 + i * 2 ^ 22 + j * 2 ^ 16
+-- the word of number i, a row, and number j, its member: a first word, a field of 6 bits for the row, and so many units
+-- as the member's number says
+unfoldable pub word_by : ℕ → ℕ → ℕ → ℕ → ℕ
+word_by first unit i j = first + i * 2 ^ 22 + j * unit
 
 -- the words of row i, with members below d
 unfoldable pub row_words : (ℕ → ℕ → ℕ) → ℕ → ℕ → ℕ → List ℕ

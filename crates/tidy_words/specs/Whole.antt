@@ -6,6 +6,8 @@ use Rattle.model.specs.declared.Exclusion.{Exclusion}
 use Rattle.model.specs.Words.{head_word, assign_word, grant_word, senior_word}
 use Rattle.model_tidy.specs.Groups.{spread}
 use Rattle.model_tidy.specs.Tidy.{exclusion_group}
+use Rattle.policy_tables.specs.declared.PolicyTables.{PolicyTables}
+use Rattle.sets.specs.Words.{values}
 use Rattle.tidy_words.specs.Tables.{table_words, Table, limit_words, Limited}
 
 -- the words of exclusions in their order, and of limits
@@ -30,3 +32,11 @@ pub record Fitted (h : Head) (assigned granted juniors limits : List ℕ) : Type
   pub granted_fits : Table h.roles granted
   pub juniors_fits : Table h.roles juniors
   pub limits_fit : Limited h.roles limits
+
+-- the words from the head to the last before the end, by tables of which one has the roles assigned to each user and
+-- one the direct juniors of each role
+abbrev pub words_of : PolicyTables → List Exclusion → List ℕ
+words_of t xs = words_by t.head t.authorized (values t.granted) t.below xs t.limits
+
+abbrev pub FittedTables : PolicyTables → Type 0
+FittedTables t = Fitted t.head t.authorized (values t.granted) t.below t.limits

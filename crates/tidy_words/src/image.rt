@@ -1,17 +1,17 @@
 // The words of the whole image: counted, and written where there is room for them.
-ghost use Rattle.std.specs.Prelude.{◌≡◌, ◌*◌, ◌^◌, ◌<◌, ◌≤◌, map, length, take};
+ghost use Rattle.std.specs.Prelude.{◌≡◌, ◌*◌, ◌^◌, ◌<◌, ◌≤◌, length};
 ghost use Rattle.model.specs.Words.{head_word as head_word_of, end_word as end_word_of, ended, image_bytes};
-ghost use Rattle.sets.specs.Words.{values};
-ghost use Rattle.exclusion_rows.specs.Rows.{exclusion_of};
+ghost use Rattle.exclusion_rows.specs.Table.{exclusion_list};
 ghost use Rattle.octets.specs.Splice.{splice};
-ghost use Rattle.tidy_words.specs.Buffers.{buffer, unwritten, puts, Room};
+ghost use Rattle.tidy_words.specs.Buffers.{written, Puts, Room};
 ghost use Rattle.tidy_words.specs.Tables.{Limited};
-ghost use Rattle.tidy_words.specs.Whole.{rest_words, words_by, Fitted};
+ghost use Rattle.tidy_words.specs.Whole.{rest_words, words_of, FittedTables};
 
-use crate::count::{count_exclusions, count_grants, count_limits, count_table};
-use crate::groups::{put_exclusions, put_grants, put_limits, put_table};
-use crate::words::{Cursor, put_word};
+use crate::count::{count_exclusions, count_limits, count_table};
+use crate::words::Writer;
+use exclusion_rows::ExclusionTable;
 use model::{Head, layout};
+use policy_tables::PolicyTables;
 
 // ---- the first word and the last
 
@@ -33,99 +33,72 @@ fn end_word(sum: u32) -> u32
 
 // ---- all words
 
+// An image is written from the tables as it states them: a user's row in `authorized` has the roles that are assigned,
+// and a role's row in `below` its direct juniors. The exclusions come in a table of their own, in the order that they
+// get in the image.
+
 // How many words the image has, head and end among them.
-pub fn count_words(
-    h: Head,
-    assigned: &[u64; 64],
-    granted: &[[u64; 4]; 64],
-    juniors: &[u64; 64],
-    xs: &[[u64; 2]; 32],
-    limits: &[u64; 64],
-    n: usize,
-) -> usize
-    requires { Fitted h assigned.now (values granted.now) juniors.now limits.now × (n ≤ 32) × (length xs.now ≡ 32) }
-    ensures { (result < 2 ^ 43)
-        × (result ≡ length (ended (words_by h assigned.now (values granted.now) juniors.now
-        (take n (map exclusion_of xs.now))
-        limits.now))) }
+pub fn count_words(tables: &PolicyTables, xs: &ExclusionTable) -> usize
+    requires { FittedTables tables.now }
+    ensures { (result < 2 ^ 43) × (result ≡ length (ended (words_of tables.now (exclusion_list xs.now)))) }
 {
-    let users = h.users as usize;
-    let roles = h.roles as usize;
-    let a = count_table(assigned, users);
-    let g = count_grants(granted, roles);
-    let j = count_table(juniors, roles);
-    let x = count_exclusions(xs, n);
-    let l = count_limits(limits, roles);
+    let users = tables.head.users as usize;
+    let roles = tables.head.roles as usize;
+    let a = count_table(&tables.authorized, users);
+    let g = count_table(&tables.granted, roles);
+    let j = count_table(&tables.below, roles);
+    let x = count_exclusions(xs);
+    let l = count_limits(&tables.limits, roles);
     2 + a + g + j + x + l
 }
 
-// Writes the words of the exclusions, and those of the limits.
-fn put_rest(
-    out: &mut [u8],
-    from: Cursor,
-    xs: &[[u64; 2]; 32],
-    limits: &[u64; 64],
-    n: usize,
-    roles: usize,
-) -> Cursor
-    requires { (n ≤ 32) × (length xs.now ≡ 32) × (roles ≤ 64) × Limited roles limits.now
-        × Room out.old from (rest_words (take n (map exclusion_of xs.now)) limits.now) }
-    ensures { buffer out.new result
-        ≡ puts (buffer out.old from) (rest_words (take n (map exclusion_of xs.now)) limits.now) }
-{
-    let x = put_exclusions(out, from, xs, n);
-    put_limits(out, x, limits, roles)
-}
+impl<'a> Writer<'a> {
+    // Writes the words of the exclusions, and those of the limits of so many roles.
+    fn put_rest(&mut self, xs: &ExclusionTable, limits: &[u64; 64], roles: usize)
+        requires { (roles ≤ 64) × Limited roles limits.now × Room (written self.old) (rest_words (exclusion_list xs.now) limits.now) }
+        ensures { Puts self.old self.new (rest_words (exclusion_list xs.now) limits.now) }
+    {
+        self.put_exclusions(xs);
+        self.put_limits(limits, roles);
+    }
 
-// Writes the words from the head to the last before the end.
-fn put_body(
-    out: &mut [u8],
-    h: Head,
-    assigned: &[u64; 64],
-    granted: &[[u64; 4]; 64],
-    juniors: &[u64; 64],
-    xs: &[[u64; 2]; 32],
-    limits: &[u64; 64],
-    n: usize,
-) -> Cursor
-    requires { Fitted h assigned.now (values granted.now) juniors.now limits.now × (n ≤ 32) × (length xs.now ≡ 32)
-        × (4 * length (words_by h assigned.now (values granted.now) juniors.now (take n (map exclusion_of xs.now)) limits.now)
-        ≤ length out.old) }
-    ensures { buffer out.new result
-        ≡ puts (unwritten out.old)
-        (words_by h assigned.now (values granted.now) juniors.now
-        (take n (map exclusion_of xs.now)) limits.now) }
-{
-    let users = h.users as usize;
-    let roles = h.roles as usize;
-    let start = Cursor { at: 0, sum: 0 };
-    let from = put_word(out, start, head_word(h));
-    let a = put_table(out, from, layout::ASSIGNMENT, assigned, users);
-    let g = put_grants(out, a, granted, roles);
-    let j = put_table(out, g, layout::SENIOR, juniors, roles);
-    put_rest(out, j, xs, limits, n, roles)
+    // Writes the words from the head to the last before the end.
+    fn put_body(&mut self, tables: &PolicyTables, xs: &ExclusionTable)
+        requires { FittedTables tables.now × Room (written self.old) (words_of tables.now (exclusion_list xs.now)) }
+        ensures { Puts self.old self.new (words_of tables.now (exclusion_list xs.now)) }
+    {
+        let users = tables.head.users as usize;
+        let roles = tables.head.roles as usize;
+        self.put_word(head_word(tables.head));
+        self.put_table(
+            layout::KIND_UNIT * layout::ASSIGNMENT,
+            layout::SECOND_UNIT,
+            &tables.authorized,
+            users,
+        );
+        self.put_table(
+            layout::GRANT_WORD,
+            layout::PERMISSION_UNIT,
+            &tables.granted,
+            roles,
+        );
+        self.put_table(
+            layout::KIND_UNIT * layout::SENIOR,
+            layout::SECOND_UNIT,
+            &tables.below,
+            roles,
+        );
+        self.put_rest(xs, &tables.limits, roles);
+    }
 }
 
 // Writes the whole image at the front of the buffer.
-pub fn put_image(
-    out: &mut [u8],
-    h: Head,
-    assigned: &[u64; 64],
-    granted: &[[u64; 4]; 64],
-    juniors: &[u64; 64],
-    xs: &[[u64; 2]; 32],
-    limits: &[u64; 64],
-    n: usize,
-)
-    requires { Fitted h assigned.now (values granted.now) juniors.now limits.now × (n ≤ 32) × (length xs.now ≡ 32)
-        × (4 * length (ended (words_by h assigned.now (values granted.now) juniors.now (take n (map exclusion_of xs.now)) limits.now))
-        ≤ length out.old) }
-    ensures { out.new
-        ≡ splice out.old 0
-        (image_bytes (ended (words_by h assigned.now (values granted.now) juniors.now
-        (take n (map exclusion_of xs.now))
-        limits.now))) }
+pub fn put_image(out: &mut [u8], tables: &PolicyTables, xs: &ExclusionTable)
+    requires { FittedTables tables.now × (4 * length (ended (words_of tables.now (exclusion_list xs.now))) ≤ length out.old) }
+    ensures { out.new ≡ splice out.old 0 (image_bytes (ended (words_of tables.now (exclusion_list xs.now)))) }
 {
-    let end = put_body(out, h, assigned, granted, juniors, xs, limits, n);
-    put_word(out, end, end_word(end.sum));
+    let mut w = Writer { out, at: 0, sum: 0 };
+    w.put_body(tables, xs);
+    let sum = w.sum;
+    w.put_word(end_word(sum));
 }

@@ -1,15 +1,19 @@
 -- `calls_moves::moved` meets its contract.
 -- Assumes nothing.
+use mathlib.Core.Path.{ap, ◌∙◌}
 use borrow.Author.Rules.{rules}
-use Rattle.calls_image.proofs.Images.{held}
+use Rattle.reasons.specs.Numbers.{refusal_of}
+use Rattle.calls_image.proofs.Images.{blank-fresh, held_known}
 use Rattle.calls_moves.proofs.Moving.{move-refused, move_by_lem}
 use Rattle.calls_moves.proofs.moved.Goals as goal
 
-pub returns-in_default : goal.returns-in_default
-returns-in_default c = search (rules, move-refused)
+pub read-outcome-requires : goal.read-outcome-requires
+read-outcome-requires c = search (rules, blank-fresh)
 
-pub move_lines-requires : goal.move_lines-requires
-move_lines-requires c = search (rules, held)
+pub returns-in_default : goal.returns-in_default
+returns-in_default c = move-refused _ _ _ _ _ c.in_default.ensures.refused (c.refused.ensures ∙ ap refusal_of c.in_default.is)
 
 pub returns : goal.returns
-returns c = search (rules, held, move_by_lem, c.move_lines.ensures)
+returns c =
+    let r = c.in-Ok.ensures.accepted in
+    move_by_lem _ _ _ _ _ r.0 (rw c.refused-2.ensures (c.move_lines.ensures _ (held_known _ r.1)))

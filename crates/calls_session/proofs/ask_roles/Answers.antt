@@ -1,15 +1,19 @@
 -- `calls_session::ask_roles` meets its contract.
 -- Assumes nothing.
+use mathlib.Core.Path.{ap, ◌∙◌}
 use borrow.Author.Rules.{rules}
-use Rattle.calls_image.proofs.Images.{held}
+use Rattle.reasons.specs.Numbers.{refusal_of}
+use Rattle.calls_image.proofs.Images.{blank-fresh}
 use Rattle.calls_session.proofs.Steps.{answers_refused, answers_by}
 use Rattle.calls_session.proofs.ask_roles.Goals as goal
 
-pub returns-in_default : goal.returns-in_default
-returns-in_default c = search (rules, answers_refused)
+pub read-outcome-requires : goal.read-outcome-requires
+read-outcome-requires c = search (rules, blank-fresh)
 
-pub ask_roles-requires : goal.ask_roles-requires
-ask_roles-requires c = search (rules, held)
+pub returns-in_default : goal.returns-in_default
+returns-in_default c = answers_refused _ _ _ _ c.in_default.ensures.refused (c.refused.ensures ∙ ap refusal_of c.in_default.is) _
 
 pub returns : goal.returns
-returns c = search (rules, held, answers_by, c.ask_roles.ensures)
+returns c =
+    let r = c.in-Ok.ensures.accepted in
+    answers_by _ _ _ _ r.0 (rw c.refused-2.ensures (c.ask_roles.ensures _ _ _ r.1 c.bounds_of-bounds.ensures))

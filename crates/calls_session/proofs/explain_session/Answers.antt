@@ -1,15 +1,24 @@
 -- `calls_session::explain_session` meets its contract.
 -- Assumes nothing.
+use mathlib.Core.Path.{ap, ◌∙◌}
 use borrow.Author.Rules.{rules}
-use Rattle.calls_image.proofs.Images.{held}
+use Rattle.reasons.specs.Numbers.{refusal_of}
+use Rattle.calls_image.proofs.Images.{blank-fresh, held_known, held_permissions}
 use Rattle.calls_session.proofs.Steps.{returned-refused, returned_by}
 use Rattle.calls_session.proofs.explain_session.Goals as goal
 
+pub read-outcome-requires : goal.read-outcome-requires
+read-outcome-requires c = search (rules, blank-fresh)
+
 pub returns-in_default : goal.returns-in_default
-returns-in_default c = search (rules, returned-refused)
+returns-in_default c = returned-refused _ _ _ _ c.in_default.ensures.refused (c.refused.ensures ∙ ap refusal_of c.in_default.is)
 
 pub explain_session-requires : goal.explain_session-requires
-explain_session-requires c = search (rules, held)
+explain_session-requires c =
+    let r = c.in-Ok.ensures.accepted in
+    held_permissions _ r.1 r.0
 
 pub returns : goal.returns
-returns c = search (rules, held, returned_by, c.explain_session.ensures)
+returns c =
+    let r = c.in-Ok.ensures.accepted in
+    returned_by _ _ _ _ r.0 (rw c.returned.ensures (c.explain_session.ensures _ (held_known _ r.1) r.1.granted_is r.1.below_is))

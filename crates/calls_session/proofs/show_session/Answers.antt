@@ -1,15 +1,19 @@
 -- `calls_session::show_session` meets its contract.
 -- Assumes nothing.
+use mathlib.Core.Path.{ap, ◌∙◌}
 use borrow.Author.Rules.{rules}
-use Rattle.calls_image.proofs.Images.{held}
+use Rattle.reasons.specs.Numbers.{refusal_of}
+use Rattle.calls_image.proofs.Images.{blank-fresh, held_known}
 use Rattle.calls_session.proofs.Steps.{shows-refused, shows_by}
 use Rattle.calls_session.proofs.show_session.Goals as goal
 
-pub returns-in_default : goal.returns-in_default
-returns-in_default c = search (rules, shows-refused)
+pub read-outcome-requires : goal.read-outcome-requires
+read-outcome-requires c = search (rules, blank-fresh)
 
-pub show_session-requires : goal.show_session-requires
-show_session-requires c = search (rules, held)
+pub returns-in_default : goal.returns-in_default
+returns-in_default c = shows-refused _ _ _ _ c.in_default.ensures.refused (c.refused.ensures ∙ ap refusal_of c.in_default.is) _
 
 pub returns : goal.returns
-returns c = search (rules, held, shows_by, c.show_session.ensures)
+returns c =
+    let r = c.in-Ok.ensures.accepted in
+    shows_by _ _ _ _ r.0 (rw c.refused-2.ensures (c.show_session.ensures _ (held_known _ r.1) r.1.granted_is r.1.below_is))

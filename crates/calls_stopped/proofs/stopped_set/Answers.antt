@@ -1,28 +1,19 @@
-use mathlib.Core.Path.{◌≡◌, sym, ap, ◌∙◌}
-use Prim.Native.Nat.{◌≤◌, ◌-◌}
+use mathlib.Core.Path.{sym, ap, ◌∙◌}
 use native.Mathlib.Nat.{le_antisymm}
-use native.Mathlib.Omega.{arith}
-use borrow.Author.Rules.{rules}
 use Rattle.model.specs.declared.Head.{Head}
-use Rattle.model.specs.Sets.{set_of}
-use Rattle.model.specs.Policy.{Policy}
 use Rattle.model.specs.Line.{SESSIONS}
-use Rattle.exclusion_rows.specs.Rows.{exclusions_in}
-use Rattle.sessions.specs.Calls.{Known}
 use Rattle.hierarchy.proofs.Joining.{set_of_none}
-use Rattle.calls_stopped.proofs.Telling.{stops, set_next, set_all}
+use Rattle.calls_stopped.proofs.Telling.{set_next, set_all}
 use Rattle.calls_stopped.proofs.stopped_set.Goals as goal
 
 pub loop-u-init : goal.loop-u-init
-loop-u-init c = (omega arith, λ p h. set_of_none _)
+loop-u-init c p h = set_of_none _
 
 pub loop-u-preserved : goal.loop-u-preserved
-loop-u-preserved c = (
-  omega arith,
-  λ p h. set_next SESSIONS p _ c.loop-u.u _ _ _ (c.loop-u.invariant.1 p h) (c.line_sound-stays.ensures p h) c.joined-found.ensures,
-)
+loop-u-preserved c p h =
+    set_next SESSIONS p _ c.loop-u.u _ _ _ (c.loop-u.invariant p h) (c.line_sound.ensures p h) c.joined-found.ensures
 
 pub returns : goal.returns
 returns c p h =
     let n = ap (λ (x : Head). x.users) h.head_is in
-    set_all SESSIONS p _ c.loop-u.u _ (le_antisymm c.loop-u.invariant.0 c.loop-u-test.false ∙ sym n) (c.loop-u.invariant.1 p h)
+    set_all SESSIONS p _ c.loop-u.u _ (le_antisymm c.loop-u.auto.u-end c.loop-u-test.false ∙ sym n) (c.loop-u.invariant p h)

@@ -1,16 +1,19 @@
--- `calls_stopped::tell_stopped` meets its contract: a refused image ends it, and under an accepted one it goes by the
--- policy.
+-- `calls_stopped::tell_stopped` meets its contract.
 -- Assumes nothing.
+use mathlib.Core.Path.{ap, ◌∙◌}
 use borrow.Author.Rules.{rules}
-use Rattle.calls_image.proofs.Images.{held}
+use Rattle.reasons.specs.Numbers.{refusal_of}
+use Rattle.calls_image.proofs.Images.{blank-fresh, held_known}
 use Rattle.calls_stopped.proofs.Telling.{stopped_refused, stopped_by_lem}
 use Rattle.calls_stopped.proofs.tell_stopped.Goals as goal
 
-pub returns-in_default : goal.returns-in_default
-returns-in_default c = search (rules, stopped_refused)
+pub read-outcome-requires : goal.read-outcome-requires
+read-outcome-requires c = search (rules, blank-fresh)
 
-pub tell-requires : goal.tell-requires
-tell-requires c = search (rules, held)
+pub returns-in_default : goal.returns-in_default
+returns-in_default c = stopped_refused _ _ _ c.in_default.ensures.refused (c.refused.ensures ∙ ap refusal_of c.in_default.is)
 
 pub returns : goal.returns
-returns c = search (rules, held, stopped_by_lem, c.tell.ensures)
+returns c =
+    let r = c.in-Ok.ensures.accepted in
+    stopped_by_lem _ _ _ r.0 (rw (← c.returned.ensures) at (c.tell.ensures _ (held_known _ r.1)))

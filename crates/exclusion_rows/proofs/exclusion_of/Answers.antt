@@ -1,6 +1,5 @@
 -- `exclusion_rows::exclusion_of` meets its contract.
 -- Assumes nothing.
-use borrow.Author.Rules.{rules}
 use Rattle.exclusion_rows.specs.Rows.{exclusion_of}
 use Rattle.exclusion_rows.proofs.exclusion_of.Goals as goal
 

@@ -2,10 +2,8 @@
 -- Assumes nothing.
 use Rattle.std.proofs.Common.{ap, ◌∙◌}
 use Rattle.image_reader.specs.Places.{found_at}
-use Rattle.image_reader.specs.declared.Reader.{Reader}
 use Rattle.image_reader.proofs.PlaceLaws.{found_after}
 use Rattle.image_reader.proofs.entry_after.Goals as goal
 
 pub returns : goal.returns
-returns c =
-    c.next.ensures ∙ ap (λ (r : Reader). found_at r.image.now r.at) c.moved.ensures ∙ found_after c.args.image.now c.args.place
+returns c = c.next.ensures.steps.0 ∙ ap (found_at c.args.image.now) c.place_after-at.ensures ∙ found_after c.args.image.now c.args.place

@@ -8,6 +8,3 @@ use Rattle.image_reader.proofs.exclusion_after.Given as goal
 
 abbrev pub invariant-loop-at : goal.invariant-loop-at
 invariant-loop-at l = exclusion_among l.image (l.last - l.at) l.at ≡ exclusion_after l.image l.place
-
-abbrev pub decreases-loop-at : goal.decreases-loop-at
-decreases-loop-at l = l.last - l.at

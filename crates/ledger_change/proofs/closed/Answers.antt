@@ -1,7 +1,6 @@
 -- `ledger_change::closed` meets its contract. An open session's bit is part of the open bits.
 -- Assumes nothing.
 use native.Mathlib.Omega.{arith}
-use borrow.Author.Rules.{rules}
 use Rattle.model.specs.Line.{empty_session, closing}
 use Rattle.ledger_change.proofs.Sessions.{open_le}
 use Rattle.ledger_change.proofs.closed.Goals as goal

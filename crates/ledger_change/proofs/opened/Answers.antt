@@ -6,8 +6,8 @@ use borrow.Author.Rules.{rules}
 use Rattle.model.specs.Line.{SESSIONS, opening}
 use Rattle.ledger_change.proofs.opened.Goals as goal
 
-pub overflow_add-next : goal.overflow_add-next
-overflow_add-next c =
+pub overflow_add-result : goal.overflow_add-result
+overflow_add-result c =
     let h = pow-lt {i = c.args.k} {j = SESSIONS} (search rules) in
     omega (arith, h)
 

@@ -16,8 +16,8 @@ pub line_of-l-requires : goal.line_of-l-requires
 unfolding line_size
 line_of-l-requires c = omega (arith, c.requires.1)
 
-pub add_sessions-next-requires : goal.add_sessions-next-requires
-add_sessions-next-requires c r =
+pub add_sessions-all-requires : goal.add_sessions-all-requires
+add_sessions-all-requires c r =
     omega (arith, (c.loop-v.invariant.1 r).1, c.requires.0)
 
 pub loop-v-preserved : goal.loop-v-preserved
@@ -26,7 +26,7 @@ loop-v-preserved c = (
   omega arith,
   λ r.
       let i = c.loop-v.invariant.1 r in
-      let q = c.add_sessions-next.ensures r in
+      let q = c.add_sessions-all.ensures r in
       let w = c.without-counted.ensures r ∙ held-step c.args.ledger.now c.args.user c.args.k r c.loop-v.v _ c.line_of-l.ensures in
       let n = sum-next (held_but c.args.ledger.now c.args.user c.args.k r) c.loop-v.v in
       (omega (arith, q.0, w, n, i.0), omega (arith, q.1, i.1)),

@@ -8,6 +8,6 @@ use Rattle.limits_left.proofs.roles_left.Goals as goal
 
 pub returns : goal.returns
 returns c p xs h l =
-    let e : p.head.users ≡ c.args.sizes.head.users = ap (λ (x : Head). x.users) h.head_is in
-    let b = subst (λ (n : ℕ). c.args.who.user < n) (sym e) c.requires.1 in
-    c.left.ensures p e (sym (own_known c.args.sizes.head c.args.authorized.now xs p c.args.who.user _ h b c.roles_of-own.ensures)) l
+    let e : p.head.users ≡ c.args.tables.now.head.users = ap (λ (x : Head). x.users) h.head_is in
+    let b = subst (λ (n : ℕ). c.args.who.user < n) (sym e) c.requires.0 in
+    c.left.ensures p e (sym (own_known c.args.tables.now.head c.args.tables.now.authorized xs p c.args.who.user _ h b c.roles_of-own.ensures)) l

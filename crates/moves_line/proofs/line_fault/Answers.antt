@@ -3,8 +3,6 @@
 use native.Mathlib.Omega.{arith}
 use Rattle.model.specs.Line.{line_size}
 use Rattle.moves_line.proofs.OneLine.{fault11, fault24, fault0}
-use Rattle.std.proofs.lemmas.Bool.{not_from_true}
-use Rattle.std.proofs.lemmas.Bool.{not_from_false}
 use Rattle.moves_line.proofs.line_fault.Goals as goal
 
 pub get_u64-requires : goal.get_u64-requires
@@ -12,25 +10,15 @@ unfolding line_size
 get_u64-requires c = omega arith
 
 pub returns-then-not-formed : goal.returns-then-not-formed
-returns-then-not-formed c = (
-  omega arith,
-  λ m anti h.
-      fault11 c.args.from c.args.to m c.args.bytes.now (c.line_sound-formed.ensures m anti h) c.get_u64.ensures c.below-low.ensures
-      (not_from_false _ c.if-not-formed.true),
-)
+returns-then-not-formed c m anti h =
+    fault11 c.args.from c.args.to m c.args.bytes.now (c.line_sound-formed.ensures m anti h) c.get_u64.ensures c.below-low.ensures c.if-not-formed.true
 
 pub returns-then-not-low : goal.returns-then-not-low
-returns-then-not-low c = (
-  omega arith,
-  λ m anti h.
-      fault24 c.args.from c.args.to m c.args.bytes.now (c.line_sound-formed.ensures m anti h) c.get_u64.ensures c.below-low.ensures
-      (not_from_true _ c.if-not-formed.false) (not_from_false _ c.if-not-low.true),
-)
+returns-then-not-low c m anti h =
+    fault24 c.args.from c.args.to m c.args.bytes.now (c.line_sound-formed.ensures m anti h) c.get_u64.ensures c.below-low.ensures c.if-not-formed.false
+    c.if-not-low.true
 
 pub returns : goal.returns
-returns c = (
-  omega arith,
-  λ m anti h.
-      fault0 c.args.from c.args.to m c.args.bytes.now (c.line_sound-formed.ensures m anti h) c.get_u64.ensures c.below-low.ensures
-      (not_from_true _ c.if-not-formed.false) (not_from_true _ c.if-not-low.false),
-)
+returns c m anti h =
+    fault0 c.args.from c.args.to m c.args.bytes.now (c.line_sound-formed.ensures m anti h) c.get_u64.ensures c.below-low.ensures c.if-not-formed.false
+    c.if-not-low.false

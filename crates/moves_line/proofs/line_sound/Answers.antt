@@ -8,7 +8,7 @@ use Rattle.moves_line.proofs.line_sound.Goals as goal
 
 pub plainly_sound-requires : goal.plainly_sound-requires
 plainly_sound-requires c =
-    (c.requires.0, omega arith, c.requires.3, c.requires.4)
+    (c.requires.0, omega arith)
 
 pub returns-then-plainly_sound : goal.returns-then-plainly_sound
 returns-then-plainly_sound c m anti h = sym (c.plainly_sound.ensures c.if-plainly_sound.true m h)

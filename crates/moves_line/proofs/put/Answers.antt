@@ -8,4 +8,4 @@ use Rattle.moves_line.proofs.put.Goals as goal
 
 pub returns-then-bytes-eq80 : goal.returns-then-bytes-eq80
 returns-then-bytes-eq80 c =
-    c.put.ensures ∙ ap (splice _ _) (take_all 80 _ (omega arith))
+    c.copy.ensures ∙ ap (splice _ _) (take_all 80 _ (omega arith))

@@ -9,18 +9,17 @@ use Rattle.moves_line.proofs.sessions_in.Goals as goal
 
 pub loop-k-init : goal.loop-k-init
 unfolding read_sessions empty_session
-loop-k-init c = (omega arith, refl, refl, refl)
+loop-k-init c = (refl, refl, refl)
 
 pub loop-k-preserved : goal.loop-k-preserved
 loop-k-preserved c = (
-  omega arith,
-  simp length-set c.loop-k.invariant.1,
-  read_next c.args.bytes.now 16 c.loop-k.k c.loop-k.sessions c.session_at-next.result c.loop-k.invariant.2 (omega arith) c.session_at-next.ensures,
-  rest_next SESSIONS c.loop-k.k c.loop-k.sessions c.session_at-next.result empty_session (omega arith) c.loop-k.invariant.3,
+  simp length-set c.loop-k.invariant.0,
+  read_next c.args.bytes.now 16 c.loop-k.k c.loop-k.sessions c.session_at-next.result c.loop-k.invariant.1 (omega arith) c.session_at-next.ensures,
+  rest_next SESSIONS c.loop-k.k c.loop-k.sessions c.session_at-next.result empty_session (omega arith) c.loop-k.invariant.2,
 )
 
 pub returns : goal.returns
 returns c =
     let e : c.loop-k.k ≡ c.args.count = omega arith in
-    filled_whole c.loop-k.k c.loop-k.sessions _ _ (c.loop-k.invariant.2 ∙ ap (λ (k : ℕ). read_sessions k (drop 16 c.args.bytes.now)) e)
-    (c.loop-k.invariant.3 ∙ ap (λ (k : ℕ). replicate (SESSIONS - k) empty_session) e)
+    filled_whole c.loop-k.k c.loop-k.sessions _ _ (c.loop-k.invariant.1 ∙ ap (λ (k : ℕ). read_sessions k (drop 16 c.args.bytes.now)) e)
+    (c.loop-k.invariant.2 ∙ ap (λ (k : ℕ). replicate (SESSIONS - k) empty_session) e)

@@ -2,15 +2,12 @@
 -- them are empty.
 -- Assumes nothing.
 use mathlib.Core.Path.{◌≡◌}
-use Prim.Native.Nat.{◌-◌, ◌≤◌}
+use Prim.Native.Nat.{◌-◌}
 use lib.ListN.{length, take, drop, replicate}
 use Rattle.model.specs.Line.{SESSIONS, read_sessions, empty_session}
 use Rattle.moves_line.proofs.sessions_in.Given as goal
 
 abbrev pub invariant-loop-k : goal.invariant-loop-k
 invariant-loop-k l =
-    (l.k ≤ l.count) × (length l.sessions ≡ SESSIONS) × (take l.k l.sessions ≡ read_sessions l.k (drop 16 l.bytes))
+    (length l.sessions ≡ SESSIONS) × (take l.k l.sessions ≡ read_sessions l.k (drop 16 l.bytes))
     × (drop l.k l.sessions ≡ replicate (SESSIONS - l.k) empty_session)
-
-abbrev pub decreases-loop-k : goal.decreases-loop-k
-decreases-loop-k l = l.count - l.k

@@ -14,6 +14,6 @@ returns-then-not-perm_within c =
 pub returns : goal.returns
 returns c e carried p r =
     settled-rank c.args.job c.args.chosen c.args.free carried (value c.args.top) c.args.best _ _
-    (key_bound c.args.job c.args.chosen c.args.free carried (value c.args.top) _ _ (c.least_permissions-first_cost.ensures carried p)
-    (c.least_roles-second_cost.ensures r))
+    (key_bound c.args.job c.args.chosen c.args.free carried (value c.args.top) _ _ (c.least-first.ensures carried p)
+    (rw c.union.ensures at (c.least-second.ensures c.args.chosen r)))
     c.no_worse.ensures e

@@ -6,7 +6,7 @@ use Rattle.script_replies.proofs.answer.Goals as goal
 
 pub returns : goal.returns
 returns c = (
-  number-answered c.args.image.now c.args.ledger.now c.args.line.now _ 0 _ _ _ c.parse-p.ensures c.call-code.ensures,
+  number-answered c.args.image.now c.args.ledger.now c.args.line.now _ 0 _ _ _ c.parse-parsed.ensures c.call-code.ensures,
   search rules,
-  ledger_after c.args.image.now c.args.ledger.now c.args.line.now _ 0 _ _ _ c.parse-p.ensures c.call-code.ensures,
+  ledger_after c.args.image.now c.args.ledger.now c.args.line.now _ 0 _ _ _ c.parse-parsed.ensures c.call-code.ensures,
 )

@@ -6,7 +6,7 @@ use native.Mathlib.Omega.{arith}
 use Prim.Native.Nat.{◌/◌}
 use lib.ListN.{length}
 use borrow.Author.Rules.{rules}
-use Rattle.model_script.specs.Script.{glyph, numeral}
+use Rattle.model_script.specs.Script.{numeral}
 use Rattle.script_text.proofs.TextLaws.{puts-joined, puts_as, numeral-one, numeral_more, numeral_longer, two≤10}
 use Rattle.script_text_lines.proofs.+put_decimal.Goals as goal
 
@@ -15,7 +15,7 @@ put-requires t c = omega (arith, c.requires, ap length (numeral-one 10 two≤10 
 
 pub returns-then-n-lt10 : goal.returns-then-n-lt10
 returns-then-n-lt10 t c =
-    puts_as (ap (λ x. x ∷ []) (c.glyph-d.ensures ∙ ap glyph c.narrow.ensures) ∙ sym (numeral-one 10 two≤10 c.args.n (search rules))) c.put.ensures
+    puts_as (ap (λ x. x ∷ []) c.glyph-d.ensures ∙ sym (numeral-one 10 two≤10 c.args.n (search rules))) c.put.ensures
 
 pub put_decimal-next-requires : goal.put_decimal-next-requires
 put_decimal-next-requires t c =
@@ -29,6 +29,6 @@ put-requires-2 t c =
 pub returns : goal.returns
 returns t c =
     puts_as
-    (ap (λ x. numeral 10 (c.args.n / 10) ++ (x ∷ [])) (c.glyph-d-2.ensures ∙ ap glyph c.narrow-2.ensures)
+    (ap (λ x. numeral 10 (c.args.n / 10) ++ (x ∷ [])) c.glyph-d-2.ensures
     ∙ sym (numeral_more 10 two≤10 c.args.n (search rules)))
     (puts-joined c.put_decimal-next.ensures c.put-2.ensures)

@@ -1,21 +1,21 @@
+-- The zeros behind the highest byte are counted from the end.
+-- Assumes nothing.
 use borrow.Author.Rules.{rules}
-use mathlib.Core.Path.{◌≡◌}
-use native.Mathlib.Omega.{arith}
-use Rattle.script_text_lines.proofs.LineLaws.{highest_begins, highest_goes_on}
+use mathlib.Core.Path.{sym, ◌∙◌}
+use Rattle.std.proofs.Common.{tests}
+use Rattle.std.proofs.lemmas.Iterator.Adapters.{YieldsList-from_rev_slice}
+use Rattle.std.proofs.lemmas.Iterator.Search.{position_from_yields_List}
+use Rattle.script_text_lines.proofs.LineLaws.{some_bit, highest_none, highest_some}
 use Rattle.script_text_lines.proofs.highest.Goals as goal
 
-pub loop-k-init : goal.loop-k-init
-loop-k-init c = (search rules, highest_begins c.args.bytes.now)
-
-pub returns-then-bytes-k-gt0 : goal.returns-then-bytes-k-gt0
-returns-then-bytes-k-gt0 c =
-    record { inside = c.loop-k.invariant.0; zeros = c.loop-k.invariant.1; some_byte = λ h. c.if-bytes-k-gt0.true }
-
-pub loop-k-preserved : goal.loop-k-preserved
-loop-k-preserved c =
-    (search rules, highest_goes_on c.args.bytes.now c.loop-k.k (search rules) c.loop-k.invariant.0 c.loop-k.invariant.1 c.if-bytes-k-gt0.false)
+pub returns-in_err-zeros : goal.returns-in_err-zeros
+returns-in_err-zeros c =
+    let e = position_from_yields_List some_bit _ _ c.position.result c.position.ensures.ran (YieldsList-from_rev_slice c.args.bytes.now cc)
+    (λ x b q k. search (rules, tests)) in
+    rw c.from_residual.ensures (highest_none _ (sym e ∙ c.in_err-zeros.was))
 
 pub returns : goal.returns
 returns c =
-    let z : c.loop-k.k ≡ 0 = search rules in
-    record { inside = search rules; zeros = rw z at c.loop-k.invariant.1; some_byte = λ h. absurd (omega arith) }
+    let e = position_from_yields_List some_bit _ _ c.position.result c.position.ensures.ran (YieldsList-from_rev_slice c.args.bytes.now cc)
+    (λ x b q k. search (rules, tests)) in
+    highest_some _ _ (sym e ∙ c.in_ok-zeros.was)

@@ -1,37 +1,42 @@
-use borrow.Author.Rules.{rules}
-use mathlib.Core.Path.{◌≡◌, refl, sym, ap, ◌∙◌}
-use mathlib.Core.List.{[], ◌++◌, append_assoc, append-nil}
-use Prim.Native.Nat.{◌-◌}
+use mathlib.Core.Path.{◌≡◌, sym, ap, ◌∙◌}
+use mathlib.Core.List.{[], ◌∷◌, ◌++◌, append_assoc, append-nil}
+use Prim.Native.Nat.{◌-◌, ◌<◌}
 use native.Mathlib.Omega.{arith}
-use lib.ListN.{get_or}
+use lib.ListN.{length}
+use Rattle.std.proofs.lemmas.Iterator.Adapters.{YieldsList-from_rev_slice}
+use Rattle.std.proofs.lemmas.Iterator.Consumers.{YieldsList-turn, YieldsList-end}
+use Rattle.std.proofs.lemmas.List.{length_push, length-reverse}
 use Rattle.script_text.specs.Writing.{pair_of}
 use Rattle.script_text_lines.specs.Pairs.{pairs_of}
-use Rattle.script_text.proofs.TextLaws.{put_nothing, puts-joined, puts_as}
-use Rattle.script_text_lines.proofs.LineLaws.{pairs_next}
+use Rattle.script_text.proofs.TextLaws.{puts-joined, puts_as}
+use Rattle.script_text_lines.proofs.LineLaws.{pairs_turn}
 use Rattle.script_text_lines.proofs.put_pairs.Goals as goal
 
-pub loop-i-init : goal.loop-i-init
-loop-i-init c = (search rules, search rules, search rules, search rules, ([], refl, put_nothing _ _))
-
-pub loop-i-preserved : goal.loop-i-preserved
+pub loop-b-preserved : goal.loop-b-preserved
 unfolding pair_of
-loop-i-preserved c =
-    let b = get_or c.args.bytes.now (c.loop-i.i - 1) 0 in (
-      search rules,
-      search rules,
+loop-b-preserved c =
+    let bs = c.args.bytes.now in
+    let n = length c.loop-b.yielded in
+    let t = YieldsList-turn (YieldsList-from_rev_slice bs cc) c.loop-b.yielded _ c.loop-b.yielded_by _ _ c.in-Some.b c.in-Some.is c.next.ensures.steps in
+    let e = length_push c.loop-b.yielded c.in-Some.b in
+    let h : n < length bs = omega (arith, t.0, length-reverse bs) in
+    let done = c.loop-b.invariant.3.0 in (
+      omega arith,
       omega (arith, c.put_pair-next.ensures.next-is, c.put_pair-next.auto.out),
-      c.put_pair-next.auto.out ∙ c.loop-i.invariant.3,
+      c.put_pair-next.auto.out ∙ c.loop-b.invariant.2,
       (
-        c.loop-i.invariant.4.0 ++ pair_of b,
-        c.loop-i.invariant.4.1 ∙ ap (λ x. c.loop-i.invariant.4.0 ++ x) (pairs_next c.args.bytes.now c.loop-i.i (search rules))
-            ∙ sym (append_assoc c.loop-i.invariant.4.0 (pair_of b) (pairs_of (c.loop-i.i - 1) c.args.bytes.now)),
-        puts-joined c.loop-i.invariant.4.2 c.put_pair-next.ensures,
+        done ++ pair_of c.in-Some.b.now,
+        c.loop-b.invariant.3.1 ∙ ap (λ x. done ++ x) (pairs_turn bs n _ t.0 t.1 ∙ rw e)
+            ∙ sym (append_assoc done (pair_of c.in-Some.b.now) (pairs_of (length bs - length (c.loop-b.yielded ++ c.in-Some.b ∷ [])) bs)),
+        puts-joined c.loop-b.invariant.3.2 c.put_pair-next.ensures,
       ),
     )
 
 pub returns : goal.returns
 unfolding pairs_of
 returns c =
-    let z : c.loop-i.i ≡ 0 = search rules in
-    puts_as (sym (c.loop-i.invariant.4.1 ∙ ap (λ x. c.loop-i.invariant.4.0 ++ pairs_of x c.args.bytes.now) z ∙ append-nil c.loop-i.invariant.4.0))
-    c.loop-i.invariant.4.2
+    let bs = c.args.bytes.now in
+    let t = YieldsList-end (YieldsList-from_rev_slice bs cc) c.loop-b.yielded _ c.loop-b.yielded_by _ _ c.in-None.is c.next.ensures.steps in
+    let z : length bs - length c.loop-b.yielded ≡ 0 = omega (arith, t.1, length-reverse bs) in
+    let done = c.loop-b.invariant.3.0 in
+    puts_as (sym (c.loop-b.invariant.3.1 ∙ ap (λ x. done ++ pairs_of x bs) z ∙ append-nil done)) c.loop-b.invariant.3.2

@@ -5,10 +5,10 @@ use Rattle.model.specs.Tests.{pick}
 use Rattle.search.specs.Answer.{answer_of}
 use Rattle.search.proofs.answer.Goals as goal
 
-pub returns-then-key-eq-NONE : goal.returns-then-key-eq-NONE
+pub returns-then-best-eq-NONE : goal.returns-then-best-eq-NONE
 unfolding answer_of pick
-returns-then-key-eq-NONE c = rw c.if-key-eq-NONE.true
+returns-then-best-eq-NONE c = rw c.if-best-eq-NONE.true
 
 pub returns : goal.returns
 unfolding answer_of pick
-returns c = rw (ne_eqb _ _ c.if-key-eq-NONE.false)
+returns c = rw (ne_eqb _ _ c.if-best-eq-NONE.false)

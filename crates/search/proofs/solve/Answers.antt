@@ -12,14 +12,14 @@ use Rattle.search.proofs.solve.Goals as goal
 
 pub returns-then-not-reduced_met : goal.returns-then-not-reduced_met
 returns-then-not-reduced_met c m l k given =
-    none_chosen (task_of c.args.rows.now c.args.masks.now c.args.ns.now c.args.job) (value c.args.upper) c.args.authorized c.ranges.authorized.fits m l k given
-    (met_less c.args.masks.now c.args.ns.now c.args.job.count) _ c.reduced_met.ensures (not-true _ (not_from_false _ c.if-not-reduced_met.true))
+    none_chosen (task_of c.args.query.now) (value c.args.upper) c.args.authorized c.ranges.authorized.fits m l k given
+    (met_less c.args.query.now.exclusions.now) _ c.reduced_met.ensures (not-true _ (not_from_false _ c.if-not-reduced_met.true))
 
 pub best_of-requires : goal.best_of-requires
-best_of-requires c = (c.requires, sym c.reduced_met.ensures ∙ not-false _ (not_from_true _ c.if-not-reduced_met.false))
+best_of-requires c = sym c.reduced_met.ensures ∙ not-false _ (not_from_true _ c.if-not-reduced_met.false)
 
 pub returns : goal.returns
 returns c m l k given =
-    is_chosen (task_of c.args.rows.now c.args.masks.now c.args.ns.now c.args.job) (value c.args.upper) c.args.authorized c.ranges.authorized.fits m l
+    is_chosen (task_of c.args.query.now) (value c.args.upper) c.args.authorized c.ranges.authorized.fits m l
     k given c.usable-free.result c.usable-free.ensures
     c.best_of.result c.answer.result c.answer.ensures c.best_of.ensures

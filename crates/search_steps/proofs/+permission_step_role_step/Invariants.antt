@@ -10,14 +10,11 @@ use Rattle.search_steps.proofs.Loops.{Trying}
 use Rattle.search_steps.proofs.+permission_step_role_step.Given as goal
 
 abbrev pub decreases-permission_step : goal.decreases-permission_step
-decreases-permission_step l = wanted (value l.job.lower) (value l.node.carried) + 2 * count 64 l.node.free + 1
+decreases-permission_step l = wanted (value l.query.now.job.lower) (value l.node.carried) + 2 * count 64 l.node.free + 1
 
 abbrev pub decreases-role_step : goal.decreases-role_step
-decreases-role_step l = wanted (value l.job.lower) (value l.node.carried) + 2 * count 64 l.node.free
+decreases-role_step l = wanted (value l.query.now.job.lower) (value l.node.carried) + 2 * count 64 l.node.free
 
-abbrev pub invariant-role_step-loop-left : goal.invariant-role_step-loop-left
-invariant-role_step-loop-left l =
-    Trying (task_of l.rows l.masks l.ns l.job) l.tries l.chosen l.initial.still l.initial.found l.left l.still l.found
-
-abbrev pub decreases-role_step-loop-left : goal.decreases-role_step-loop-left
-decreases-role_step-loop-left l = count 64 l.left
+abbrev pub invariant-role_step-loop-k : goal.invariant-role_step-loop-k
+invariant-role_step-loop-k l =
+    Trying (task_of l.query) l.tries l.node.chosen l.initial.still l.initial.found l.k-iterator.left l.still l.found

@@ -12,9 +12,9 @@ loop-left-init t c = walking_start _ _ _ _
 
 pub returns-then-settled : goal.returns-then-settled
 returns-then-settled t c =
-    c.loop-left.invariant.rest _ (cuts_off c.args.rows.now c.args.reach.now c.args.masks.now c.args.ns.now c.args.job _ _ _ _ _ _ _ c.requires.0
+    c.loop-left.invariant.rest _ (cuts_off c.args.query.now c.args.reach.now _ _ _ _ _ _ _ c.requires.0
     (reaches_sub _ _ c.args.node.free c.loop-left.left c.loop-left.invariant.inside c.requires.1) c.lowest-role.ensures c.perm_union-top.ensures
-    (λ e. c.settled.ensures e _ c.fewest_permissions-permissions.ensures c.fewest_roles-roles.ensures) c.if-settled.true)
+    (λ e. c.settled.ensures e _ c.fewest-permissions.ensures c.fewest-roles.ensures) c.if-settled.true)
 
 pub loop-left-smaller-then-not-reduced_met : goal.loop-left-smaller-then-not-reduced_met
 loop-left-smaller-then-not-reduced_met t c =
@@ -23,7 +23,7 @@ loop-left-smaller-then-not-reduced_met t c =
 
 pub loop-left-preserved-then-not-reduced_met : goal.loop-left-preserved-then-not-reduced_met
 loop-left-preserved-then-not-reduced_met t c =
-    walking_off (task_of c.args.rows.now c.args.masks.now c.args.ns.now c.args.job) (met_less c.args.masks.now c.args.ns.now c.args.job.count) _ _ _
+    walking_off (task_of c.args.query.now) (met_less c.args.query.now.exclusions.now) _ _ _
     c.loop-left.left _ c.loop-left.invariant _ _ _ _ c.lowest-role.ensures.member c.without-less.ensures c.with-wider.ensures c.reduced_met.ensures
     c.if-not-reduced_met.true
 
@@ -38,8 +38,8 @@ subset_step-next-requires t c =
             c.without-less.ensures,
       ),
       (
-        ready_more (task_of c.args.rows.now c.args.masks.now c.args.ns.now c.args.job) _ _ _ _ c.requires.0 _ _ _ _ low.small c.with-wider.ensures
-            c.perm_union-sum.ensures refl
+        ready_more (task_of c.args.query.now) _ _ _ c.requires.0 _ _ _ _ low.small c.with-wider.ensures
+            c.perm_union.ensures refl
             c.reduced_met.ensures c.if-not-reduced_met.false,
         reaches_sub _ _ c.args.node.free _
             (less_free c.args.node.free c.loop-left.left c.lowest-role.result.0 _ inside low.member c.without-less.ensures) c.requires.1,
@@ -53,11 +53,11 @@ loop-left-smaller t c =
 
 pub loop-left-preserved : goal.loop-left-preserved
 loop-left-preserved t c =
-    walking_on (task_of c.args.rows.now c.args.masks.now c.args.ns.now c.args.job) (met_less c.args.masks.now c.args.ns.now c.args.job.count) _ _ _
+    walking_on (task_of c.args.query.now) (met_less c.args.query.now.exclusions.now) _ _ _
     c.loop-left.left _ c.loop-left.invariant _ _ _ _ c.lowest-role.ensures.member c.without-less.ensures c.with-wider.ensures c.reduced_met.ensures _
     c.subset_step-next.ensures
 
 pub returns : goal.returns
 returns t c =
-    c.loop-left.invariant.rest _ (judges c.args.rows.now c.args.masks.now c.args.ns.now c.args.job _ _ _ _ _ c.requires.0 c.loop-left-test.false
+    c.loop-left.invariant.rest _ (judges c.args.query.now _ _ _ _ _ c.requires.0 c.loop-left-test.false
     c.judged.ensures)

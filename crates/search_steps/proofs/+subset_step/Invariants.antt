@@ -9,7 +9,7 @@ abbrev pub decreases-subset_step : goal.decreases-subset_step
 decreases-subset_step l = count 64 l.node.free
 
 abbrev pub invariant-loop-left : goal.invariant-loop-left
-invariant-loop-left l = Walking (task_of l.rows l.masks l.ns l.job) l.chosen l.initial.left l.initial.found l.left l.found
+invariant-loop-left l = Walking (task_of l.query) l.node.chosen l.initial.left l.initial.found l.left l.found
 
 abbrev pub decreases-loop-left : goal.decreases-loop-left
 decreases-loop-left l = count 64 l.left

@@ -1,6 +1,5 @@
 -- `sets::with_if` meets its contract.
 -- Assumes nothing.
-use borrow.Author.Rules.{rules}
 use Rattle.model.specs.Tests.{pick}
 use Rattle.sets.proofs.with_if.Goals as goal
 

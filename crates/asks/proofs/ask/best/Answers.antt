@@ -1,11 +1,10 @@
 -- `asks::ask::best` meets its contract: the reduced exclusions are met exactly where every exclusion is.
 -- Assumes nothing.
-use Rattle.exclusion_rows.specs.Rows.{exclusions_in}
 use Rattle.asks.specs.Asks.{left_to}
 use Rattle.asks.proofs.Rows.{given-of}
 use Rattle.asks.proofs.ask.best.Goals as goal
 
 pub returns : goal.returns
-unfolding exclusions_in
 returns c p u x g =
-    c.solve.ensures (left_to p u x c.args.l c.args.k) c.args.l c.args.k (given-of p u x _ _ _ _ _ _ _ _ c.reduce-reduced.ensures.0 c.reduce-reduced.ensures.1 g)
+    c.solve.ensures (left_to p u x c.args.l c.args.k) c.args.l c.args.k
+    (rw c.list.ensures (given-of p u x _ _ _ _ _ _ c.reduce-reduced.ensures.1 g))

@@ -2,7 +2,7 @@
 -- Assumes nothing.
 use Rattle.model.specs.Policy.{meaning}
 use Rattle.model.specs.Run.{line_of}
-use Rattle.exclusion_rows.specs.Rows.{exclusions_in}
+use Rattle.exclusion_rows.specs.Table.{exclusions_of}
 use Rattle.query.specs.Carry.{rows_of}
 use Rattle.asks.specs.Asks.{Asked}
 use Rattle.asks.proofs.Asks.{answers_none, answers_some}
@@ -12,29 +12,19 @@ use Rattle.asks.proofs.ask.put_best.Goals as goal
 pub returns-in_default : goal.returns-in_default
 unfolding line_of
 returns-in_default c p x g =
-    let q : Asked p c.args.request.who.user x c.line_of-l.result c.args.request.who.session c.args.authorized
-    (exclusions_in c.args.xs.now c.args.request.sizes.count) (rows_of c.carried-rows.result) =
+    let q : Asked p c.args.who.user x c.line_of-l.result c.args.who.session c.args.authorized (exclusions_of c.args.tables.now.exclusions)
+    (rows_of c.carried-rows.result) =
     asked_of p _ x _ _ _ _ _ _ _ _ g c.ranges.authorized.fits c.carried-rows.ensures c.line_of-l.ensures in
     answers_none p _ _ _ _ _
-    (chosen_none p _ x _ _ c.line_of-l.ensures _ _ _ _ _ _ (c.best-choice.ensures p _ x q) c.in_default.is)
-
-pub put_in-next-requires : goal.put_in-next-requires
-put_in-next-requires c = c.requires.2
-
-pub put_line-requires : goal.put_line-requires
-put_line-requires c = c.requires.1
-
-pub fill-requires : goal.fill-requires
-fill-requires c =
-    c.requires.3
+    (chosen_none p _ x _ _ c.line_of-l.ensures _ _ _ _ _ _ (c.best.ensures p _ x q) c.in_default.is)
 
 pub returns : goal.returns
 unfolding line_of
 returns c p x g =
-    let q : Asked p c.args.request.who.user x c.line_of-l.result c.args.request.who.session c.args.authorized
-    (exclusions_in c.args.xs.now c.args.request.sizes.count) (rows_of c.carried-rows.result) =
+    let q : Asked p c.args.who.user x c.line_of-l.result c.args.who.session c.args.authorized (exclusions_of c.args.tables.now.exclusions)
+    (rows_of c.carried-rows.result) =
     asked_of p _ x _ _ _ _ _ _ _ _ g c.ranges.authorized.fits c.carried-rows.ensures c.line_of-l.ensures in
-    let o = chosen_some p _ x _ _ c.line_of-l.ensures _ _ _ _ _ _ (c.best-choice.ensures p _ x q) _ c.in-Roles.is in
+    let o = chosen_some p _ x _ _ c.line_of-l.ensures _ _ _ _ _ _ (c.best.ensures p _ x q) _ c.in-Some.is in
     let v = chosen_own p _ x _ _ c.args.authorized _ _ _ _ _ g.own_is o in
-    let k = c.carried_by.ensures (meaning p c.args.request.who.user) (carry_within p _ _ _ _ q.carry v) in
-    answers_some p _ _ _ _ _ _ _ _ _ _ _ o k c.line_of-l.ensures c.put_in-next.ensures c.put_line.ensures c.fill.ensures
+    let k = c.carried_by.ensures (meaning p c.args.who.user) (carry_within p _ _ _ _ q.carry v) in
+    answers_some p _ _ _ _ _ _ _ _ _ _ _ o k c.line_of-l.ensures c.put_in.ensures c.put_line.ensures c.fill.ensures

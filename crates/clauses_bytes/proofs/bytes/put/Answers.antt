@@ -8,4 +8,4 @@ pub returns-then-at-out : goal.returns-then-at-out
 returns-then-at-out c = put_in_lem _ _ _ (search rules) (search rules)
 
 pub returns : goal.returns
-returns c = put_out _ _ _ _ (search rules) c.wrapping_add_usize.ensures.value
+returns c = put_out _ _ _ _ (search rules) (search rules)

@@ -17,6 +17,4 @@ pub returns-then-p-lt4294967296 : goal.returns-then-p-lt4294967296
 returns-then-p-lt4294967296 c = search (rules, set_packed_four)
 
 pub returns : goal.returns
-returns c =
-    set_packed_five c.set_one-2.ensures c.set_four-next.ensures c.low_byte-a.ensures c.low_byte-b.ensures c.low_byte-c.ensures
-    c.low_byte.ensures c.low_byte-2.ensures (search rules)
+returns c = search (rules, set_packed_five)

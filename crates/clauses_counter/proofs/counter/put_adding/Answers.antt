@@ -10,4 +10,4 @@ pub loop-j-preserved : goal.loop-j-preserved
 loop-j-preserved c = search (rules, lines_next, line_put)
 
 pub returns : goal.returns
-returns c = unfold adding in lines-done _ _ _ _ (search rules) (search rules) c.loop-j.invariant.2
+returns c = unfold adding in lines-done _ _ _ _ (search rules) (search rules) c.loop-j.invariant.1

@@ -1,7 +1,7 @@
 -- `clauses_counter::counter::put_adding` meets its contract: what is put is the list up to the next number.
 -- Assumes nothing.
 use mathlib.Core.Path.{◌≡◌}
-use Prim.Native.Nat.{◌+◌, ◌-◌, ◌≤◌}
+use Prim.Native.Nat.{◌+◌}
 use lib.ListN.{length}
 use Rattle.model.specs.Clauses.{list_to, give}
 use mathlib.Core.List.{[], ◌∷◌}
@@ -11,8 +11,5 @@ use Rattle.clauses_counter.proofs.counter.put_adding.Given as goal
 
 abbrev pub invariant-loop-j : goal.invariant-loop-j
 invariant-loop-j l =
-    (l.j ≤ l.n - 1) × (length l.out ≡ length l.initial.out)
+    (length l.out ≡ length l.initial.out)
     × Puts l.initial.out l.at (lines_of l.w (list_to l.j (λ k. give l.x (l.a + k + 1) (l.a + l.n + k + 2) ∷ []))) l.out l.next
-
-abbrev pub decreases-loop-j : goal.decreases-loop-j
-decreases-loop-j l = l.n - 1 - l.j

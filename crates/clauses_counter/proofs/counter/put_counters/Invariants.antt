@@ -5,15 +5,13 @@ use mathlib.Core.Path.{◌≡◌}
 use Prim.Native.Nat.{◌+◌, ◌-◌, ◌*◌, ◌≤◌}
 use lib.ListN.{length}
 use Rattle.clauses_lines.specs.Lines.{lines_of}
+use Rattle.query_reduced.specs.Met.{masks_of, ns_of}
 use Rattle.clauses_counter.specs.Counters.{counters}
 use Rattle.clauses_bytes.proofs.WritingLaws.{Along}
 use Rattle.clauses_counter.proofs.counter.put_counters.Given as goal
 
-abbrev pub invariant-loop-i : goal.invariant-loop-i
-invariant-loop-i l =
-    (l.i ≤ l.count) × (l.behind ≤ l.a + 274877906880 * l.i) × (length l.out ≡ length l.initial.out)
-    × Along l.initial.out l.at (lines_of l.w (counters l.masks l.ns l.count 0 l.a))
-    (lines_of l.w (counters l.masks l.ns (l.count - l.i) l.i l.behind)) l.out l.next
-
-abbrev pub decreases-loop-i : goal.decreases-loop-i
-decreases-loop-i l = l.count - l.i
+abbrev pub invariant-loop-x : goal.invariant-loop-x
+invariant-loop-x l =
+    (l.behind ≤ l.a + 274877906880 * l.x-index) × (length l.out ≡ length l.initial.out)
+    × Along l.initial.out l.at (lines_of l.w (counters (masks_of l.exclusions) (ns_of l.exclusions) (length l.exclusions) 0 l.a))
+    (lines_of l.w (counters (masks_of l.exclusions) (ns_of l.exclusions) (length l.exclusions - l.x-index) l.x-index l.behind)) l.out l.next

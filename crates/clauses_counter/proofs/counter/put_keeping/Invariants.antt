@@ -1,7 +1,7 @@
 -- `clauses_counter::counter::put_keeping` meets its contract: what is put is the list up to the next number.
 -- Assumes nothing.
 use mathlib.Core.Path.{◌≡◌}
-use Prim.Native.Nat.{◌+◌, ◌-◌, ◌≤◌}
+use Prim.Native.Nat.{◌+◌}
 use lib.ListN.{length}
 use Rattle.model.specs.Clauses.{list_to, gives}
 use mathlib.Core.List.{[], ◌∷◌}
@@ -11,8 +11,5 @@ use Rattle.clauses_counter.proofs.counter.put_keeping.Given as goal
 
 abbrev pub invariant-loop-j : goal.invariant-loop-j
 invariant-loop-j l =
-    (l.j ≤ l.n) × (length l.out ≡ length l.initial.out)
+    (length l.out ≡ length l.initial.out)
     × Puts l.initial.out l.at (lines_of l.w (list_to l.j (λ k. gives (l.a + k + 1) (l.a + l.n + k + 1) ∷ []))) l.out l.next
-
-abbrev pub decreases-loop-j : goal.decreases-loop-j
-decreases-loop-j l = l.n - l.j

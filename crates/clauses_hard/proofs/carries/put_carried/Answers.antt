@@ -10,7 +10,7 @@ loop-q-init c = search (rules, lines_none)
 pub loop-q-preserved : goal.loop-q-preserved
 loop-q-preserved c =
     let line = column_put _ _ _ _ _ c.put_carried_one-next.ensures c.carriers_of-table.ensures (search rules) in
-    (search rules, search rules, lines_next _ _ _ c.loop-q.invariant.2 line)
+    (search rules, lines_next _ _ _ c.loop-q.invariant.1 line)
 
 pub returns : goal.returns
 returns c = unfold carried_to in search (rules, lines-done)

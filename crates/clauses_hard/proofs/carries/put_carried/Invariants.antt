@@ -1,7 +1,6 @@
 -- `clauses_hard::carries::put_carried` meets its contract: what is put is the list up to the next number.
 -- Assumes nothing.
 use mathlib.Core.Path.{◌≡◌}
-use Prim.Native.Nat.{◌-◌, ◌≤◌}
 use lib.ListN.{length}
 use Rattle.model.specs.Clauses.{list_to}
 use mathlib.Core.List.{[], ◌∷◌}
@@ -12,8 +11,5 @@ use Rattle.clauses_hard.proofs.carries.put_carried.Given as goal
 
 abbrev pub invariant-loop-q : goal.invariant-loop-q
 invariant-loop-q l =
-    (l.q ≤ l.permissions) × (length l.out ≡ length l.initial.out)
+    (length l.out ≡ length l.initial.out)
     × Puts l.initial.out l.at (lines_of l.w (list_to l.q (λ k. carried_one l.roles (rows_of l.rows) k ∷ []))) l.out l.next
-
-abbrev pub decreases-loop-q : goal.decreases-loop-q
-decreases-loop-q l = l.permissions - l.q

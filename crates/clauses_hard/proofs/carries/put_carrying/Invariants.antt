@@ -1,7 +1,6 @@
 -- `clauses_hard::carries::put_carrying` meets its contract: what is put is the list up to the next number.
 -- Assumes nothing.
 use mathlib.Core.Path.{◌≡◌}
-use Prim.Native.Nat.{◌-◌, ◌≤◌}
 use lib.ListN.{length}
 use Rattle.model.specs.Clauses.{list_to, role_variable}
 use Rattle.clauses_bytes.specs.Putting.{Puts}
@@ -11,8 +10,5 @@ use Rattle.clauses_hard.proofs.carries.put_carrying.Given as goal
 
 abbrev pub invariant-loop-r : goal.invariant-loop-r
 invariant-loop-r l =
-    (l.r ≤ l.roles) × (length l.out ≡ length l.initial.out)
+    (length l.out ≡ length l.initial.out)
     × Puts l.initial.out l.at (lines_of l.w (list_to l.r (λ k. carrying_row l.roles l.permissions (rows_of l.rows k) (role_variable k)))) l.out l.next
-
-abbrev pub decreases-loop-r : goal.decreases-loop-r
-decreases-loop-r l = l.roles - l.r

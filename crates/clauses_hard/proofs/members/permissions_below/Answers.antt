@@ -1,7 +1,7 @@
 use borrow.Author.Rules.{rules}
 use mathlib.Core.Path.{◌≡◌}
 use native.Mathlib.Omega.{arith}
-use Rattle.clauses_hard.proofs.MemberLaws.{count_more, smaller_some}
+use Rattle.clauses_hard.proofs.MemberLaws.{count_more}
 use Rattle.clauses_hard.proofs.SizeLaws.{count-start}
 use Rattle.clauses_hard.proofs.members.permissions_below.Goals as goal
 
@@ -9,13 +9,12 @@ pub loop-from-init : goal.loop-from-init
 loop-from-init c = search (rules, count-start)
 
 pub loop-from-smaller : goal.loop-from-smaller
-loop-from-smaller c =
-    omega (arith, smaller_some _ _ _ (search rules) (search rules) c.smaller-more.ensures)
+loop-from-smaller c = omega arith
 
 pub loop-from-preserved : goal.loop-from-preserved
 loop-from-preserved c = (
   search rules,
-  count_more _ _ _ _ _ _ c.rest.ensures c.smaller-more.ensures.first c.loop-from.invariant.1 c.members_below-total.ensures.0,
+  count_more _ _ _ _ _ _ c.rest.ensures (omega arith) c.loop-from.invariant.1 c.members_below-total.ensures.0,
   search rules,
 )
 

@@ -1,15 +1,12 @@
 -- `clauses_hard::sizes::carrying_size` meets its contract.
 -- Assumes nothing.
 use mathlib.Core.Path.{◌≡◌}
-use Prim.Native.Nat.{◌-◌, ◌*◌, ◌≤◌}
+use Prim.Native.Nat.{◌*◌, ◌≤◌}
 use Rattle.model.specs.Sets.{count}
 use Rattle.clauses_hard.specs.Parts.{rows_of}
 use Rattle.clauses_hard.specs.Sizes.{sum_to}
 use Rattle.clauses_hard.proofs.sizes.carrying_size.Given as goal
 
-abbrev pub invariant-loop-r : goal.invariant-loop-r
-invariant-loop-r l =
-    (l.r ≤ l.roles) × (l.total ≡ sum_to (λ k. count l.permissions (rows_of l.rows k)) l.r) × (l.total ≤ 256 * l.r)
-
-abbrev pub decreases-loop-r : goal.decreases-loop-r
-decreases-loop-r l = l.roles - l.r
+abbrev pub invariant-loop-row : goal.invariant-loop-row
+invariant-loop-row l =
+    (l.total ≡ sum_to (λ k. count l.permissions (rows_of l.rows k)) l.row-index) × (l.total ≤ 256 * l.row-index)

@@ -1,14 +1,17 @@
 use borrow.Author.Rules.{rules}
 use Rattle.clauses_hard.specs.Sizes.{counters_size}
-use Rattle.clauses_hard.proofs.SizeLaws.{sum-start, sum-next, sum_done}
+use native.Mathlib.Omega.{arith}
+use Rattle.clauses_hard.proofs.SizeLaws.{sum-start, sum_done, exclusion_counter}
 use Rattle.clauses_hard.proofs.sizes.counters_size.Goals as goal
 
-pub loop-i-init : goal.loop-i-init
-loop-i-init c = search (rules, sum-start)
+pub loop-x-init : goal.loop-x-init
+loop-x-init c = search (rules, sum-start)
 
-pub loop-i-preserved : goal.loop-i-preserved
-loop-i-preserved c =
-    (search rules, sum-next _ _ _ _ c.loop-i.invariant.1 (rw c.wide.ensures.0 at c.counter_size-total.ensures.0), search rules)
+pub loop-x-preserved : goal.loop-x-preserved
+loop-x-preserved c = (
+  exclusion_counter _ _ _ _ _ _ (search rules) c.loop-x.invariant.0 c.wide.ensures.0 c.counter_size-total.ensures.0,
+  omega (arith, c.counter_size-total.ensures.1, c.loop-x.invariant.1),
+)
 
 pub returns : goal.returns
 returns c = unfold counters_size in search (rules, sum_done)

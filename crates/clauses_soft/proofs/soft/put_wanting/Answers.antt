@@ -4,11 +4,11 @@ use borrow.Author.Rules.{rules}
 use Rattle.clauses_soft.proofs.WantLaws.{want_nothing, want_false, want_true}
 use Rattle.clauses_soft.proofs.soft.put_wanting.Goals as goal
 
-pub returns-then-aim-lt1 : goal.returns-then-aim-lt1
-returns-then-aim-lt1 c = search (rules, want_nothing)
+pub returns-in-Any : goal.returns-in-Any
+returns-in-Any c = rw c.in-Any.is (want_nothing _ _ _ _)
 
-pub returns-then-aim-lt2 : goal.returns-then-aim-lt2
-returns-then-aim-lt2 c = search (rules, want_false)
+pub returns-in-Fewest : goal.returns-in-Fewest
+returns-in-Fewest c = rw c.in-Fewest.is (search (rules, want_false))
 
-pub returns : goal.returns
-returns c = search (rules, want_true)
+pub returns-in-Most : goal.returns-in-Most
+returns-in-Most c = rw c.in-Most.is (search (rules, want_true))

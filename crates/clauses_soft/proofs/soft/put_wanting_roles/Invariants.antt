@@ -1,16 +1,14 @@
 -- `clauses_soft::soft::put_wanting_roles` meets its contract: what is put is the list up to the next number.
 -- Assumes nothing.
 use mathlib.Core.Path.{◌≡◌}
-use Prim.Native.Nat.{◌+◌, ◌-◌, ◌≤◌}
+use Prim.Native.Nat.{◌+◌}
 use lib.ListN.{length}
 use Rattle.model.specs.Clauses.{list_to, wanting}
 use Rattle.model.specs.Dimacs.{clauses_text}
+use Rattle.query_rank.specs.Objectives.{number_of}
 use Rattle.clauses_bytes.specs.Putting.{Puts}
 use Rattle.clauses_soft.proofs.soft.put_wanting_roles.Given as goal
 
 abbrev pub invariant-loop-r : goal.invariant-loop-r
 invariant-loop-r l =
-    (l.r ≤ l.roles) × (length l.out ≡ length l.initial.out) × Puts l.initial.out l.at (clauses_text (list_to l.r (λ k. wanting l.aim 1 (k + 1)))) l.out l.next
-
-abbrev pub decreases-loop-r : goal.decreases-loop-r
-decreases-loop-r l = l.roles - l.r
+    (length l.out ≡ length l.initial.out) × Puts l.initial.out l.at (clauses_text (list_to l.r (λ k. wanting (number_of l.aim) 1 (k + 1)))) l.out l.next

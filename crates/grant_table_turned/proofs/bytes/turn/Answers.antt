@@ -1,10 +1,15 @@
--- `grant_table_turned::bytes::turn` meets its contract: four columns, each turned and put behind the one before.
--- Assumes nothing.
-use Rattle.grant_table_turned.proofs.Words.{turn-all}
+use Rattle.std.proofs.Common.{arith}
+use Rattle.model_laws.proofs.RoundTrip.{are_bytes_lem}
+use Rattle.grant_table_turned.proofs.Words.{turn-start, turn-next, turn_last}
 use Rattle.grant_table_turned.proofs.bytes.turn.Goals as goal
 
+pub loop-w-init : goal.loop-w-init
+loop-w-init c = turn-start c.args.source.now c.args.target.now
+
+pub loop-w-preserved : goal.loop-w-preserved
+loop-w-preserved c =
+    turn-next c.args.source.now c.args.target.now (are_bytes_lem c.args.source.now (λ i h. omega (arith, c.type_inv.source i))) c.loop-w.w
+    (omega arith) _ _ _ c.numbers-words.ensures c.loop-w.invariant c.put_column.ensures
+
 pub returns : goal.returns
-returns c =
-    turn-all _ _ _ _ _ _ _ _ _ _ c.put_column-4.ensures c.put_column-3.ensures c.put_column-2.ensures
-    c.put_column.ensures c.columns.ensures.0 c.columns.ensures.1 c.columns.ensures.2 c.columns.ensures.3 c.columns.ensures.4
-    c.requires.1
+returns c = turn_last c.args.source.now c.args.target.now c.requires.1 c.loop-w.w (omega arith) (omega arith) _ c.loop-w.invariant

@@ -1,17 +1,16 @@
 -- `grant_table_turned::bytes::unturn_bytes` meets its contract.
 -- Assumes nothing.
-use borrow.Author.Rules.{rules}
+use Rattle.std.proofs.lemmas.Result.{err_from_is_err_and}
 use Rattle.grant_table_turned.proofs.CallProof.{source_size, target_size, unturn_19, unturn_done}
-use Rattle.std.proofs.lemmas.Bool.{not_from_true}
-use Rattle.std.proofs.lemmas.Bool.{not_from_false}
 use Rattle.grant_table_turned.proofs.bytes.unturn_bytes.Goals as goal
 
-pub returns-then-not-sized : goal.returns-then-not-sized
-returns-then-not-sized c = unturn_19 _ _ c.sized.ensures (not_from_false _ c.if-not-sized.true)
+pub returns-in_err-sized : goal.returns-in_err-sized
+returns-in_err-sized c =
+    let e = err_from_is_err_and c.from_residual.result c.from_residual.ensures.1 in
+    rw (e.1, e.2, c.in_err-sized.ensures.1) (unturn_19 _ _ c.in_err-sized.ensures.0)
 
 pub unturn-requires : goal.unturn-requires
-unturn-requires c = search (rules, source_size, target_size)
+unturn-requires c = (source_size _ _ c.in_ok-sized.ensures, target_size _ _ c.in_ok-sized.ensures)
 
 pub returns : goal.returns
-returns c =
-    unturn_done _ _ c.sized.ensures (not_from_true _ c.if-not-sized.false) _ c.unturn.ensures
+returns c = unturn_done _ _ c.in_ok-sized.ensures _ c.unturn.ensures

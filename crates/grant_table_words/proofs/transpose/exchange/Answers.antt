@@ -1,5 +1,4 @@
-use native.Mathlib.Omega.{arith}
-use borrow.Author.Rules.{rules}
+use Rattle.std.proofs.Common.{◌≡◌, ◌+◌, ◌*◌, rules, arith}
 use Rattle.grant_table_words.proofs.Blocks.{marked_first, marked_next, block_fits, rows-go}
 use Rattle.grant_table_words.proofs.transpose.exchange.Goals as goal
 
@@ -7,16 +6,17 @@ pub loop-from-init : goal.loop-from-init
 loop-from-init c = (search rules, search rules, marked_first _ _ (search rules), λ i h. absurd (omega arith))
 
 pub block-requires : goal.block-requires
-block-requires c =
-    (search rules, search (rules, block_fits), search rules, c.loop-from.invariant.2, search rules)
+block-requires c = (search rules, search (rules, block_fits), search rules, c.loop-from.invariant.2)
 
 pub loop-from-preserved : goal.loop-from-preserved
-loop-from-preserved c = (
-  search (rules, block_fits),
-  c.block.ensures.size,
-  marked_next _ _ (search rules) _ c.loop-from.invariant.2,
-  rows-go _ _ _ _ _ _ c.loop-from.invariant.3 c.block.ensures,
-)
+loop-from-preserved c =
+    let twice : c.loop-from.from + 2 * c.args.j ≡ c.loop-from.from + c.args.j + c.args.j = omega arith in
+    rw twice (
+      search (rules, block_fits),
+      c.block.ensures.size,
+      marked_next _ _ (search rules) _ c.loop-from.invariant.2,
+      rows-go _ _ _ _ _ _ c.loop-from.invariant.3 c.block.ensures,
+    )
 
 pub returns : goal.returns
 returns c = (λ k h. c.loop-from.invariant.3 k (omega arith), c.loop-from.invariant.1)

@@ -1,9 +1,7 @@
 -- `grant_table_words::transpose::exchange` meets its contract. The loop's invariant: the rows before the next block are
 -- exchanged, and its places are marked.
 -- Assumes nothing.
-use mathlib.Core.Path.{◌≡◌}
-use Prim.Native.Nat.{ℕ, ◌≤◌, ◌<◌, ◌-◌}
-use lib.ListN.{length, get_or}
+use Rattle.std.proofs.Common.{◌≡◌, ℕ, ◌≤◌, ◌<◌, ◌-◌, length, get_or}
 use Rattle.grant_table_words.specs.Stages.{exchanged, MarkedFrom}
 use Rattle.grant_table_words.proofs.transpose.exchange.Given as goal
 

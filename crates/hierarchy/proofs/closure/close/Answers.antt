@@ -5,4 +5,4 @@ use Rattle.hierarchy.proofs.Closing.{empty_behind}
 use Rattle.hierarchy.proofs.closure.close.Goals as goal
 
 pub close_first-requires : goal.close_first-requires
-close_first-requires c = (c.requires.0, omega arith, c.requires.1, empty_behind 64 c.args.rows.now c.requires.1)
+close_first-requires c = (c.requires, omega arith, empty_behind 64 c.args.rows.now c.told-rows)

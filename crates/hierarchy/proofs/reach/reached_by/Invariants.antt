@@ -2,13 +2,9 @@
 -- members to come are not.
 -- Assumes nothing.
 use lib.ListN.{get_or}
-use Rattle.model.specs.Sets.{count}
 use Rattle.model.specs.Policy.{with_selves}
 use Rattle.sets.proofs.Unions.{Joins}
 use Rattle.hierarchy.proofs.reach.reached_by.Given as goal
 
-abbrev pub invariant-loop-left : goal.invariant-loop-left
-invariant-loop-left l = Joins (λ r. get_or (with_selves l.below) r 0) l.set l.left l.all
-
-abbrev pub decreases-loop-left : goal.decreases-loop-left
-decreases-loop-left l = count 64 l.left
+abbrev pub invariant-loop-k : goal.invariant-loop-k
+invariant-loop-k l = Joins (λ r. get_or (with_selves l.below) r 0) l.set l.k-iterator.left l.all

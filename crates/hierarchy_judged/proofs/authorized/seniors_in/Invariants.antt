@@ -2,13 +2,9 @@
 -- the roles so far.
 -- Assumes nothing.
 use mathlib.Core.Path.{◌≡◌}
-use Prim.Native.Nat.{◌≤◌, ◌-◌}
 use Rattle.model.specs.Sets.{set_of}
 use Rattle.hierarchy_judged.specs.Reach.{stands_over}
 use Rattle.hierarchy_judged.proofs.authorized.seniors_in.Given as goal
 
 abbrev pub invariant-loop-r : goal.invariant-loop-r
-invariant-loop-r l = (l.r ≤ l.roles) × (l.found ≡ set_of (stands_over l.below) l.r)
-
-abbrev pub decreases-loop-r : goal.decreases-loop-r
-decreases-loop-r l = l.roles - l.r
+invariant-loop-r l = l.found ≡ set_of (stands_over l.below) l.r

@@ -1,37 +1,42 @@
 -- `hierarchy_judged::loops::judged` meets its contract.
 -- Assumes nothing.
+use mathlib.Core.Path.{◌≡◌, refl, sym}
+use Rattle.std.proofs.Common.{Err}
+use borrow.Author.Rules.{rules}
+use native.Mathlib.Omega.{arith}
+use Rattle.model_laws.proofs.LowestLaws.{is_below}
 use Rattle.hierarchy_judged.proofs.Judging.{judged-refused, judged-loop, judged_reach, judged_ordered}
 use Rattle.hierarchy_judged.proofs.loops.judged.Goals as goal
 
-pub returns-in_default : goal.returns-in_default
-returns-in_default c = λ p q. judged-refused p _ _ _ _ _ c.in_default.is
+pub returns-in_err-head : goal.returns-in_err-head
+returns-in_err-head c = λ p q.
+    let e : c.from_residual.result ≡ Err c.in_err-head.field-0.0 = search rules in
+    judged-refused p _ _ _ _ _ c.in_err-head.was e
 
 pub close-requires : goal.close-requires
-close-requires c =
-    let f = c.requires _ c.in-Accepted.is in
-    (f.roles, f.juniors_size)
+close-requires c = (c.requires _ c.in_ok-head.was).roles
 
-pub lowest_on_loop-r-requires : goal.lowest_on_loop-r-requires
-lowest_on_loop-r-requires c =
-    (c.requires _ c.in-Accepted.is).roles
+pub lowest_on_loop-requires : goal.lowest_on_loop-requires
+lowest_on_loop-requires c = (c.requires _ c.in_ok-head.was).roles
 
-pub returns-then-r-roles : goal.returns-then-r-roles
-returns-then-r-roles c =
-    λ p q. judged-loop p _ _ _ _ (q _ c.in-Accepted.is) c.close.ensures _ c.in-Accepted.is _ c.lowest_on_loop-r.ensures _ c.if-r-roles.true
+pub returns-in-Some : goal.returns-in-Some
+returns-in-Some c =
+    λ p q. judged-loop p _ _ _ _ (q _ c.in_ok-head.was) c.close.ensures _ c.in_ok-head.was _ _ c.in-Some.ensures
 
-pub authorize-u-requires : goal.authorize-u-requires
-authorize-u-requires c =
-    let f = c.requires _ c.in-Accepted.is in
-    (f.roles, f.users, f.assigned_size, f.few)
+pub authorize-requires : goal.authorize-requires
+authorize-requires c =
+    let f = c.requires _ c.in_ok-head.was in
+    (f.roles, f.users, f.few)
 
-pub returns-then-u-users : goal.returns-then-u-users
-returns-then-u-users c =
-    λ p q.
-    judged_reach p _ _ _ _ (q _ c.in-Accepted.is) c.close.ensures _ c.in-Accepted.is _ c.lowest_on_loop-r.ensures c.if-r-roles.false _ _
-    c.authorize-u.ensures c.if-u-users.true
+pub overflow_cast-result-in-Some-authorize : goal.overflow_cast-result-in-Some-authorize
+overflow_cast-result-in-Some-authorize c =
+    let b = is_below _ _ _ (sym c.in-Some-authorize.ensures.lowest_is) in
+    omega (arith, b.0, b.1, (c.requires _ c.in_ok-head.was).users)
+
+pub returns-in-Some-authorize : goal.returns-in-Some-authorize
+returns-in-Some-authorize c =
+    λ p q. judged_reach p _ _ _ _ (q _ c.in_ok-head.was) c.close.ensures _ c.in_ok-head.was c.in_default.ensures _ _ c.in-Some-authorize.ensures _ refl
 
 pub returns : goal.returns
 returns c =
-    λ p q.
-    judged_ordered p _ _ _ _ (q _ c.in-Accepted.is) c.close.ensures _ c.in-Accepted.is _ c.lowest_on_loop-r.ensures c.if-r-roles.false _ _
-    c.authorize-u.ensures c.if-u-users.false
+    λ p q. judged_ordered p _ _ _ _ (q _ c.in_ok-head.was) c.close.ensures _ c.in_ok-head.was c.in_default.ensures _ _ c.in_default-authorize.ensures refl

@@ -5,11 +5,11 @@ use Rattle.hierarchy_judged.proofs.Judging.{judged-refused, judged_flat}
 use Rattle.hierarchy_judged.proofs.loops.settled.Goals as goal
 
 pub returns-in_default : goal.returns-in_default
-returns-in_default c = λ e p a f q. judged-refused p _ _ _ _ _ c.in_default.is
+returns-in_default c = λ e p a f q. judged-refused p _ _ _ _ _ c.in_default.is c.in_default.is
 
 pub some_over-requires : goal.some_over-requires
-some_over-requires c = c.requires _ c.in-Accepted.is
+some_over-requires c = c.requires _ c.in-Ok.is
 
 pub returns : goal.returns
 returns c =
-    λ e p a f q. judged_flat p _ _ _ (q _ c.in-Accepted.is) (f _ c.in-Accepted.is) (c.some_over.ensures (not-true _ e)) _ c.in-Accepted.is
+    λ e p a f q. judged_flat p _ _ _ (q _ c.in-Ok.is) (f _ c.in-Ok.is) (c.some_over.ensures (not-true _ e)) _ c.in-Ok.is

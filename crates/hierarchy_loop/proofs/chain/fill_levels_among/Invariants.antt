@@ -2,7 +2,7 @@
 -- role is in none of them but the first.
 -- Assumes nothing.
 use mathlib.Core.Path.{◌≡◌}
-use Prim.Native.Nat.{◌+◌, ◌≤◌, ◌-◌}
+use Prim.Native.Nat.{◌+◌, ◌-◌}
 use lib.ListN.{length}
 use Rattle.model.specs.Tests.{lowest}
 use Rattle.model.specs.Sets.{has}
@@ -12,8 +12,9 @@ use Rattle.hierarchy_loop.proofs.chain.fill_levels_among.Given as goal
 
 abbrev pub invariant-loop-k : goal.invariant-loop-k
 invariant-loop-k l =
-    (l.k ≤ 64) × (length l.levels ≡ 64) × (l.here ≡ level l.juniors l.r.0 l.k) × Levels l.juniors l.r.0 l.k l.levels
-    × (lowest (λ n. has (level l.juniors l.r.0 n) l.r.0) (l.k + 1) (65 - (l.k + 1)) ≡ lowest (λ n. has (level l.juniors l.r.0 n) l.r.0) 1 64)
-
-abbrev pub decreases-loop-k : goal.decreases-loop-k
-decreases-loop-k l = 64 - l.k
+    record {
+      size : length l.levels ≡ 64;
+      here : l.here ≡ level l.juniors l.r.0 l.k;
+      stored : Levels l.juniors l.r.0 l.k l.levels;
+      above : lowest (λ n. has (level l.juniors l.r.0 n) l.r.0) (l.k + 1) (65 - (l.k + 1)) ≡ lowest (λ n. has (level l.juniors l.r.0 n) l.r.0) 1 64;
+    }

@@ -6,13 +6,14 @@ use Rattle.hierarchy.proofs.Joining.{set_of_none, set_of-next, set_of-all, set_o
 use Rattle.hierarchy_loop.proofs.chain.seniors_among.Goals as goal
 
 pub loop-a-init : goal.loop-a-init
-loop-a-init c = (omega arith, set_of_none _)
+loop-a-init c = set_of_none _
 
 pub loop-a-preserved : goal.loop-a-preserved
 unfolding meets
-loop-a-preserved c = (omega arith, set_of-next _ _ _ _ c.loop-a.invariant.1 c.joined-found.ensures)
+loop-a-preserved c = set_of-next _ _ _ _ c.loop-a.invariant c.joined-found.ensures
 
 pub returns : goal.returns
 unfolding seniors_of meets
 returns c =
-    set_of-all _ _ _ _ c.loop-a.invariant.0 c.loop-a-test.false c.loop-a.invariant.1 ∙ sym (set_of_rest _ _ 64 c.requires.0 (λ b h. rw (c.requires.1 b h)))
+    set_of-all _ _ _ _ (omega (arith, c.loop-a.auto.a-end)) c.loop-a-test.false c.loop-a.invariant
+    ∙ sym (set_of_rest _ _ 64 c.requires.0 (λ b h. rw (c.requires.1 b h)))

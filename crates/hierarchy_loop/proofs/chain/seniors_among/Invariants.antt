@@ -2,13 +2,9 @@
 -- roles so far.
 -- Assumes nothing.
 use mathlib.Core.Path.{◌≡◌}
-use Prim.Native.Nat.{◌≤◌, ◌-◌}
 use lib.ListN.{get_or}
 use Rattle.model.specs.Sets.{meets, set_of}
 use Rattle.hierarchy_loop.proofs.chain.seniors_among.Given as goal
 
 abbrev pub invariant-loop-a : goal.invariant-loop-a
-invariant-loop-a l = (l.a ≤ l.roles) × (l.found ≡ set_of (λ b. meets (get_or l.juniors b 0) l.set) l.a)
-
-abbrev pub decreases-loop-a : goal.decreases-loop-a
-decreases-loop-a l = l.roles - l.a
+invariant-loop-a l = l.found ≡ set_of (λ b. meets (get_or l.juniors b 0) l.set) l.a

@@ -1,22 +1,27 @@
 -- `image::check::check` meets its contract.
 -- Assumes nothing.
-use Rattle.std.proofs.Common.{◌∙◌, arith}
+use Rattle.std.proofs.Common.{refl, ◌∙◌, arith}
+use Rattle.std.proofs.lemmas.Result.{err_from_is_err_and}
 use Rattle.model_laws.proofs.Accepted.{not_accepted}
+use Rattle.reasons.proofs.Small.{number_of-numbered}
 use Rattle.image.proofs.Turns.{assigned_of, juniors_of_lem}
 use Rattle.image.proofs.check.check.Goals as goal
 
-pub returns-then-number-ne0 : goal.returns-then-number-ne0
-returns-then-number-ne0 c = (c.front_fault-number.ensures.refused c.if-number-ne0.true, λ g e. not_accepted _ _ g e)
-
-pub word_at-w-requires : goal.word_at-w-requires
-word_at-w-requires c = omega (arith, c.front_fault-number.ensures.whole, c.front_fault-number.ensures.least c.if-number-ne0.false)
+pub returns-in_err-words : goal.returns-in_err-words
+returns-in_err-words c =
+    let p = err_from_is_err_and c.from_residual.result c.from_residual.ensures.1 in
+    let k = c.in_err-words.ensures in
+    rw (p.1, p.2) (k.front.refused (λ z. absurd (omega (arith, (number_of-numbered c.in_err-words.field-0.0).some, z))), λ g e. not_accepted _ _ g e)
 
 pub check_words-requires : goal.check_words-requires
 check_words-requires c =
-    (c.front_fault-number.ensures.whole, c.front_fault-number.ensures.least c.if-number-ne0.false, c.front_fault-number.ensures.most c.if-number-ne0.false)
+    let k = c.in_ok-words.ensures in rw k.words.1 (k.front.least refl)
 
 pub returns : goal.returns
-returns c = (
-  simp (c.head_of.ensures, c.word_at-w.ensures, c.requires.0) at c.check_words.ensures.0 ∙ c.front_fault-number.ensures.scanned c.if-number-ne0.false,
-  λ g e. let k = c.check_words.ensures.1 g e in (k.0 ∙ assigned_of c.args.image.now _ c.requires.0, k.1 ∙ juniors_of_lem c.args.image.now _ c.requires.1),
-)
+returns c =
+    let k = c.in_ok-words.ensures in
+    let e = simp (k.words.0, k.words.1, c.head_of.ensures, c.word-w.ensures, c.requires.0) at c.check_words.ensures.0 in (
+      e ∙ k.front.scanned refl,
+      λ g z. let f = rw (k.words.0, k.words.1) at (c.check_words.ensures.1 g z) in
+          (f.0 ∙ assigned_of c.args.image.now _ c.requires.0, f.1 ∙ juniors_of_lem c.args.image.now _ c.requires.1),
+    )

@@ -1,87 +1,47 @@
 -- `image::check::next` meets its contract.
 -- Assumes nothing.
-use Rattle.std.proofs.Common.{arith, rules}
+use Rattle.std.proofs.Common.{◌≡◌, ℕ, refl, arith}
+use Rattle.model.specs.declared.Role.{Role}
+use Rattle.model.specs.declared.Exclusion.{Exclusion}
+use Rattle.model.specs.declared.Scan.{Scan}
+use Rattle.model.specs.declared.Entry.{Entry}
+use Rattle.model.specs.declared.Entry.TheVariants.{Assignment, Grant, Senior, Exclude, Member, Limit, End, Unknown}
 use Rattle.model.specs.Image.{next}
 use Rattle.image_words.specs.Bounds.{Small}
 use Rattle.image.specs.Taken.{Due}
 use Rattle.image.proofs.check.next.Goals as goal
 
-pub enum_known-e : goal.enum_known-e
-unfolding next Small Due
-enum_known-e c = search rules
-
 pub overflow_add-result : goal.overflow_add-result
-unfolding next Small Due
+unfolding Due
 overflow_add-result c = let s = rw c.in-Exclude.is at c.requires.1 in omega arith
 
-pub overflow_cast-result : goal.overflow_cast-result
-unfolding next Small Due
-overflow_cast-result c = search rules
-
-pub enum_known-e-in-Member-1 : goal.enum_known-e-in-Member-1
-unfolding next Small Due
-enum_known-e-in-Member-1 c = search rules
-
 pub overflow_sub-result : goal.overflow_sub-result
-unfolding next Small Due
+unfolding Due
 overflow_sub-result c = let s = rw c.in-Member.is at c.requires.1 in omega arith
 
 pub with-requires : goal.with-requires
-unfolding next Small Due
+unfolding Small
 with-requires c = rw c.in-Member.is at c.requires.0
 
-pub enum_told-1 : goal.enum_told-1
-unfolding next Small Due
-enum_told-1 c = search rules
-
-pub enum_told-in-Grant : goal.enum_told-in-Grant
-unfolding next Small Due
-enum_told-in-Grant c = search rules
-
-pub enum_told-in-Senior : goal.enum_told-in-Senior
-unfolding next Small Due
-enum_told-in-Senior c = search rules
-
-pub enum_told-in-Limit : goal.enum_told-in-Limit
-unfolding next Small Due
-enum_told-in-Limit c = search rules
-
-pub enum_told-in-End : goal.enum_told-in-End
-unfolding next Small Due
-enum_told-in-End c = search rules
-
-pub enum_told-in-Unknown : goal.enum_told-in-Unknown
-unfolding next Small Due
-enum_told-in-Unknown c = search rules
-
 pub returns-in-Exclude : goal.returns-in-Exclude
-unfolding next Small Due
+unfolding next
 returns-in-Exclude c = rw c.in-Exclude.is
 
 pub returns-in-Member : goal.returns-in-Member
-unfolding next Small Due
+unfolding next
 returns-in-Member c = rw (c.in-Member.is, c.with.ensures)
 
-pub returns-in-Assignment : goal.returns-in-Assignment
-unfolding next Small Due
-returns-in-Assignment c = search rules
+-- a word of one of the other kinds
+other : (t : Scan) (e : Entry) → ((x : Exclusion) (m : ℕ) → e ≡ Exclude x m → ⊥) → ((r : Role) → e ≡ Member r → ⊥) → t ≡ next t e
+unfolding next
+other t (Assignment u r) k m = refl
+other t (Grant r p) k m = refl
+other t (Senior a b) k m = refl
+other t (Exclude x n) k m = absurd (k x n refl)
+other t (Member r) k m = absurd (m r refl)
+other t (Limit r n) k m = refl
+other t End k m = refl
+other t Unknown k m = refl
 
-pub returns-in-Grant : goal.returns-in-Grant
-unfolding next Small Due
-returns-in-Grant c = search rules
-
-pub returns-in-Senior : goal.returns-in-Senior
-unfolding next Small Due
-returns-in-Senior c = search rules
-
-pub returns-in-Limit : goal.returns-in-Limit
-unfolding next Small Due
-returns-in-Limit c = search rules
-
-pub returns-in-End : goal.returns-in-End
-unfolding next Small Due
-returns-in-End c = search rules
-
-pub returns-in-Unknown : goal.returns-in-Unknown
-unfolding next Small Due
-returns-in-Unknown c = search rules
+pub returns-in_default : goal.returns-in_default
+returns-in_default c = other _ _ c.in_default.not-Exclude c.in_default.not-Member

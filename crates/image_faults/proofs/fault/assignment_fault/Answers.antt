@@ -15,29 +15,9 @@ pub returns-then-h-r : goal.returns-then-h-r
 unfolding entry_fault in_range repeats crowds pick
 returns-then-h-r c = search (rules, lt-ltb, le-ltb)
 
-pub overflow_cast-who : goal.overflow_cast-who
-unfolding entry_fault in_range repeats crowds pick
-overflow_cast-who c = search rules
-
-pub offset_bounds-assigned-who : goal.offset_bounds-assigned-who
-unfolding entry_fault in_range repeats crowds pick
-offset_bounds-assigned-who c = search rules
-
-pub bounds-assigned-who : goal.bounds-assigned-who
-unfolding entry_fault in_range repeats crowds pick
-bounds-assigned-who c = search rules
-
-pub has-requires : goal.has-requires
-unfolding entry_fault in_range repeats crowds pick
-has-requires c = search rules
-
 pub returns-then-has : goal.returns-then-has
 unfolding entry_fault in_range repeats crowds pick
 returns-then-has c = search (rules, lt-ltb, sym c.has.ensures ∙ c.if-has.true)
-
-pub size-requires : goal.size-requires
-unfolding entry_fault in_range repeats crowds pick
-size-requires c = search rules
 
 pub returns-then-size-lt16 : goal.returns-then-size-lt16
 unfolding entry_fault in_range repeats crowds pick

@@ -11,10 +11,6 @@ pub returns-then-h-r : goal.returns-then-h-r
 unfolding entry_fault in_range repeats crowds pick
 returns-then-h-r c = search (rules, le-ltb)
 
-pub has-requires : goal.has-requires
-unfolding entry_fault in_range repeats crowds pick
-has-requires c = search rules
-
 pub returns-then-has : goal.returns-then-has
 unfolding entry_fault in_range repeats crowds pick
 returns-then-has c = search (rules, lt-ltb, sym c.has.ensures ∙ c.if-has.true)

@@ -1,40 +1,11 @@
 -- `image_faults::fault::wrong_kind` meets its contract.
 -- Assumes nothing.
-use borrow.Author.Rules.{rules}
+use Rattle.std.proofs.Common.{◌≡◌, ℕ, Bool, not, eqb, ◌||◌, refl}
+use Rattle.model.specs.declared.Role.{Role}
+use Rattle.model.specs.declared.Entry.{Entry}
+use Rattle.model.specs.declared.Entry.TheVariants.{Assignment, Grant, Senior, Exclude, Member, Limit, End, Unknown}
 use Rattle.model.specs.Image.{wrong_kind}
 use Rattle.image_faults.proofs.fault.wrong_kind.Goals as goal
-
-pub enum_told-1 : goal.enum_told-1
-unfolding wrong_kind
-enum_told-1 c = search rules
-
-pub enum_told-in-End : goal.enum_told-in-End
-unfolding wrong_kind
-enum_told-in-End c = search rules
-
-pub enum_told-in-Unknown : goal.enum_told-in-Unknown
-unfolding wrong_kind
-enum_told-in-Unknown c = search rules
-
-pub enum_told-in-Assignment : goal.enum_told-in-Assignment
-unfolding wrong_kind
-enum_told-in-Assignment c = search rules
-
-pub enum_told-in-Grant : goal.enum_told-in-Grant
-unfolding wrong_kind
-enum_told-in-Grant c = search rules
-
-pub enum_told-in-Senior : goal.enum_told-in-Senior
-unfolding wrong_kind
-enum_told-in-Senior c = search rules
-
-pub enum_told-in-Exclude : goal.enum_told-in-Exclude
-unfolding wrong_kind
-enum_told-in-Exclude c = search rules
-
-pub enum_told-in-Limit : goal.enum_told-in-Limit
-unfolding wrong_kind
-enum_told-in-Limit c = search rules
 
 pub returns-in-Member : goal.returns-in-Member
 unfolding wrong_kind
@@ -48,22 +19,18 @@ pub returns-in-Unknown : goal.returns-in-Unknown
 unfolding wrong_kind
 returns-in-Unknown c = rw c.in-Unknown.is
 
-pub returns-in-Assignment : goal.returns-in-Assignment
+-- a word of one of the other kinds
+other : (last : Bool) (due : ℕ) (e : Entry) → ((r : Role) → e ≡ Member r → ⊥) → (e ≡ End → ⊥) → (e ≡ Unknown → ⊥)
+    → (last || not (eqb due 0)) ≡ wrong_kind last due e
 unfolding wrong_kind
-returns-in-Assignment c = rw c.in-Assignment.is
+other last due (Assignment u r) m n k = refl
+other last due (Grant r p) m n k = refl
+other last due (Senior a b) m n k = refl
+other last due (Exclude x o) m n k = refl
+other last due (Member r) m n k = absurd (m r refl)
+other last due (Limit r t) m n k = refl
+other last due End m n k = absurd (n refl)
+other last due Unknown m n k = absurd (k refl)
 
-pub returns-in-Grant : goal.returns-in-Grant
-unfolding wrong_kind
-returns-in-Grant c = rw c.in-Grant.is
-
-pub returns-in-Senior : goal.returns-in-Senior
-unfolding wrong_kind
-returns-in-Senior c = rw c.in-Senior.is
-
-pub returns-in-Exclude : goal.returns-in-Exclude
-unfolding wrong_kind
-returns-in-Exclude c = rw c.in-Exclude.is
-
-pub returns-in-Limit : goal.returns-in-Limit
-unfolding wrong_kind
-returns-in-Limit c = rw c.in-Limit.is
+pub returns-in_default : goal.returns-in_default
+returns-in_default c = other _ _ _ c.in_default.not-Member c.in_default.not-End c.in_default.not-Unknown

@@ -1,24 +1,15 @@
-use Rattle.std.proofs.Common.{arith}
+use Rattle.std.proofs.Common.{refl, arith}
 use Rattle.image_usual.proofs.Runs.{gathers_none, gathers_on}
 use Rattle.image_usual.proofs.usual.gather.Goals as goal
 
 pub loop-place-init : goal.loop-place-init
-loop-place-init c =
-    (omega arith, gathers_none c.args.image.now c.args.words c.args.from c.args.roles c.args.u c.args.sum c.args.own (omega arith))
-
-pub returns-then-x-key : goal.returns-then-x-key
-returns-then-x-key c = c.loop-place.invariant.1
-
-pub returns-then-roles-r : goal.returns-then-roles-r
-returns-then-roles-r c = c.loop-place.invariant.1
+loop-place-init c = (refl, gathers_none _ _ _ _ _ _ _)
 
 pub loop-place-preserved : goal.loop-place-preserved
-loop-place-preserved c = (
-  omega (arith, c.loop-place-test.true),
-  gathers_on c.word_at-w.result c.loop-place.invariant.1 (omega arith) (omega (arith, c.loop-place-test.true)) c.word_at-w.ensures (omega arith)
-      c.if-x-key.false
-      (omega (arith, c.if-roles-r.false)) c.with-row.ensures c.wrapping_add_u32-total.ensures.value,
-)
-
-pub returns : goal.returns
-returns c = c.loop-place.invariant.1
+loop-place-preserved c =
+    let e = c.turned-x.ensures in (
+      omega (arith, c.past.ensures.place, c.loop-place.invariant.0),
+      rw c.past.ensures.place (gathers_on c.word-w.result c.loop-place.invariant.1 (omega arith) (omega (arith, c.loop-place-test.true))
+          (rw c.loop-place.invariant.0 c.word-w.ensures) (omega arith) (rw e at c.if-x-key.false) (rw e at c.if-roles-r.false)
+          (rw e at c.with.ensures) c.past.ensures.sum),
+    )

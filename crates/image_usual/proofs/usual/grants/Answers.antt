@@ -1,25 +1,19 @@
 -- `image_usual::usual::grants` meets its contract.
 -- Assumes nothing.
-use Rattle.std.proofs.Common.{◌<◌, arith, rules, lt-ltb}
+use Rattle.std.proofs.Common.{◌≡◌, ◌+◌, ◌/◌, ◌%◌, ◌^◌, ◌<◌, arith, lt-ltb}
 use Rattle.model.specs.Image.{in_range}
-use Rattle.image_usual.specs.Usual.{Grants}
 use Rattle.image_usual.proofs.Words.{grant_said}
 use Rattle.image_usual.proofs.usual.grants.Goals as goal
 
-pub returns-then-h-r : goal.returns-then-h-r
-unfolding Grants
-returns-then-h-r c = search rules
-
-pub returns-then-h-p : goal.returns-then-h-p
-unfolding Grants
-returns-then-h-p c = search rules
-
 pub returns : goal.returns
-unfolding Grants in_range
+unfolding in_range
 returns c =
-    let m : c.wrapping_sub_u32-r.result < 64 = omega (arith, c.if-h-r.false, c.requires) in (
-      grant_said c.args.w c.wrapping_sub_u32-r.result (omega arith) m c.wrapping_sub_u32-r.ensures.value,
-      simp (lt-ltb _ _ c.if-h-r.false, lt-ltb _ _ c.if-h-p.false),
-      m,
-      omega arith,
-    )
+    let r = c.requires in
+    let m : (c.turned-x.result / 256 + 4294967104) % 4294967296 < 64 = omega (arith, c.if-h-r.false, c.requires) in
+    let e : ((c.turned-x.result / 256 + 4294967104) % 4294967296 + 192) % 2 ^ 32 ≡ c.turned-x.result / 2 ^ 8 = omega arith in
+    record {
+      said = rw c.turned-x.ensures (grant_said c.args.w _ (omega arith) (rw c.turned-x.ensures at m) (rw c.turned-x.ensures at e));
+      within = simp (lt-ltb _ _ c.if-h-r.false, lt-ltb _ _ c.if-h-p.false);
+      role_small = m;
+      permission_small = omega arith;
+    }

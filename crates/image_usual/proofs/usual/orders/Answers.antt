@@ -1,6 +1,6 @@
 -- `image_usual::usual::orders` meets its contract.
 -- Assumes nothing.
-use Rattle.std.proofs.Common.{sym, refl, ap, ◌∙◌, true≢false, arith}
+use Rattle.std.proofs.Common.{refl, ap, ◌∙◌, true≢false, arith}
 use mathlib.Core.Bool.{false≢true}
 use Rattle.model.specs.declared.Word.{Word}
 use Rattle.model.specs.Image.{assigning}
@@ -13,16 +13,14 @@ use Rattle.image_usual.proofs.usual.orders.Goals as goal
 pub returns-then-x-ne-SENIOR : goal.returns-then-x-ne-SENIOR
 returns-then-x-ne-SENIOR c = (λ e. absurd (false≢true e), λ e. refl)
 
-pub returns-then-senior_fault-ne0 : goal.returns-then-senior_fault-ne0
-returns-then-senior_fault-ne0 c = (λ e. absurd (false≢true e), λ e. refl)
-
 pub returns : goal.returns
 unfolding Usual assigning ordering granting
 returns c =
-    let said = senior_said c.args.w (omega arith) c.if-x-ne-SENIOR.false in (
-      λ e assigned granted. (
-        quick _ said (omega arith) (λ t. sym c.if-senior_fault-ne0.false ∙ c.senior_fault.ensures assigned t) refl (rw c.with-row.ensures),
-        ap (λ (x : Word). granting granted x.entry) said,
+    let e = c.turned-x.ensures in
+    let said = senior_said c.args.w (omega arith) (rw e at c.if-x-ne-SENIOR.false) in (
+      λ o. (
+        λ assigned. quick _ said (omega arith) (λ t. rw e at (c.in-Ok.ensures assigned t)) refl (rw (c.with-row.ensures, e)),
+        λ step un granted. ap (λ (x : Word). step granted x.entry) said ∙ un.senior granted _ _,
       ),
-      λ e. absurd (true≢false e),
+      λ o. absurd (true≢false o),
     )

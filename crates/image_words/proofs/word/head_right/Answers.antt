@@ -1,7 +1,6 @@
 -- `image_words::word::head_right` meets its contract.
 -- Assumes nothing.
 use Rattle.model.specs.Image.{head_right, head_of}
-use borrow.Author.Rules.{rules}
 use Rattle.image_words.proofs.word.head_right.Goals as goal
 
 pub returns : goal.returns

@@ -1,4 +1,4 @@
-use mathlib.Core.Path.{refl, sym, ap, ◌∙◌}
+use mathlib.Core.Path.{sym, ap, ◌∙◌}
 use mathlib.Core.List.{List}
 use native.Mathlib.Omega.{arith}
 use lib.Seq.{take_all}
@@ -11,17 +11,14 @@ use Rattle.ledger.proofs.bytes.put_sessions.Goals as goal
 
 pub loop-k-init : goal.loop-k-init
 unfolding write_sessions
-loop-k-init c = (omega arith, sym (splice_nil c.args.s.now c.args.at), refl, omega arith)
+loop-k-init c = sym (splice_nil c.args.s.now c.args.at)
 
 pub loop-k-preserved : goal.loop-k-preserved
 unfolding empty_session
 loop-k-preserved c =
     let h = write_next c.args.s.now c.args.at c.args.sessions empty_session c.loop-k.k (omega arith) (omega arith) in
-    (omega arith, cc h, omega arith, c.loop-k.invariant.3)
-
-pub shape_of-s : goal.shape_of-s
-shape_of-s c = c.loop-k.invariant.2
+    cc h
 
 pub returns : goal.returns
 returns c =
-    c.loop-k.invariant.1 ∙ ap (λ (x : List Session). splice c.args.s.now c.args.at (write_sessions x)) (take_all c.loop-k.k c.args.sessions (omega arith))
+    c.loop-k.invariant ∙ ap (λ (x : List Session). splice c.args.s.now c.args.at (write_sessions x)) (take_all c.loop-k.k c.args.sessions (omega arith))

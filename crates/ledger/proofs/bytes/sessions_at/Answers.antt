@@ -9,15 +9,15 @@ use Rattle.ledger.proofs.bytes.sessions_at.Goals as goal
 
 pub loop-k-init : goal.loop-k-init
 unfolding read_sessions
-loop-k-init c = (omega arith, refl, refl)
+loop-k-init c = (refl, refl)
 
 pub loop-k-preserved : goal.loop-k-preserved
-loop-k-preserved c =
-    let h = read_next c.args.s.now c.args.at c.loop-k.k c.loop-k.sessions c.session_at-next.result c.loop-k.invariant.2 (omega arith)
-    c.session_at-next.ensures in
-    (omega arith, simp length-set c.loop-k.invariant.1, h)
+loop-k-preserved c = (
+  simp length-set c.loop-k.invariant.0,
+  read_next c.args.s.now c.args.at c.loop-k.k _ c.session_at.result c.loop-k.invariant.1 (omega arith) c.session_at.ensures,
+)
 
 pub returns : goal.returns
 returns c =
     let e : c.loop-k.k ≡ SESSIONS = omega arith in
-    sym (take_all c.loop-k.k c.loop-k.sessions (omega arith)) ∙ c.loop-k.invariant.2 ∙ ap (λ (k : ℕ). read_sessions k (drop c.args.at c.args.s.now)) e
+    sym (take_all c.loop-k.k _ (omega arith)) ∙ c.loop-k.invariant.1 ∙ ap (λ (k : ℕ). read_sessions k (drop c.args.at c.args.s.now)) e

@@ -5,9 +5,8 @@ use mathlib.Core.Bool.{false}
 use native.Mathlib.Omega.{arith}
 use Rattle.model.specs.Line.{line_size}
 use Rattle.model_laws.proofs.Bools.{not_both}
-use Rattle.exclusion_rows.specs.Rows.{exclusions_in}
+use Rattle.exclusion_rows.specs.Table.{exclusions_of}
 use Rattle.ledger.proofs.ByHistory.{plain-line}
-use Rattle.std.proofs.lemmas.Bool.{not_from_true}
 use Rattle.ledger.proofs.plainly.plainly_sound.Goals as goal
 
 pub get_u64-opened-requires : goal.get_u64-opened-requires
@@ -30,7 +29,7 @@ returns-then-not-sessions_sound_in c t m h = not_both false t refl
 
 pub returns : goal.returns
 returns c t m h =
-    plain-line c.args.sessions c.args.roles c.args.authorized (exclusions_in c.args.xs.now c.args.count) c.args.bytes.now c.get_u64-opened.ensures
+    plain-line c.args.sessions c.args.tables.now.head.roles c.args.own (exclusions_of c.args.tables.now.exclusions) c.args.bytes.now c.get_u64-opened.ensures
     c.get_u64-history.ensures
-    c.below.ensures c.below-2.ensures (not_from_true _ c.if-not-formed.false) c.sessions_sound_in.ensures
-    (not_from_true _ c.if-not-sessions_sound_in.false) c.few_in.ensures t m h
+    c.below.ensures c.below-2.ensures c.if-not-formed.false c.sessions_sound_in.ensures
+    c.if-not-sessions_sound_in.false c.few_in.ensures t m h

@@ -5,8 +5,6 @@ use Rattle.model.specs.Line.{read_sessions, empty_session, session_sound}
 use Rattle.model_laws.proofs.LineLaws.{length-read_sessions}
 use Rattle.ledger.proofs.Places.{session_there}
 use Rattle.ledger.proofs.Soundness.{sound-next, sound_stop, sound_end}
-use Rattle.std.proofs.lemmas.Bool.{not_from_true}
-use Rattle.std.proofs.lemmas.Bool.{not_from_false}
 use Rattle.ledger.proofs.plainly.sessions_sound_in.Goals as goal
 
 pub loop-k-init : goal.loop-k-init
@@ -18,7 +16,7 @@ returns-then-not-session_sound c m l e o h =
     let n = length-read_sessions c.args.sessions (drop 16 c.args.bytes.now) in
     let there = session_there c.args.sessions c.loop-k.k c.args.bytes.now empty_session _ (omega arith) c.session_at-s.ensures in
     let b = c.session_sound.ensures m l e o h ∙ ap (session_sound m l c.loop-k.k) there in
-    sound_stop m l empty_session ss c.loop-k.k (omega (arith, n)) b (not_from_false _ c.if-not-session_sound.true) ∙ c.loop-k.invariant.1 m l e o h
+    sound_stop m l empty_session ss c.loop-k.k (omega (arith, n)) b c.if-not-session_sound.true ∙ c.loop-k.invariant.1 m l e o h
 
 pub loop-k-preserved : goal.loop-k-preserved
 loop-k-preserved c =
@@ -28,7 +26,7 @@ loop-k-preserved c =
       omega arith,
       λ m l e o h.
           let b = c.session_sound.ensures m l e o h ∙ ap (session_sound m l c.loop-k.k) there in
-          sound-next m l empty_session ss c.loop-k.k (omega (arith, n)) b (not_from_true _ c.if-not-session_sound.false) ∙ c.loop-k.invariant.1 m l e o h,
+          sound-next m l empty_session ss c.loop-k.k (omega (arith, n)) b c.if-not-session_sound.false ∙ c.loop-k.invariant.1 m l e o h,
     )
 
 pub returns : goal.returns

@@ -14,10 +14,8 @@ line_bytes-bytes-requires c = omega arith
 pub plainly_sound-requires : goal.plainly_sound-requires
 unfolding line_size
 plainly_sound-requires c = (
-  ap length c.line_bytes-bytes.ensures ∙ length-line (line_size SESSIONS) c.args.user c.args.ledger.now c.requires.0,
+  ap length c.line_bytes-bytes.ensures ∙ length-line (line_size SESSIONS) c.args.user c.args.ledger.now c.requires,
   omega arith,
-  c.requires.1,
-  c.requires.2,
 )
 
 pub returns-then-plainly_sound : goal.returns-then-plainly_sound

@@ -1,7 +1,7 @@
 -- `ledger::sound::exclusion_met` meets its contract.
 -- Assumes nothing.
-use mathlib.Core.Path.{◌∙◌}
-use mathlib.Core.Path.{◌≡◌}
+use mathlib.Core.Path.{◌≡◌, ◌∙◌}
+use mathlib.Core.Logic.{inl, inr}
 use native.Mathlib.Omega.{arith}
 use lib.ListN.{length}
 use Rattle.model.specs.Line.{counted}
@@ -12,10 +12,4 @@ pub returns-in-MsDmer : goal.returns-in-MsDmer
 unfolding counted
 returns-in-MsDmer c =
     let n : length c.args.l.sessions ≡ 8 = omega arith in
-    c.met_at.ensures ∙ met_once c.args.l c.args.x _ _ n (λ t. rw c.in-MsDmer.is)
-
-pub returns-in-MsHmer : goal.returns-in-MsHmer
-unfolding counted
-returns-in-MsHmer c =
-    let n : length c.args.l.sessions ≡ 8 = omega arith in
-    c.met_at-in-MsHmer.ensures ∙ met_once c.args.l c.args.x _ _ n (λ t. rw c.in-MsHmer.is)
+    c.met_at.ensures ∙ met_once c.args.l c.args.x _ _ n (λ t. elim c.in-MsDmer.is [ inl e ↦ rw e | inr e ↦ rw e ])

@@ -1,15 +1,11 @@
--- `ledger::sound::named_in` meets its contract. The loop's invariant: `roles` are those named by the sessions from k
--- on.
+-- `ledger::sound::named_in` meets its contract. The loop's invariant: with the roles named by the sessions to come,
+-- `roles` are all.
 -- Assumes nothing.
 use mathlib.Core.Path.{◌≡◌}
-use Prim.Native.Nat.{◌≤◌}
+use lib.Bits.{bit_or}
 use lib.ListN.{drop}
-use Rattle.model.specs.Line.{SESSIONS}
 use Rattle.ledger.specs.Held.{named_in}
 use Rattle.ledger.proofs.sound.named_in.Given as goal
 
-abbrev pub invariant-loop-k : goal.invariant-loop-k
-invariant-loop-k l = (l.k ≤ SESSIONS) × (l.roles ≡ named_in (drop l.k l.sessions))
-
-abbrev pub decreases-loop-k : goal.decreases-loop-k
-decreases-loop-k l = l.k
+abbrev pub invariant-loop-s : goal.invariant-loop-s
+invariant-loop-s l = bit_or l.roles (named_in (drop l.s-index l.fn.sessions)) ≡ named_in l.fn.sessions

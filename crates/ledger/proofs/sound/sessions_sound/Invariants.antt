@@ -2,16 +2,11 @@
 -- on are.
 -- Assumes nothing.
 use mathlib.Core.Path.{◌≡◌}
-use Prim.Native.Nat.{◌-◌, ◌≤◌}
-use lib.ListN.{length, drop}
+use lib.ListN.{drop}
 use Rattle.model.specs.Policy.{Meaning}
-use Rattle.model.specs.Line.{SESSIONS, sessions_sound}
+use Rattle.model.specs.Line.{sessions_sound}
 use Rattle.ledger.proofs.sound.sessions_sound.Given as goal
 
 abbrev pub invariant-loop-k : goal.invariant-loop-k
 invariant-loop-k l =
-    (l.k ≤ SESSIONS) × (length l.l.sessions ≡ SESSIONS)
-    × ((m : Meaning) → m.authorized ≡ l.authorized → sessions_sound m l.l l.k (drop l.k l.l.sessions) ≡ sessions_sound m l.l 0 l.l.sessions)
-
-abbrev pub decreases-loop-k : goal.decreases-loop-k
-decreases-loop-k l = SESSIONS - l.k
+    (m : Meaning) → m.authorized ≡ l.authorized → sessions_sound m l.fn.l l.k (drop l.k l.fn.l.sessions) ≡ sessions_sound m l.fn.l 0 l.fn.l.sessions

@@ -7,7 +7,7 @@ use Rattle.limits_lines.proofs.lines.blamed.Goals as goal
 
 pub returns-then-v-user : goal.returns-then-v-user
 unfolding blamed pick
-returns-then-v-user c = simp (eq-eqb _ _ c.if-v-user.true)
+returns-then-v-user c = rw (c.from.ensures, eq-eqb _ _ c.if-v-user.true)
 
 pub returns : goal.returns
 unfolding blamed pick

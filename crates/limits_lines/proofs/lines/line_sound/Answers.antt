@@ -11,12 +11,11 @@ use Rattle.limits_lines.proofs.lines.line_sound.Goals as goal
 
 pub sound_at-requires : goal.sound_at-requires
 unfolding line_size
-sound_at-requires c =
-    (omega arith, c.requires.1, c.requires.2)
+sound_at-requires c = omega arith
 
 pub returns : goal.returns
 unfolding line_of
 returns c p h =
     let e = ap (λ (x : Head). x.users) h.head_is in
-    let k = held c.args.sizes.head c.args.authorized.now _ p c.args.v _ h (omega arith) c.roles_of-own.ensures in
+    let k = held c.args.tables.now.head c.args.tables.now.authorized _ p c.args.v _ h (omega arith) c.roles_of-own.ensures in
     c.sound_at.ensures (meaning p c.args.v) k

@@ -5,12 +5,10 @@ use borrow.Author.Rules.{rules}
 use Rattle.model.specs.declared.Head.{Head}
 use Rattle.model.specs.Line.{SESSIONS, line_size}
 use Rattle.limits_lines.proofs.Blaming.{no_limits, no_fit, no_line, lines_looked}
-use Rattle.std.proofs.lemmas.Bool.{not_from_true}
-use Rattle.std.proofs.lemmas.Bool.{not_from_false}
 use Rattle.limits_lines.proofs.lines.refusal.Goals as goal
 
 pub returns-then-not-has_limits : goal.returns-then-not-has_limits
-returns-then-not-has_limits c p h l = no_limits SESSIONS p _ _ l c.has_limits.ensures (not_from_false _ c.if-not-has_limits.true)
+returns-then-not-has_limits c p h l = no_limits SESSIONS p _ _ l c.has_limits.ensures c.if-not-has_limits.true
 
 pub returns-then-ledger-users : goal.returns-then-ledger-users
 unfolding line_size
@@ -26,6 +24,6 @@ lines_refusal-requires c = search rules
 pub returns : goal.returns
 unfolding line_size
 returns c p h l =
-    lines_looked SESSIONS p _ _ _ l c.has_limits.ensures (not_from_true _ c.if-not-has_limits.false) (ap (λ (x : Head). x.users) h.head_is)
+    lines_looked SESSIONS p _ _ _ l c.has_limits.ensures c.if-not-has_limits.false (ap (λ (x : Head). x.users) h.head_is)
     c.if-ledger-users.false
     c.if-users-user.false (c.lines_refusal.ensures p h)

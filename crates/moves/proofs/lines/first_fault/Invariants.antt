@@ -2,18 +2,14 @@
 -- on.
 -- Assumes nothing.
 use mathlib.Core.Path.{◌≡◌}
-use Prim.Native.Nat.{◌-◌, ◌≤◌}
+use Prim.Native.Nat.{◌-◌}
 use Rattle.model.specs.Policy.{Policy}
 use Rattle.model.specs.Moves.{move_answer}
-use Rattle.exclusion_rows.specs.Rows.{exclusions_in}
+use Rattle.exclusion_rows.specs.Table.{exclusions_of}
 use Rattle.sessions.specs.Calls.{Known}
 use Rattle.moves.proofs.lines.first_fault.Given as goal
 
 abbrev pub invariant-loop-u : goal.invariant-loop-u
 invariant-loop-u l =
-    (l.u ≤ l.users)
-    × ((p : Policy) → Known l.sizes.head l.authorized (exclusions_in l.xs l.sizes.count) p
-    → move_answer l.from l.to p l.old l.u (l.users - l.u) ≡ move_answer l.from l.to p l.old 0 l.users)
-
-abbrev pub decreases-loop-u : goal.decreases-loop-u
-decreases-loop-u l = l.users - l.u
+    (p : Policy) → Known l.tables.head l.tables.authorized (exclusions_of l.tables.exclusions) p
+    → move_answer l.from l.to p l.old l.u (l.u-end - l.u) ≡ move_answer l.from l.to p l.old 0 l.u-end

@@ -1,16 +1,9 @@
--- `moves::lines::put_lines` meets its contract. The loop's invariant: the first u lines are in place, and `new` is as
--- long as it was.
+-- `moves::lines::put_lines` meets its contract. The loop's invariant: the first u lines are in place.
 -- Assumes nothing.
 use mathlib.Core.Path.{◌≡◌}
-use Prim.Native.Nat.{◌-◌, ◌≤◌}
-use lib.ListN.{length}
 use Rattle.model.specs.Moves.{resized_lines}
 use Rattle.octets.specs.Splice.{splice}
 use Rattle.moves.proofs.lines.put_lines.Given as goal
 
 abbrev pub invariant-loop-u : goal.invariant-loop-u
-invariant-loop-u l =
-    (l.u ≤ l.users) × (l.new ≡ splice l.initial.new 0 (resized_lines l.from l.to l.old 0 l.u)) × (length l.new ≡ length l.initial.new)
-
-abbrev pub decreases-loop-u : goal.decreases-loop-u
-decreases-loop-u l = l.users - l.u
+invariant-loop-u l = l.new ≡ splice l.initial.new 0 (resized_lines l.from l.to l.old 0 l.u)

@@ -7,8 +7,8 @@ use Rattle.nutrameza_script.proofs.input.answer_chunk.Given as goal
 
 abbrev pub invariant-loop-p : goal.invariant-loop-p
 invariant-loop-p g l =
-    (l.p.next ≤ length l.chunk) × (l.p.kept ≤ 174) × (l.p.filled ≡ 0) × (l.p.calls ≤ l.run.calls + l.p.next) × (length l.line ≡ 174) × (160 ≤ length l.out)
-    × (length l.line ≡ length l.initial.line) × (length l.out ≡ length l.initial.out) × (length l.ledger ≡ length l.initial.ledger)
+    (l.p.next ≤ length l.chunk) × (l.p.kept ≤ 174) × (l.p.filled ≡ 0) × (l.p.calls ≤ l.fn.run.calls + l.p.next)
+    × (length l.ledger ≡ length l.initial.ledger)
 
 abbrev pub decreases-loop-p : goal.decreases-loop-p
 decreases-loop-p g l = length l.chunk - l.p.next

@@ -1,8 +1,8 @@
 -- The counts are zeros at the start.
 -- Assumes nothing.
 use borrow.Author.Rules.{rules}
-use Rattle.nutrameza_survey.proofs.Zeros.{zeros_size, zeros_most}
+use Rattle.nutrameza_survey.proofs.Zeros.{zeros_most}
 use Rattle.nutrameza_survey.proofs.input.count_all.Goals as goal
 
 pub count_each-requires : goal.count_each-requires
-count_each-requires g c = (search rules, search rules, search (rules, zeros_size), search (rules, zeros_most))
+count_each-requires g c = search (rules, zeros_most)

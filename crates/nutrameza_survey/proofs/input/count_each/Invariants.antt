@@ -1,16 +1,11 @@
 -- Each turn reads at most 65,536 bytes and answers no more calls than that, so that the counts stay within 64 bits.
 -- Assumes nothing.
 use mathlib.Core.Path.{◌≡◌}
-use Prim.Native.Nat.{◌+◌, ◌*◌, ◌≤◌}
+use Prim.Native.Nat.{◌*◌, ◌≤◌}
 use lib.ListN.{length}
 use Rattle.survey_counts.specs.Counting.{Most}
 use Rattle.nutrameza_survey.proofs.input.count_each.Given as goal
 
-abbrev pub invariant-loop-turns : goal.invariant-loop-turns
-invariant-loop-turns g l =
-    (l.run.kept ≤ 174) × (l.run.calls + 65536 * l.turns ≤ 18446744073709486080) × (length l.line ≡ 174) × (length l.chunk ≡ 65536)
-    × (length l.line ≡ length l.initial.line) × (length l.chunk ≡ length l.initial.chunk) × (length l.ledger ≡ length l.initial.ledger)
-    × (length l.counts ≡ 256) × Most l.counts l.run.calls
-
-abbrev pub decreases-loop-turns : goal.decreases-loop-turns
-decreases-loop-turns g l = l.turns
+abbrev pub invariant-loop-turn : goal.invariant-loop-turn
+invariant-loop-turn g l =
+    (l.run.kept ≤ 174) × (l.run.calls ≤ 65536 * l._turn) × (length l.ledger ≡ length l.initial.ledger) × Most l.counts l.run.calls

@@ -6,10 +6,7 @@ use Rattle.obstacles_blocks.proofs.Firsts.{Passing}
 use Rattle.obstacles_blocks.proofs.first.+some_step.Given as goal
 
 abbrev pub decreases-some_step : goal.decreases-some_step
-decreases-some_step l = count 64 l.free
+decreases-some_step l = count 64 l.node.free
 
-abbrev pub invariant-loop-left : goal.invariant-loop-left
-invariant-loop-left l = Passing (task_of l.rows l.masks l.ns l.job) l.chosen l.free l.left l.still
-
-abbrev pub decreases-loop-left : goal.decreases-loop-left
-decreases-loop-left l = count 64 l.left
+abbrev pub invariant-loop-k : goal.invariant-loop-k
+invariant-loop-k l = Passing (task_of l.query) l.node.chosen l.node.free l.k-iterator.left l.still

@@ -4,7 +4,7 @@ use Rattle.query.proofs.Marks.{row-start, row_next, row_end}
 use Rattle.query.proofs.carriers.mark_row.Goals as goal
 
 pub loop-place-init : goal.loop-place-init
-loop-place-init c = (omega arith, row-start _ _ _ c.requires.1)
+loop-place-init c = (omega arith, row-start _ _ _ c.told-table)
 
 pub loop-place-preserved : goal.loop-place-preserved
 loop-place-preserved c =

@@ -1,19 +1,13 @@
-use borrow.Author.Rules.{rules}
-use Rattle.query.proofs.Walks.{walk_starts, walk-next, walk_ends, fewer-left}
+use Rattle.query.proofs.Walks.{walk_starts, walk-next, walk_ends}
 use Rattle.query.proofs.carry.usable.Goals as goal
 
-pub loop-left-init : goal.loop-left-init
-loop-left-init c = search (rules, walk_starts)
+pub loop-k-init : goal.loop-k-init
+loop-k-init c = rw (c.into_iter-k-iterator.ensures.into_iter_gives, c.members-k-items.ensures) (walk_starts _ _)
 
-pub loop-left-smaller : goal.loop-left-smaller
-loop-left-smaller c =
-    fewer-left c.args.set c.loop-left.left c.without-left.result c.lowest-r.result.0 c.ranges.set.fits c.loop-left.invariant.inside
-    c.lowest-r.ensures c.without-left.ensures
-
-pub loop-left-preserved : goal.loop-left-preserved
-loop-left-preserved c =
-    rw (c.without-left.ensures, c.with_if-next.ensures, c.perm_within.ensures)
-    (walk-next _ c.args.set c.loop-left.left c.loop-left.found c.lowest-r.result.0 c.lowest-r.ensures.member c.loop-left.invariant)
+pub loop-k-preserved : goal.loop-k-preserved
+loop-k-preserved c =
+    let t = c.in-Some.ensures.steps in
+    rw (t.rest, c.with_if-next.ensures, c.perm_within.ensures) (walk-next _ _ _ c.loop-k.found _ t.lowest.member c.loop-k.invariant)
 
 pub returns : goal.returns
-returns c = walk_ends _ c.args.set c.loop-left.left c.loop-left.found c.loop-left-test.false c.loop-left.invariant
+returns c = walk_ends _ _ _ _ c.in-None.ensures.steps.0 c.loop-k.invariant

@@ -1,7 +1,6 @@
 -- `query_reduced::exclusions::reduced_n` meets its contract.
 -- Assumes nothing.
 use native.Mathlib.Omega.{arith}
-use borrow.Author.Rules.{rules}
 use Rattle.model.specs.Reduced.{reduced_n}
 use Rattle.query_reduced.proofs.exclusions.reduced_n.Goals as goal
 

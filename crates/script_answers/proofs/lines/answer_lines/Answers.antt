@@ -3,7 +3,6 @@ use mathlib.Core.Path.{refl, ap, ◌∙◌}
 use Prim.Native.Nat.{◌≤◌, ◌<◌}
 use native.Mathlib.Omega.{arith}
 use lib.ListN.{length, take}
-use Rattle.script_input.proofs.Steps.{counts}
 use Rattle.script_answers.specs.Buffers.{outcome}
 use Rattle.script_answers.proofs.Steps.{is_answered}
 use Rattle.script_answers.proofs.lines.answer_lines.Goals as goal
@@ -42,10 +41,6 @@ overflow_add-calls c = omega (arith, c.if-chunk-begun.false, c.gather-begun.ensu
 pub slice_bounds-respond-end : goal.slice_bounds-respond-end
 slice_bounds-respond-end c =
     omega (arith, c.gather-begun.ensures.few, c.gather-begun.auto, c.loop-out.invariant)
-
-pub slice_bounds-respond-end-in-loop-out : goal.slice_bounds-respond-end-in-loop-out
-slice_bounds-respond-end-in-loop-out c =
-    counts c.gather-begun.result.kept c.gather-begun.new.line (omega (arith, c.gather-begun.ensures.few, c.gather-begun.auto, c.loop-out.invariant))
 
 pub loop-out-smaller : goal.loop-out-smaller
 loop-out-smaller c =

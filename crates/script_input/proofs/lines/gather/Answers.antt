@@ -1,9 +1,6 @@
 use borrow.Author.Rules.{rules}
 use mathlib.Core.Path.{◌≡◌, refl, ◌∙◌}
-use mathlib.Core.List.{List, ◌++◌}
-use Prim.Native.Nat.{ℕ, ◌-◌, ◌≤◌}
-use lib.ListN.{length, take, drop}
-use Rattle.script_input.specs.Kept.{lines_from}
+use lib.ListN.{length}
 use Rattle.script_input.proofs.Steps.{goes_on}
 use Rattle.script_input.proofs.lines.gather.Goals as goal
 

@@ -1,12 +1,10 @@
 -- Byte after byte is kept, and the lines that are left stay the same.
 -- Assumes nothing.
-use borrow.Author.Rules.{rules}
-use mathlib.Core.Path.{◌≡◌, refl, ◌∙◌}
+use mathlib.Core.Path.{◌≡◌}
 use mathlib.Core.List.{List, ◌++◌}
 use Prim.Native.Nat.{ℕ, ◌-◌, ◌≤◌}
 use lib.ListN.{length, take, drop}
 use Rattle.script_input.specs.Kept.{lines_from}
-use Rattle.script_input.proofs.Steps.{goes_on}
 use Rattle.script_input.proofs.lines.gather.Given as goal
 
 abbrev pub invariant-loop-i : goal.invariant-loop-i

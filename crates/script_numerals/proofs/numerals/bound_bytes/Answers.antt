@@ -1,25 +1,40 @@
 use borrow.Author.Rules.{rules}
-use mathlib.Core.Path.{◌≡◌, ap, ◌∙◌}
-use lib.ListN.{take}
+use mathlib.Core.Path.{◌≡◌, sym, subst, ap, ◌∙◌}
+use lib.ListN.{length, take, replicate}
 use lib.Seq.{take-length}
+use native.Mathlib.Omega.{arith}
+use Prim.Native.Nat.{◌+◌, ◌-◌, ◌*◌}
 use Rattle.model_script.specs.Script.{value}
 use Rattle.script_numerals.proofs.NumeralLaws.{value_none, before_pair}
-use Rattle.script_numerals.proofs.FillLaws.{fill_begins, fill_goes_on, fill_ends}
+use Rattle.script_numerals.proofs.FillLaws.{Filling, fill_begins, fill_goes_on, fill_ends}
 use Rattle.script_numerals.proofs.numerals.bound_bytes.Goals as goal
 
-pub loop-m-init : goal.loop-m-init
-loop-m-init c = (search rules, search rules, search rules, rw (take-length c.args.w.now) (fill_begins _))
+pub loop-j-init : goal.loop-j-init
+loop-j-init c =
+    let w = c.args.w.now in
+    let e : length w ≡ length w - 2 * 0 = omega arith in (
+      search rules,
+      search rules,
+      search rules,
+      search rules,
+      subst (λ x. Filling (value 16 w) (replicate 32 0) 0 (value 16 x)) (sym (take-length w) ∙ ap (λ n. take n w) e) (fill_begins _),
+    )
 
-pub loop-m-preserved : goal.loop-m-preserved
-loop-m-preserved c = (
-  search rules,
-  search rules,
-  search rules,
-  rw (c.two_fewer-m.ensures, c.last_pair.ensures, before_pair c.args.w.now c.loop-m.m c.loop-m.invariant.1 c.loop-m.invariant.2 (search rules))
-      (fill_goes_on (value 16 c.args.w.now) c.loop-m.out c.loop-m.j (value 16 (take c.loop-m.m c.args.w.now)) (search rules) c.loop-m.invariant.3),
-)
+pub loop-j-preserved : goal.loop-j-preserved
+loop-j-preserved c =
+    let w = c.args.w.now in
+    let m = length w - 2 * c.loop-j.j in
+    let e : length w - 2 * (c.loop-j.j + 1) ≡ m - 2 = omega arith in (
+      search rules,
+      search rules,
+      search rules,
+      search rules,
+      rw (c.last_pair.ensures, e, before_pair w m (omega arith) c.loop-j.invariant.3 (omega arith))
+          (fill_goes_on (value 16 w) c.loop-j.bytes c.loop-j.j (value 16 (take m w)) (omega arith) c.loop-j.invariant.4),
+    )
 
 pub returns : goal.returns
 returns c =
-    let z : c.loop-m.m ≡ 0 = search rules in
-    fill_ends (value 16 c.args.w.now) _ c.loop-m.j _ (ap (λ x. value 16 (take x c.args.w.now)) z ∙ value_none 16 c.args.w.now) c.loop-m.invariant.3
+    let w = c.args.w.now in
+    let z : length w - 2 * c.loop-j.j ≡ 0 = omega arith in
+    fill_ends (value 16 w) _ c.loop-j.j _ (ap (λ x. value 16 (take x w)) z ∙ value_none 16 w) c.loop-j.invariant.4

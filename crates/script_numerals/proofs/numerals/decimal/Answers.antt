@@ -8,7 +8,7 @@ pub value_of-requires : goal.value_of-requires
 value_of-requires c = numeral_short 10 9 _ (sym c.is_numeral.ensures ∙ c.if-is_numeral.true)
 
 pub returns-then-is_numeral : goal.returns-then-is_numeral
-returns-then-is_numeral c = number_right _ _ (sym c.is_numeral.ensures ∙ c.if-is_numeral.true) c.value_of.ensures
+returns-then-is_numeral c = rw c.value_of.ensures (number_right _ (sym c.is_numeral.ensures ∙ c.if-is_numeral.true))
 
-pub returns : goal.returns
-returns c = number_wrong _ (sym c.is_numeral.ensures ∙ c.if-is_numeral.false)
+pub returns-else-is_numeral : goal.returns-else-is_numeral
+returns-else-is_numeral c = number_wrong _ (sym c.is_numeral.ensures ∙ c.if-is_numeral.false)

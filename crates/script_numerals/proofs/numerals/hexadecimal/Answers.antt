@@ -9,7 +9,7 @@ bound_bytes-requires c =
     let e = sym c.is_numeral.ensures ∙ c.if-is_numeral.true in (numeral_short 16 64 _ e, numeral_digits 16 64 _ e)
 
 pub returns-then-is_numeral : goal.returns-then-is_numeral
-returns-then-is_numeral c = bound_right _ _ (sym c.is_numeral.ensures ∙ c.if-is_numeral.true) c.bound_bytes.ensures
+returns-then-is_numeral c = rw c.bound_bytes.ensures (bound_right _ (sym c.is_numeral.ensures ∙ c.if-is_numeral.true))
 
-pub returns : goal.returns
-returns c = bound_wrong _ (sym c.is_numeral.ensures ∙ c.if-is_numeral.false)
+pub returns-else-is_numeral : goal.returns-else-is_numeral
+returns-else-is_numeral c = bound_wrong _ (sym c.is_numeral.ensures ∙ c.if-is_numeral.false)

@@ -9,18 +9,18 @@ use Rattle.script_numerals.proofs.numerals.last_pair.Goals as goal
 
 pub returns-then-m-lt2 : goal.returns-then-m-lt2
 returns-then-m-lt2 c =
-    c.digit-low.ensures ∙ pair_of_one c.args.w.now c.args.m c.requires.1 c.requires.2 (search rules) (search rules)
+    c.weight-low.ensures ∙ pair_of_one c.args.w.now c.args.m c.requires.1 c.requires.2 (search rules) (search rules)
 
 pub overflow_mul-result : goal.overflow_mul-result
 overflow_mul-result c =
-    omega (arith, c.digit-high.ensures, digit-of-all 16 c.args.w.now (c.args.m - 2) c.requires.2 (search rules))
+    omega (arith, c.weight.ensures, digit-of-all 16 c.args.w.now (c.args.m - 2) c.requires.2 (search rules))
 
 pub overflow_add-result : goal.overflow_add-result
 overflow_add-result c =
     let x = digit-of-all 16 c.args.w.now (c.args.m - 2) c.requires.2 (search rules) in
     let y = digit-of-all 16 c.args.w.now (c.args.m - 1) c.requires.2 (search rules) in
-    omega (arith, c.digit-high.ensures, c.digit-low.ensures, x, y)
+    omega (arith, c.weight.ensures, c.weight-low.ensures, x, y)
 
 pub returns : goal.returns
 returns c =
-    rw (c.digit-high.ensures, c.digit-low.ensures) (pair_of_two c.args.w.now c.args.m c.requires.1 c.requires.2 (search rules))
+    rw (c.weight.ensures, c.weight-low.ensures) (pair_of_two c.args.w.now c.args.m c.requires.1 c.requires.2 (search rules))

@@ -6,28 +6,26 @@ use Rattle.model_script.specs.Script.{digit, value}
 use Rattle.script_numerals.proofs.NumeralLaws.{digit≤16, grows, few, value_goes_on, value_end}
 use Rattle.script_numerals.proofs.numerals.value_of.Goals as goal
 
-pub loop-i-init : goal.loop-i-init
+pub loop-c-init : goal.loop-c-init
 unfolding value
-loop-i-init c = (search rules, search rules, search rules, search rules, search rules)
+loop-c-init c = (search rules, search rules, search rules)
 
 pub overflow_mul-v : goal.overflow_mul-v
 overflow_mul-v c =
-    omega (arith, few c.loop-i.v c.loop-i.i c.loop-i.invariant.3 (search rules))
+    omega (arith, few c.loop-c.v c.loop-c.c-index c.loop-c.invariant.1 (omega arith))
 
 pub overflow_add-v : goal.overflow_add-v
 overflow_add-v c =
-    let e : c.wide.result ≡ digit (get_or c.args.w.now c.loop-i.i 0) = cc in
-    omega (arith, e, few c.loop-i.v c.loop-i.i c.loop-i.invariant.3 (search rules), digit≤16 (get_or c.args.w.now c.loop-i.i 0))
+    let d = digit≤16 (get_or c.args.w.now c.loop-c.c-index 0) in
+    omega (arith, d, few c.loop-c.v c.loop-c.c-index c.loop-c.invariant.1 (omega arith))
 
-pub loop-i-preserved : goal.loop-i-preserved
-loop-i-preserved c =
-    let e : c.wide.result ≡ digit (get_or c.args.w.now c.loop-i.i 0) = cc in (
+pub loop-c-preserved : goal.loop-c-preserved
+loop-c-preserved c =
+    let e : c.from.result ≡ digit (get_or c.args.w.now c.loop-c.c-index 0) = cc in (
       search rules,
-      search rules,
-      search rules,
-      rw e (grows c.loop-i.v _ c.loop-i.i c.loop-i.invariant.3 (digit≤16 (get_or c.args.w.now c.loop-i.i 0))),
-      rw e (value_goes_on 10 c.args.w.now c.loop-i.v c.loop-i.i (search rules) ∙ c.loop-i.invariant.4),
+      rw e (grows c.loop-c.v _ c.loop-c.c-index c.loop-c.invariant.1 (digit≤16 _)),
+      rw e (value_goes_on 10 c.args.w.now c.loop-c.v c.loop-c.c-index (search rules) ∙ c.loop-c.invariant.2),
     )
 
 pub returns : goal.returns
-returns c = value_end 10 _ _ c.loop-i.i (search rules) ∙ c.loop-i.invariant.4
+returns c = value_end 10 _ _ c.loop-c.c-index (search rules) ∙ c.loop-c.invariant.2

@@ -1,53 +1,45 @@
 -- `sessions_change::close::close_session` meets its contract: each return names the tests that led there.
 -- Assumes nothing.
-use mathlib.Core.Path.{refl, sym, ◌∙◌}
+use mathlib.Core.Path.{refl}
 use Rattle.model.specs.Line.{SESSIONS}
 use Rattle.model.specs.Session.{is_ask, can_give, session_of}
 use Rattle.model.specs.Run.{close_by, line_of}
-use Rattle.exclusion_rows.specs.Rows.{exclusions_in}
-use Rattle.sessions.proofs.FirstSteps.{gives-refusal, stopped_first, session_stopped, Passed, passed as passes}
-use Rattle.sessions.proofs.SessionTests.{Session, session_open}
+use Rattle.sessions.proofs.Reasons.{gives-exit, first_stops, session_stops, passed_by}
+use Rattle.sessions.proofs.SessionTests.{session_open}
 use Rattle.sessions_change.proofs.Closes.{close0}
 use Rattle.sessions_change.proofs.close.close_session.Goals as goal
 
-pub returns-then-n-ne0 : goal.returns-then-n-ne0
+pub returns-in_err-first_refusal : goal.returns-in_err-first_refusal
 unfolding close_by is_ask
-returns-then-n-ne0 c p h = gives-refusal _ _ _ (stopped_first _ p _ _ refl _ (c.first_refusal-n.ensures p h) c.if-n-ne0.true)
+returns-in_err-first_refusal c p h =
+    gives-exit _ _ _ (first_stops _ p _ _ _ refl (c.in_err-first_refusal.ensures p h)) _ c.from_residual.ensures.1
 
 pub line_of-l-requires : goal.line_of-l-requires
 line_of-l-requires c =
-    let a = c.args in
-    let pd : Passed SESSIONS a.sizes.head a.authorized.now (exclusions_in a.xs.now a.sizes.count) a.ledger.now a.who.user = passes _ _ _ _ _ _ _
-    c.first_refusal-n.ensures c.if-n-ne0.false in
+    let pd = passed_by c.args.tables.now c.args.ledger.now c.args.who.user c.in_ok-first_refusal.ensures in
     pd.line
 
-pub returns-then-m-ne0 : goal.returns-then-m-ne0
+pub returns-in_err-session_refusal : goal.returns-in_err-session_refusal
 unfolding close_by can_give session_of line_of
-returns-then-m-ne0 c p h =
-    let a = c.args in
-    let pd : Passed SESSIONS a.sizes.head a.authorized.now (exclusions_in a.xs.now a.sizes.count) a.ledger.now a.who.user = passes _ _ _ _ _ _ _
-    c.first_refusal-n.ensures c.if-n-ne0.false in
-    gives-refusal _ _ _
-    (session_stopped _ p _ _ (pd.ready p h) _ refl _ c.line_of-l.ensures _ c.session_refusal-m.ensures c.if-m-ne0.true)
+returns-in_err-session_refusal c p h =
+    let pd = passed_by c.args.tables.now c.args.ledger.now c.args.who.user c.in_ok-first_refusal.ensures in
+    gives-exit _ _ _ (session_stops _ p _ _ _ (pd.ready p h) _ refl _ c.line_of-l.ensures c.in_err-session_refusal.ensures) _
+    c.from_residual-in_err-session_refusal.ensures.1
 
-pub closed-next-requires : goal.closed-next-requires
-closed-next-requires c =
-    let o : Session SESSIONS c.line_of-l.result c.args.who.session = session_open _ _ _ (sym c.if-m-ne0.false ∙ c.session_refusal-m.ensures) in
+pub closed-requires : goal.closed-requires
+closed-requires c =
+    let o = session_open SESSIONS c.line_of-l.result c.args.who.session c.in_ok-session_refusal.ensures in
     (o.below, o.opened)
 
 pub put_line-requires : goal.put_line-requires
 put_line-requires c =
-    let a = c.args in
-    let pd : Passed SESSIONS a.sizes.head a.authorized.now (exclusions_in a.xs.now a.sizes.count) a.ledger.now a.who.user = passes _ _ _ _ _ _ _
-    c.first_refusal-n.ensures c.if-n-ne0.false in
+    let pd = passed_by c.args.tables.now c.args.ledger.now c.args.who.user c.in_ok-first_refusal.ensures in
     pd.line
 
 pub returns : goal.returns
 unfolding line_of
 returns c p h =
-    let a = c.args in
-    let pd : Passed SESSIONS a.sizes.head a.authorized.now (exclusions_in a.xs.now a.sizes.count) a.ledger.now a.who.user = passes _ _ _ _ _ _ _
-    c.first_refusal-n.ensures c.if-n-ne0.false in
-    let o : Session SESSIONS c.line_of-l.result c.args.who.session = session_open _ _ _ (sym c.if-m-ne0.false ∙ c.session_refusal-m.ensures) in
+    let pd = passed_by c.args.tables.now c.args.ledger.now c.args.who.user c.in_ok-first_refusal.ensures in
+    let o = session_open SESSIONS c.line_of-l.result c.args.who.session c.in_ok-session_refusal.ensures in
     close0 _ p _ _ _ (pd.ready p h) o.below (rw (← c.line_of-l.ensures) o.opened)
-    _ _ _ c.line_of-l.ensures c.closed-next.ensures c.put_line.ensures
+    _ _ _ c.line_of-l.ensures c.closed.ensures c.put_line.ensures

@@ -1,69 +1,49 @@
 -- `sessions_change::open::open_session` meets its contract: each return names the tests that led there.
 -- Assumes nothing.
-use mathlib.Core.Path.{refl}
-use Prim.Native.Nat.{◌^◌, ◌<◌}
+use mathlib.Core.Path.{◌≡◌, refl}
+use Prim.Native.Nat.{◌*◌, ◌^◌, ◌<◌}
 use native.Mathlib.Omega.{arith}
 use Rattle.model.specs.Line.{SESSIONS}
 use Rattle.model.specs.Session.{is_ask}
 use Rattle.model.specs.Run.{open_by, line_of}
-use Rattle.exclusion_rows.specs.Rows.{exclusions_in}
-use Rattle.sessions.proofs.FirstSteps.{gives-refusal, stopped_first, Passed, passed as passes}
-use Rattle.sessions_change.proofs.Opens.{open14, may_open, open0}
+use Rattle.reasons.specs.Numbers.{in_64_bits}
+use Rattle.sessions.proofs.Reasons.{gives-exit_returned, gives-reason, first_stops, passed_by}
+use Rattle.sessions_change.proofs.Opens.{open14, open0}
 use Rattle.sessions_change.proofs.open.open_session.Goals as goal
 
-pub returns-then-n-ne0 : goal.returns-then-n-ne0
+pub returns-in_err-first_refusal : goal.returns-in_err-first_refusal
 unfolding open_by is_ask
-returns-then-n-ne0 c p h = gives-refusal _ _ _ (stopped_first _ p _ _ refl _ (c.first_refusal-n.ensures p h) c.if-n-ne0.true)
+returns-in_err-first_refusal c p h =
+    gives-exit_returned _ _ _ (first_stops _ p _ _ _ refl (c.in_err-first_refusal.ensures p h)) _ c.from_residual.ensures.1
 
 pub line_of-l-requires : goal.line_of-l-requires
 line_of-l-requires c =
-    let a = c.args in
-    let pd : Passed SESSIONS a.sizes.head a.authorized.now (exclusions_in a.xs.now a.sizes.count) a.ledger.now a.user = passes _ _ _ _ _ _ _
-    c.first_refusal-n.ensures c.if-n-ne0.false in
+    let pd = passed_by c.args.tables.now c.args.ledger.now c.args.user c.in_ok-first_refusal.ensures in
     omega (arith, pd.line)
 
-pub returns-then-size : goal.returns-then-size
+pub returns-in_default : goal.returns-in_default
 unfolding line_of
-returns-then-size c p h =
-    let a = c.args in
-    let pd : Passed SESSIONS a.sizes.head a.authorized.now (exclusions_in a.xs.now a.sizes.count) a.ledger.now a.user = passes _ _ _ _ _ _ _
-    c.first_refusal-n.ensures c.if-n-ne0.false in
-    let b : c.line_of-l.result.opened < 2 ^ SESSIONS = rw c.line_of-l.ensures pd.bits in
-    open14 SESSIONS _ _ (omega arith) b c.size.ensures p _ _ (pd.ready p h) c.line_of-l.ensures c.if-size.true
+returns-in_default c p h =
+    let pd = passed_by c.args.tables.now c.args.ledger.now c.args.user c.in_ok-first_refusal.ensures in
+    gives-reason _ _ c.from.ensures _ _ (open14 SESSIONS p _ _ (pd.ready p h) _ c.line_of-l.ensures c.in_default.ensures)
 
-pub opened-next-requires : goal.opened-next-requires
+pub opened-requires : goal.opened-requires
 unfolding line_of
-opened-next-requires c =
-    let a = c.args in
-    let pd : Passed SESSIONS a.sizes.head a.authorized.now (exclusions_in a.xs.now a.sizes.count) a.ledger.now a.user = passes _ _ _ _ _ _ _
-    c.first_refusal-n.ensures c.if-n-ne0.false in
+opened-requires c =
+    let pd = passed_by c.args.tables.now c.args.ledger.now c.args.user c.in_ok-first_refusal.ensures in
     let b : c.line_of-l.result.opened < 2 ^ SESSIONS = rw c.line_of-l.ensures pd.bits in
-    let k : c.lowest_closed-k.result < SESSIONS = may_open SESSIONS _ _ (omega arith) b c.size.ensures c.if-size.false _ c.lowest_closed-k.ensures in
-    (k, b)
+    (c.in-Some.ensures.1, b)
 
 pub put_line-requires : goal.put_line-requires
 put_line-requires c =
-    let a = c.args in
-    let pd : Passed SESSIONS a.sizes.head a.authorized.now (exclusions_in a.xs.now a.sizes.count) a.ledger.now a.user = passes _ _ _ _ _ _ _
-    c.first_refusal-n.ensures c.if-n-ne0.false in
+    let pd = passed_by c.args.tables.now c.args.ledger.now c.args.user c.in_ok-first_refusal.ensures in
     pd.line
-
-pub overflow_mul-result : goal.overflow_mul-result
-unfolding line_of
-overflow_mul-result c =
-    let a = c.args in
-    let pd : Passed SESSIONS a.sizes.head a.authorized.now (exclusions_in a.xs.now a.sizes.count) a.ledger.now a.user = passes _ _ _ _ _ _ _
-    c.first_refusal-n.ensures c.if-n-ne0.false in
-    let b : c.line_of-l.result.opened < 2 ^ SESSIONS = rw c.line_of-l.ensures pd.bits in
-    let k : c.lowest_closed-k.result < SESSIONS = may_open SESSIONS _ _ (omega arith) b c.size.ensures c.if-size.false _ c.lowest_closed-k.ensures in
-    omega arith
 
 pub returns : goal.returns
 unfolding line_of
 returns c p h =
-    let a = c.args in
-    let pd : Passed SESSIONS a.sizes.head a.authorized.now (exclusions_in a.xs.now a.sizes.count) a.ledger.now a.user = passes _ _ _ _ _ _ _
-    c.first_refusal-n.ensures c.if-n-ne0.false in
-    let b : c.line_of-l.result.opened < 2 ^ SESSIONS = rw c.line_of-l.ensures pd.bits in
-    open0 SESSIONS _ _ (omega arith) b c.size.ensures p _ _ (pd.ready p h) c.line_of-l.ensures c.if-size.false
-    _ _ _ c.lowest_closed-k.ensures c.opened-next.ensures c.put_line.ensures
+    let pd = passed_by c.args.tables.now c.args.ledger.now c.args.user c.in_ok-first_refusal.ensures in
+    let x = c.in-Some.ensures in
+    let e : in_64_bits (256 * c.in-Some.k) ≡ 256 * c.in-Some.k = omega (arith, x.1) in
+    rw e
+    (open0 SESSIONS p _ _ (pd.ready p h) _ c.line_of-l.ensures _ _ _ x.0 x.1 x.2 c.opened.ensures c.put_line.ensures)

@@ -1,61 +1,54 @@
 -- `sessions_show::show::show_session` meets its contract: each return names the tests that led there.
 -- Assumes nothing.
-use mathlib.Core.Path.{refl, sym, ◌∙◌}
+use mathlib.Core.Path.{refl}
 use borrow.Author.Rules.{rules}
 use Rattle.model.specs.Line.{SESSIONS, empty_session, session_at}
 use Rattle.model.specs.Session.{is_ask, can_give, session_of}
 use Rattle.model.specs.Run.{show_by, line_of}
-use Rattle.exclusion_rows.specs.Rows.{exclusions_in}
-use Rattle.sessions.proofs.FirstSteps.{shows-refusal, stopped_first, session_stopped, Passed, passed as passes}
-use Rattle.sessions.proofs.SessionTests.{Session, session_open}
+use Rattle.sessions.proofs.Reasons.{shows-exit, shows-reason, first_stops, session_stops, passed_by}
+use Rattle.sessions.proofs.SessionTests.{session_open}
 use Rattle.sessions_show.proofs.Shown.{show19, show0}
 use Rattle.sessions_show.proofs.show.show_session.Goals as goal
 
-pub returns-then-n-ne0 : goal.returns-then-n-ne0
+pub returns-in_err-first_refusal : goal.returns-in_err-first_refusal
 unfolding show_by is_ask
-returns-then-n-ne0 c p h eg ej = shows-refusal _ _ _ _ (stopped_first _ p _ _ refl _ (c.first_refusal-n.ensures p h) c.if-n-ne0.true)
+returns-in_err-first_refusal c p h eg ej =
+    shows-exit _ _ _ (first_stops _ p _ _ _ refl (c.in_err-first_refusal.ensures p h)) _ c.from_residual.ensures.1 _
 
 pub line_of-l-requires : goal.line_of-l-requires
 line_of-l-requires c =
-    let a = c.args in
-    let pd : Passed SESSIONS a.sizes.head a.authorized.now (exclusions_in a.xs.now a.sizes.count) a.ledger.now a.who.user = passes _ _ _ _ _ _ _
-    c.first_refusal-n.ensures c.if-n-ne0.false in
+    let pd = passed_by c.args.tables.now c.args.ledger.now c.args.who.user c.in_ok-first_refusal.ensures in
     pd.line
 
-pub returns-then-m-ne0 : goal.returns-then-m-ne0
+pub returns-in_err-session_refusal : goal.returns-in_err-session_refusal
 unfolding show_by can_give session_of line_of
-returns-then-m-ne0 c p h eg ej =
-    let a = c.args in
-    let pd : Passed SESSIONS a.sizes.head a.authorized.now (exclusions_in a.xs.now a.sizes.count) a.ledger.now a.who.user = passes _ _ _ _ _ _ _
-    c.first_refusal-n.ensures c.if-n-ne0.false in
-    shows-refusal _ _ _ _
-    (session_stopped _ p _ _ (pd.ready p h) _ refl _ c.line_of-l.ensures _ c.session_refusal-m.ensures c.if-m-ne0.true)
+returns-in_err-session_refusal c p h eg ej =
+    let pd = passed_by c.args.tables.now c.args.ledger.now c.args.who.user c.in_ok-first_refusal.ensures in
+    shows-exit _ _ _ (session_stops _ p _ _ _ (pd.ready p h) _ refl _ c.line_of-l.ensures c.in_err-session_refusal.ensures) _
+    c.from_residual-in_err-session_refusal.ensures.1 _
 
 pub returns-then-answer-ne40 : goal.returns-then-answer-ne40
 unfolding line_of
 returns-then-answer-ne40 c p h eg ej =
-    let a = c.args in
-    let pd : Passed SESSIONS a.sizes.head a.authorized.now (exclusions_in a.xs.now a.sizes.count) a.ledger.now a.who.user = passes _ _ _ _ _ _ _
-    c.first_refusal-n.ensures c.if-n-ne0.false in
-    let o : Session SESSIONS c.line_of-l.result c.args.who.session = session_open _ _ _ (sym c.if-m-ne0.false ∙ c.session_refusal-m.ensures) in
-    show19 _ p _ _ _ _ (pd.ready p h) o.below (rw (← c.line_of-l.ensures) o.opened) c.if-answer-ne40.true
+    let pd = passed_by c.args.tables.now c.args.ledger.now c.args.who.user c.in_ok-first_refusal.ensures in
+    let o = session_open SESSIONS c.line_of-l.result c.args.who.session c.in_ok-session_refusal.ensures in
+    shows-reason _ _ c.from.ensures _ _
+    (show19 _ p _ _ _ _ (pd.ready p h) o.below (rw (← c.line_of-l.ensures) o.opened) c.if-answer-ne40.true) _
 
-pub offset_bounds-l-k : goal.offset_bounds-l-k
-offset_bounds-l-k c =
-    let o : Session SESSIONS c.line_of-l.result c.args.who.session = session_open _ _ _ (sym c.if-m-ne0.false ∙ c.session_refusal-m.ensures) in
+pub offset_bounds-l-session : goal.offset_bounds-l-session
+offset_bounds-l-session c =
+    let o = session_open SESSIONS c.line_of-l.result c.args.who.session c.in_ok-session_refusal.ensures in
     search (rules, o.below)
 
-pub bounds-l-k : goal.bounds-l-k
-bounds-l-k c =
-    let o : Session SESSIONS c.line_of-l.result c.args.who.session = session_open _ _ _ (sym c.if-m-ne0.false ∙ c.session_refusal-m.ensures) in
-    search (rules, o.below)
+pub bounds-l-session : goal.bounds-l-session
+bounds-l-session c =
+    let o = session_open SESSIONS c.line_of-l.result c.args.who.session c.in_ok-session_refusal.ensures in
+    o.below
 
 pub returns : goal.returns
 unfolding line_of session_at empty_session
 returns c p h eg ej =
-    let a = c.args in
-    let pd : Passed SESSIONS a.sizes.head a.authorized.now (exclusions_in a.xs.now a.sizes.count) a.ledger.now a.who.user = passes _ _ _ _ _ _ _
-    c.first_refusal-n.ensures c.if-n-ne0.false in
-    let o : Session SESSIONS c.line_of-l.result c.args.who.session = session_open _ _ _ (sym c.if-m-ne0.false ∙ c.session_refusal-m.ensures) in
+    let pd = passed_by c.args.tables.now c.args.ledger.now c.args.who.user c.in_ok-first_refusal.ensures in
+    let o = session_open SESSIONS c.line_of-l.result c.args.who.session c.in_ok-session_refusal.ensures in
     show0 _ p _ _ _ _ (pd.ready p h) o.below (rw (← c.line_of-l.ensures) o.opened)
     c.if-answer-ne40.false _ _ _ _ _ c.line_of-l.ensures eg ej c.carried_by-permissions.ensures c.fill.ensures

@@ -10,9 +10,9 @@ use Rattle.survey_counts.proofs.counts.count_chunk.Given as goal
 
 abbrev pub invariant-loop-next : goal.invariant-loop-next
 invariant-loop-next l =
-    (l.next ≤ length l.chunk) × (l.kept ≤ 174) × (l.calls ≤ l.calls-2 + l.next) × (length l.line ≡ 174) × (length l.line ≡ length l.initial.line)
-    × (length l.ledger ≡ length l.initial.ledger) × (length l.counts ≡ 256) × Most l.counts l.calls
-    × ((more : List ℕ) → tally l.image l.initial.ledger l.initial.counts (lines_from (take l.kept-2 l.initial.line) (l.chunk ++ more))
+    (l.next ≤ length l.chunk) × (l.kept ≤ 174) × (l.calls ≤ l.fn.run.calls + l.next) × (length l.ledger ≡ length l.initial.ledger)
+    × (length l.counts ≡ 256) × Most l.counts l.calls
+    × ((more : List ℕ) → tally l.image l.initial.ledger l.initial.counts (lines_from (take l.fn.run.kept l.initial.line) (l.chunk ++ more))
     ≡ tally l.image l.ledger l.counts (lines_from (take l.kept l.line) (drop l.next l.chunk ++ more)))
 
 abbrev pub decreases-loop-next : goal.decreases-loop-next

@@ -1,15 +1,13 @@
--- Line after line: the reader goes from one exclusion to the next.
+-- Line after line: the reader goes from one exclusion to the next, i of them so far.
 -- Assumes nothing.
-use mathlib.Core.Path.{◌≡◌}
-use Prim.Native.Nat.{◌-◌, ◌*◌, ◌≤◌}
+use Prim.Native.Nat.{ℕ, ◌*◌, ◌-◌, ◌≤◌}
 use lib.ListN.{length}
+use Rattle.model.specs.Policy.{policy_of}
 use Rattle.survey_exclusions.proofs.ExclusionLaws.{Walked}
 use Rattle.survey_exclusions.proofs.exclusions.put_exclusions.Given as goal
 
-abbrev pub invariant-loop-i : goal.invariant-loop-i
-invariant-loop-i l =
-    (l.i ≤ l.count) × (l.next ≤ 84 * l.i) × (2688 ≤ length l.out) × (length l.out ≡ length l.initial.out)
-    × Walked l.image l.initial.out l.place l.i l.out l.next
+abbrev pub invariant-loop-at : goal.invariant-loop-at
+invariant-loop-at l = (i : ℕ) × (i ≤ length (policy_of l.image).exclusions) × (l.next ≤ 84 * i) × Walked l.image l.fn.out l.place i l.out l.next
 
-abbrev pub decreases-loop-i : goal.decreases-loop-i
-decreases-loop-i l = l.count - l.i
+abbrev pub decreases-loop-at : goal.decreases-loop-at
+decreases-loop-at l = length l.image - l.place

@@ -1,30 +1,36 @@
 -- `tables::read::read_direct` meets its contract.
 -- Assumes nothing.
-use Rattle.tables.proofs.Fills.{words_fit, read_judged, direct_judged}
+use Rattle.std.proofs.Common.{◌≡◌, Err, rules}
+use Rattle.tables.proofs.Fills.{tables_fit, tables_refused, tables_accepted, direct_read}
 use Rattle.tables.proofs.read.read_direct.Goals as goal
 
 pub settled-requires : goal.settled-requires
-settled-requires c =
-    λ h e. (words_fit _ _ c.gather-all.ensures.0 _ _ (λ h e. ((c.gather-all.ensures.1 h e).assigned_is, (c.gather-all.ensures.1 h e).juniors_is)) h e).roles
+settled-requires c = λ h e. (tables_fit _ _ c.gather-words.ensures.0 _ c.gather-words.ensures.1 h e).roles
 
-pub returns-then-settled : goal.returns-then-settled
-returns-then-settled c =
-    let fit = words_fit _ _ c.gather-all.ensures.0 _ _ (λ h e. ((c.gather-all.ensures.1 h e).assigned_is, (c.gather-all.ensures.1 h e).juniors_is)) in
-    let k = c.settled.ensures c.if-settled.true in (
-      read_judged _ _ c.gather-all.ensures.0 _ _ (λ h e. ((c.gather-all.ensures.1 h e).assigned_is, (c.gather-all.ensures.1 h e).juniors_is)) _ _ _
-          (λ p q. k p _ fit q),
-      direct_judged _ _ c.gather-all.ensures.0 _ _ (λ h e. ((c.gather-all.ensures.1 h e).assigned_is, (c.gather-all.ensures.1 h e).juniors_is)) _ _ _
-          (λ p q. k p _ fit q) _ _ _ _ c.gather-all.ensures.1,
+pub returns-in_err-words-clause-refused : goal.returns-in_err-words-clause-refused
+returns-in_err-words-clause-refused c =
+    let fit = tables_fit _ _ c.gather-words.ensures.0 _ c.gather-words.ensures.1 in
+    let e : c.from_residual.result ≡ Err c.in_err-words.field-0.0 = search rules in
+    rw e
+    (tables_refused _ _ c.gather-words.ensures.0 _ c.gather-words.ensures.1 _ _ _ (λ p q. c.settled.ensures c.if-settled.true p _ fit q) _ c.in_err-words.was)
+
+pub returns-then-settled-clause-accepted : goal.returns-then-settled-clause-accepted
+returns-then-settled-clause-accepted c =
+    let fit = tables_fit _ _ c.gather-words.ensures.0 _ c.gather-words.ensures.1 in (
+      tables_accepted _ _ c.gather-words.ensures.0 _ c.gather-words.ensures.1 _ _ _ (λ p q. c.settled.ensures c.if-settled.true p _ fit q) _ c.in_ok-words.was,
+      direct_read _ _ c.gather-words.ensures.0 _ c.gather-words.ensures.1 _ _ _ (λ p q. c.settled.ensures c.if-settled.true p _ fit q) _ c.in_ok-words.was,
     )
 
-pub judged-checked-requires : goal.judged-checked-requires
-judged-checked-requires c =
-    words_fit _ _ c.gather-all.ensures.0 _ _ (λ h e. ((c.gather-all.ensures.1 h e).assigned_is, (c.gather-all.ensures.1 h e).juniors_is))
+pub judged-requires : goal.judged-requires
+judged-requires c = tables_fit _ _ c.gather-words.ensures.0 _ c.gather-words.ensures.1
 
-pub returns : goal.returns
-returns c = (
-  read_judged _ _ c.gather-all.ensures.0 _ _ (λ h e. ((c.gather-all.ensures.1 h e).assigned_is, (c.gather-all.ensures.1 h e).juniors_is)) _ _ _
-      c.judged-checked.ensures,
-  direct_judged _ _ c.gather-all.ensures.0 _ _ (λ h e. ((c.gather-all.ensures.1 h e).assigned_is, (c.gather-all.ensures.1 h e).juniors_is)) _ _ _
-      c.judged-checked.ensures _ _ _ _ c.gather-all.ensures.1,
+pub returns-in_err-judged-clause-refused : goal.returns-in_err-judged-clause-refused
+returns-in_err-judged-clause-refused c =
+    let e : c.from_residual-in_err-judged.result ≡ Err c.in_err-judged.field-0.0 = search rules in
+    rw e (tables_refused _ _ c.gather-words.ensures.0 _ c.gather-words.ensures.1 _ _ _ c.judged.ensures _ c.in_err-judged.was)
+
+pub returns-clause-accepted : goal.returns-clause-accepted
+returns-clause-accepted c = (
+  tables_accepted _ _ c.gather-words.ensures.0 _ c.gather-words.ensures.1 _ _ _ c.judged.ensures _ c.in_ok-judged.was,
+  direct_read _ _ c.gather-words.ensures.0 _ c.gather-words.ensures.1 _ _ _ c.judged.ensures _ c.in_ok-judged.was,
 )

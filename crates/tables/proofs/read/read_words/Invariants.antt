@@ -10,17 +10,23 @@ use Rattle.tables.proofs.read.read_words.Given as goal
 
 abbrev pub invariant-loop-at : goal.invariant-loop-at
 invariant-loop-at l =
-    (1 ≤ l.at.place) × (l.at.place ≤ l.words - 1)
-    × (scan l.image l.h (l.words - l.at.place) l.at.place l.assigned l.t l.at.sum ≡ scan l.image l.h (l.words - 1) 1 l.initial.assigned start l.first)
-    × (l.t.exclusions ≤ 32) × (length l.places ≡ 32) × ((j : ℕ) → get_or l.places j 0 < l.words)
-    × (fold assigning l.assigned (entries_from l.image (l.words - l.at.place) l.at.place)
-    ≡ fold assigning l.initial.assigned (entries_from l.image (l.words - 1) 1))
-    × (fold granting (values l.granted) (entries_from l.image (l.words - l.at.place) l.at.place)
-    ≡ fold granting (values l.initial.granted) (entries_from l.image (l.words - 1) 1))
-    × (fold ordering l.juniors (entries_from l.image (l.words - l.at.place) l.at.place)
-    ≡ fold ordering l.initial.juniors (entries_from l.image (l.words - 1) 1))
-    × (fold limiting l.limits (entries_from l.image (l.words - l.at.place) l.at.place) ≡ fold limiting l.initial.limits (entries_from l.image (l.words - 1) 1))
-    × (take l.t.exclusions l.places ++ places_from l.image (l.words - l.at.place) l.at.place ≡ places_from l.image (l.words - 1) 1)
+    let s = l.image.bytes.now in
+    let rest = entries_from s (l.image.count - l.at.place) l.at.place in
+    let whole = entries_from s (l.image.count - 1) 1 in
+    record {
+      onward : 1 ≤ l.at.place;
+      inside : l.at.place ≤ l.image.count - 1;
+      scanned : scan s l.h (l.image.count - l.at.place) l.at.place l.tables.authorized l.t l.at.sum
+          ≡ scan s l.h (l.image.count - 1) 1 l.fn.tables.authorized start l.first;
+      few : l.t.exclusions ≤ 32;
+      size : length l.places ≡ 32;
+      below : (j : ℕ) → get_or l.places j 0 < l.image.count;
+      assigned_is : fold assigning l.tables.authorized rest ≡ fold assigning l.fn.tables.authorized whole;
+      granted_is : fold granting (values l.tables.granted) rest ≡ fold granting (values l.fn.tables.granted) whole;
+      juniors_is : fold ordering l.tables.below rest ≡ fold ordering l.fn.tables.below whole;
+      limits_is : fold limiting l.tables.limits rest ≡ fold limiting l.fn.tables.limits whole;
+      places_are : take l.t.exclusions l.places ++ places_from s (l.image.count - l.at.place) l.at.place ≡ places_from s (l.image.count - 1) 1;
+    }
 
 abbrev pub decreases-loop-at : goal.decreases-loop-at
-decreases-loop-at l = l.words - l.at.place
+decreases-loop-at l = l.image.count - l.at.place

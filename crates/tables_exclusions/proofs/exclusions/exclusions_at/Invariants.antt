@@ -3,7 +3,6 @@
 -- Assumes nothing.
 use mathlib.Core.Path.{◌≡◌}
 use mathlib.Core.List.{map}
-use Prim.Native.Nat.{◌≤◌, ◌-◌}
 use lib.ListN.{length, take}
 use Rattle.exclusion_rows.specs.Rows.{exclusion_of}
 use Rattle.tables_exclusions.specs.Exclusions.{exclusion_at}
@@ -11,7 +10,7 @@ use Rattle.tables_exclusions.proofs.exclusions.exclusions_at.Given as goal
 
 abbrev pub invariant-loop-i : goal.invariant-loop-i
 invariant-loop-i l =
-    (l.i ≤ l.count) × (length l.xs ≡ 32) × (take l.i (map exclusion_of l.xs) ≡ map (exclusion_at l.image l.words) (take l.i l.places))
-
-abbrev pub decreases-loop-i : goal.decreases-loop-i
-decreases-loop-i l = l.count - l.i
+    record {
+      size : length l.table.rows ≡ 32;
+      read : take l.i (map exclusion_of l.table.rows) ≡ map (exclusion_at l.image.bytes.now l.image.count) (take l.i l.places);
+    }

@@ -2,14 +2,10 @@
 -- to those so far, are those of the whole.
 -- Assumes nothing.
 use mathlib.Core.Path.{◌≡◌}
-use Prim.Native.Nat.{◌≤◌, ◌-◌}
+use Prim.Native.Nat.{◌-◌}
 use Rattle.model.specs.Policy.{fold, joining, entries_from}
 use Rattle.tables_exclusions.proofs.exclusions.members_in.Given as goal
 
 abbrev pub invariant-loop-place : goal.invariant-loop-place
 invariant-loop-place l =
-    (l.from ≤ l.place) × (l.place ≤ l.to)
-    × (fold joining l.set (entries_from l.image (l.to - l.place) l.place) ≡ fold joining l.members (entries_from l.image (l.to - l.from) l.from))
-
-abbrev pub decreases-loop-place : goal.decreases-loop-place
-decreases-loop-place l = l.to - l.place
+    fold joining l.set (entries_from l.image (l.to - l.place) l.place) ≡ fold joining l.members (entries_from l.image (l.to - l.from) l.from)

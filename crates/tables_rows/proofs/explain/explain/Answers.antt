@@ -7,13 +7,14 @@ use Rattle.model.specs.Sets.{has}
 use Rattle.model.specs.Policy.{with_selves, granter_by}
 use Rattle.model.specs.Session.{explanation}
 use Rattle.sets.specs.Words.{values}
-use Rattle.tables_rows.specs.Told.{told}
 use Rattle.tables_rows.proofs.Holders.{granter_same}
 use Rattle.tables_rows.proofs.explain.explain.Goals as goal
 
 pub returns : goal.returns
-returns c =
-    c.first_carrier.ensures
-    ∙ ap (λ (x : ℕ). told (explanation (granter_by (with_selves c.args.below.now) (has x)) c.args.set)) c.holders.ensures
-    ∙ ap (λ (name : ℕ → Option ℕ). told (explanation name c.args.set)) (λ i r. granter_same (with_selves c.args.below.now) (values c.args.granted.now)
-    c.args.p.0 r i)
+returns c = (
+  c.first_carrier.ensures.0
+      ∙ ap (λ (x : ℕ). explanation (granter_by (with_selves c.args.below.now) (has x)) c.args.set) c.holders.ensures
+      ∙ ap (λ (name : ℕ → Option ℕ). explanation name c.args.set)
+      (λ i r. granter_same (with_selves c.args.below.now) (values c.args.granted.now) c.args.p.0 r i),
+  c.first_carrier.ensures.1,
+)

@@ -1,28 +1,22 @@
-use mathlib.Core.Path.{ap, ◌∙◌}
-use mathlib.Core.Option.{Option}
-use Prim.Native.Nat.{ℕ}
-use borrow.Author.Rules.{rules}
-use Rattle.model.specs.Session.{two_roles}
-use Rattle.tables_rows.specs.Told.{told}
-use Rattle.tables_rows.proofs.Explaining.{seeks_start, seeks_end, seeks_found, seeks_next, seeks_less, told_some, told_none, explains_found, explains_none}
+use native.Mathlib.Omega.{arith}
+use Rattle.tables_rows.proofs.Explaining.{seeks_start, seeks_end, seeks_found, seeks_next, explains_found, explains_none, unnamed, granter_small}
 use Rattle.tables_rows.proofs.explain.first_carrier.Goals as goal
 
-pub loop-left-init : goal.loop-left-init
-loop-left-init c = seeks_start _ _ c.ranges.set.fits
+pub loop-k-init : goal.loop-k-init
+loop-k-init c =
+    rw (c.into_iter-k-iterator.ensures.into_iter_gives, c.members-k-items.ensures) (seeks_start _ _ c.ranges.set.fits)
 
-pub returns-then-x-ne-NONE : goal.returns-then-x-ne-NONE
-returns-then-x-ne-NONE c =
-    let e = c.two_roles-x.ensures ∙ ap (λ (o : Option ℕ). told (two_roles c.lowest-r.result.0 o)) c.granter.ensures in
-    explains_found _ _ c.lowest-r.result.0 _
-    (seeks_found _ _ c.loop-left.left _ c.loop-left.invariant c.lowest-r.ensures (told_some _ _ _ e c.if-x-ne-NONE.true)) e
+pub returns-in-Some-granter : goal.returns-in-Some-granter
+returns-in-Some-granter c =
+    let low = c.in-Some.ensures.steps.lowest in (
+      explains_found _ _ _ _ c.in-Some-granter.ensures (seeks_found _ _ _ _ c.loop-k.invariant low),
+      omega (arith, low.small, granter_small _ _ _ _ c.in-Some-granter.ensures),
+    )
 
-pub loop-left-smaller : goal.loop-left-smaller
-loop-left-smaller c = search (rules, seeks_less)
-
-pub loop-left-preserved : goal.loop-left-preserved
-loop-left-preserved c =
-    let e = c.two_roles-x.ensures ∙ ap (λ (o : Option ℕ). told (two_roles c.lowest-r.result.0 o)) c.granter.ensures in
-    seeks_next _ _ c.loop-left.left _ c.loop-left.invariant c.lowest-r.ensures (told_none _ _ _ e c.if-x-ne-NONE.false) _ c.without-left.ensures
+pub loop-k-preserved : goal.loop-k-preserved
+loop-k-preserved c =
+    let t = c.in-Some.ensures.steps in
+    seeks_next _ _ _ _ c.loop-k.invariant t.lowest (unnamed _ c.in_default.ensures) _ t.rest
 
 pub returns : goal.returns
-returns c = explains_none _ _ (seeks_end _ _ _ c.loop-left-test.false c.loop-left.invariant)
+returns c = (explains_none _ _ (seeks_end _ _ _ c.in-None.ensures.steps.0 c.loop-k.invariant), tt)

@@ -2,13 +2,10 @@
 -- granting role.
 -- Assumes nothing.
 use Rattle.model.specs.Tests.{is_some}
-use Rattle.model.specs.Sets.{has, count}
+use Rattle.model.specs.Sets.{has}
 use Rattle.model.specs.Policy.{with_selves, granter_by}
 use Rattle.tables_rows.proofs.Explaining.{Seeks}
 use Rattle.tables_rows.proofs.explain.first_carrier.Given as goal
 
-abbrev pub invariant-loop-left : goal.invariant-loop-left
-invariant-loop-left l = Seeks (λ r. is_some (granter_by (with_selves l.below) (has l.holding) r)) l.set l.left
-
-abbrev pub decreases-loop-left : goal.decreases-loop-left
-decreases-loop-left l = count 64 l.left
+abbrev pub invariant-loop-k : goal.invariant-loop-k
+invariant-loop-k l = Seeks (λ r. is_some (granter_by (with_selves l.below) (has l.holding) r)) l.set l.k-iterator.left

@@ -2,14 +2,10 @@
 -- far.
 -- Assumes nothing.
 use mathlib.Core.Path.{◌≡◌}
-use Prim.Native.Nat.{◌≤◌, ◌-◌}
 use lib.ListN.{get_or}
 use Rattle.model.specs.Sets.{has, set_of}
 use Rattle.sets.specs.Words.{values}
 use Rattle.tables_rows.proofs.holding.holders.Given as goal
 
 abbrev pub invariant-loop-r : goal.invariant-loop-r
-invariant-loop-r l = (l.r ≤ 64) × (l.found ≡ set_of (λ g. has (get_or (values l.granted) g 0) l.p.0) l.r)
-
-abbrev pub decreases-loop-r : goal.decreases-loop-r
-decreases-loop-r l = 64 - l.r
+invariant-loop-r l = l.found ≡ set_of (λ g. has (get_or (values l.granted) g 0) l.p.0) l.r

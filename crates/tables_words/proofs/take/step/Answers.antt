@@ -9,81 +9,29 @@ use Rattle.tables_words.specs.Step.{noting}
 use Rattle.tables_words.proofs.Steps.{took, mistook}
 use Rattle.tables_words.proofs.take.step.Goals as goal
 
-pub wrong_kind-requires : goal.wrong_kind-requires
-unfolding Small assigning granting ordering limiting noting entry_fault in_range repeats crowds pick
-wrong_kind-requires c = search rules
-
 pub returns-then-wrong_kind : goal.returns-then-wrong_kind
 unfolding Small assigning granting ordering limiting noting entry_fault in_range repeats crowds pick
 returns-then-wrong_kind c = search (rules, mistook)
-
-pub enum_known-e : goal.enum_known-e
-unfolding Small assigning granting ordering limiting noting entry_fault in_range repeats crowds pick
-enum_known-e c = search rules
 
 pub take_assignment-requires : goal.take_assignment-requires
 unfolding Small assigning granting ordering limiting noting entry_fault in_range repeats crowds pick
 take_assignment-requires c = rw c.in-Assignment.is at c.requires
 
-pub enum_known-e-in-Grant-1 : goal.enum_known-e-in-Grant-1
-unfolding Small assigning granting ordering limiting noting entry_fault in_range repeats crowds pick
-enum_known-e-in-Grant-1 c = search rules
-
 pub take_grant-requires : goal.take_grant-requires
 unfolding Small assigning granting ordering limiting noting entry_fault in_range repeats crowds pick
 take_grant-requires c = rw c.in-Grant.is at c.requires
-
-pub enum_known-e-in-Senior-1 : goal.enum_known-e-in-Senior-1
-unfolding Small assigning granting ordering limiting noting entry_fault in_range repeats crowds pick
-enum_known-e-in-Senior-1 c = search rules
 
 pub take_senior-requires : goal.take_senior-requires
 unfolding Small assigning granting ordering limiting noting entry_fault in_range repeats crowds pick
 take_senior-requires c = rw c.in-Senior.is at c.requires
 
-pub enum_known-e-in-Exclude-1 : goal.enum_known-e-in-Exclude-1
-unfolding Small assigning granting ordering limiting noting entry_fault in_range repeats crowds pick
-enum_known-e-in-Exclude-1 c = search rules
-
-pub take_exclusion-requires : goal.take_exclusion-requires
-unfolding Small assigning granting ordering limiting noting entry_fault in_range repeats crowds pick
-take_exclusion-requires c = search rules
-
-pub enum_known-e-in-Member-1 : goal.enum_known-e-in-Member-1
-unfolding Small assigning granting ordering limiting noting entry_fault in_range repeats crowds pick
-enum_known-e-in-Member-1 c = search rules
-
 pub member_fault-requires : goal.member_fault-requires
 unfolding Small assigning granting ordering limiting noting entry_fault in_range repeats crowds pick
 member_fault-requires c = rw c.in-Member.is at c.requires
 
-pub spared-requires : goal.spared-requires
-unfolding Small assigning granting ordering limiting noting entry_fault in_range repeats crowds pick
-spared-requires c = search rules
-
-pub enum_known-e-in-Limit-1 : goal.enum_known-e-in-Limit-1
-unfolding Small assigning granting ordering limiting noting entry_fault in_range repeats crowds pick
-enum_known-e-in-Limit-1 c = search rules
-
 pub take_limit-requires : goal.take_limit-requires
 unfolding Small assigning granting ordering limiting noting entry_fault in_range repeats crowds pick
 take_limit-requires c = rw c.in-Limit.is at c.requires
-
-pub enum_told-1 : goal.enum_told-1
-unfolding Small assigning granting ordering limiting noting entry_fault in_range repeats crowds pick
-enum_told-1 c = search rules
-
-pub spared-requires-in-End : goal.spared-requires-in-End
-unfolding Small assigning granting ordering limiting noting entry_fault in_range repeats crowds pick
-spared-requires-in-End c = search rules
-
-pub enum_told-in-Unknown : goal.enum_told-in-Unknown
-unfolding Small assigning granting ordering limiting noting entry_fault in_range repeats crowds pick
-enum_told-in-Unknown c = search rules
-
-pub spared-requires-in-Unknown : goal.spared-requires-in-Unknown
-unfolding Small assigning granting ordering limiting noting entry_fault in_range repeats crowds pick
-spared-requires-in-Unknown c = search rules
 
 pub returns-in-Assignment : goal.returns-in-Assignment
 unfolding Small assigning granting ordering limiting noting entry_fault in_range repeats crowds pick

@@ -1,0 +1,4 @@
+-- What the contracts of changes say, beside the model's definitions.
+
+-- Helpers of code and proofs: no theorem and no exported contract is stated in these.
+pub mod Lowest

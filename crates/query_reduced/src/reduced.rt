@@ -1,0 +1,18 @@
+// The reduced exclusions.
+ghost use Rattle.std.specs.Prelude.{◌≤◌};
+
+// An exclusion by the members that are not counted yet and by its n less those that are: fewer than n of the members
+// may still join.
+#[derive(Clone, Copy)]
+pub struct ReducedExclusion {
+    pub members: u64,
+    pub n: u32,
+}
+
+// The reduced exclusions: the first `count` rows.
+#[derive(Clone, Copy)]
+pub struct Reduced {
+    pub rows: [ReducedExclusion; 32],
+    pub count: usize,
+    ghost few: { count ≤ 32 },
+}
