@@ -118,6 +118,7 @@ cases() { # ENGINE
     it "$e: the client killed at every step of each call, ward $w" on "$e" steps $w
   done
   it "$e: policies with and without limits while others work" flipped "$e" free 30
+  it "$e: a policy changed beside a client that is stopped at every step of an ask" on "$e" changed free
   it "$e: no memory grows" on "$e" memory "$2"
 }
 

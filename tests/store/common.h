@@ -74,6 +74,7 @@ int test_cut(char **words);
 int test_schema(char **words);
 int test_steps(char **words);
 int test_stopped(char **words);
+int test_changed(char **words);
 int test_server(char **words);
 int test_cuts(char **words);
 int test_pool(char **words);

@@ -116,8 +116,8 @@ static void start_clear(const char *ward)
 
 static const uint64_t sorts[] = {OPEN, SHORT_ASK, ADOPT, CLOSE};
 
-/* A child makes the request and is killed at a step; 0 if the request had no such step. */
-static int killed_at(const char *ward, const record *r, int wanted)
+/* A child makes the request and is killed or stopped at a step; 0 if the request had no such step, and is done. */
+static pid_t halted_at(const char *ward, const record *r, int wanted, void (*act)(void))
 {
     int status;
     fflush(stdout);
@@ -126,12 +126,12 @@ static int killed_at(const char *ward, const record *r, int wanted)
         nutrameza_store_reply reply;
         connect_as("step", wanted);
         nutrameza_store_show(store, ward, r->user, 0, &reply); /* the image is kept from here on */
-        watch_steps(wanted, kill_self);
-        _exit(nutrameza_number_of(issue(ward, r, &reply)) != 0);
+        watch_steps(wanted, act);
+        _exit(nutrameza_number_of(insist(ward, r, &reply)) != 0);
     }
-    waitpid(pid, &status, 0);
-    MUST(WIFSIGNALED(status) || status == 0);
-    return WIFSIGNALED(status);
+    waitpid(pid, &status, WUNTRACED);
+    MUST(!WIFEXITED(status) || status == 0);
+    return WIFEXITED(status) ? 0 : pid;
 }
 
 /* steps WARD: the client killed before and after every step of open, short ask, adopt and close */
@@ -144,7 +144,7 @@ int test_steps(char **words)
         int more = 1;
         for (int wanted = 0; more; wanted++, steps++) {
             record r = prepared(words[0], sorts[sort], (uint64_t)(wanted % STAFF));
-            more = killed_at(words[0], &r, wanted);
+            more = halted_at(words[0], &r, wanted, kill_self) != 0;
             answered_once(words[0], &r);
         }
     }
@@ -194,6 +194,51 @@ int test_stopped(char **words)
         MUST(status == 0);
         IS((uint64_t)entries_of_token(words[0], r[k].token), 1);
     }
+    settled(words[0]);
+    return wrong;
+}
+
+/* The policy is changed while the client is stopped: the change is done at once, or waits until the client goes on. */
+static void changed_beside(const char *ward, pid_t client, int limits)
+{
+    int status = -1;
+    fflush(stdout);
+    pid_t pid = fork();
+    if (pid == 0) {
+        connect_as("changing", limits);
+        uint64_t returned = nutrameza_store_policy(store, ward, image, make_image(limits, NOBODY, STAFF, 0), 0, NULL);
+        _exit(nutrameza_number_of(returned) != 0);
+    }
+    for (double end = now() + 0.5; now() < end && waitpid(pid, &status, WNOHANG) == 0;)
+        nap(0.005);
+    kill(client, SIGCONT);
+    if (status == -1)
+        waitpid(pid, &status, 0);
+    MUST(status == 0);
+    waitpid(client, &status, 0);
+    MUST(status == 0);
+}
+
+/* changed WARD: the policy changed, to limits and back, while a client is stopped at each step of an ask; what it asked
+ * for is done once, under the policy before or the one behind */
+int test_changed(char **words)
+{
+    int steps = 0, more = 1;
+    connect_as("changed", 0);
+    clear(words[0]);
+    for (; more; steps++) {
+        record r = prepared(words[0], SHORT_ASK, (uint64_t)(steps % STAFF));
+        pid_t client = halted_at(words[0], &r, steps / 2, stop_self);
+        more = client != 0;
+        if (more)
+            changed_beside(words[0], client, steps % 2 == 0);
+        answered_once(words[0], &r);
+        settled(words[0]);
+    }
+    printf("%d changes\n", steps - 1);
+    MUST(steps > 20);
+    size_t len = make_image(strcmp(words[0], "limited") == 0, NOBODY, STAFF, 0);
+    MUST(nutrameza_number_of(nutrameza_store_policy(store, words[0], image, len, 0, NULL)) == 0);
     settled(words[0]);
     return wrong;
 }

@@ -42,8 +42,8 @@ static const struct {
     {"flip", 3, test_flip}, {"rivals", 1, test_rivals}, {"usage", 0, test_usage}, {"repeats", 0, test_repeats},
     {"windows", 0, test_windows}, {"policy", 0, test_policy}, {"damage", 0, test_damage}, {"import", 0, test_import},
     {"journal", 0, test_journal}, {"cut", 0, test_cut}, {"schema", 0, test_schema}, {"steps", 1, test_steps},
-    {"stopped", 2, test_stopped}, {"server", 4, test_server}, {"cuts", 3, test_cuts}, {"pool", 1, test_pool},
-    {"rolled", 2, test_rolled}, {"unfit", 0, test_unfit},
+    {"stopped", 2, test_stopped}, {"changed", 1, test_changed}, {"server", 4, test_server}, {"cuts", 3, test_cuts},
+    {"pool", 1, test_pool}, {"rolled", 2, test_rolled}, {"unfit", 0, test_unfit},
     {"durable", 2, test_durable}, {"full", 2, test_full}, {"threads", 1, test_threads},
     {"one_handle", 1, test_one_handle}, {"fork", 0, test_fork}, {"memory", 1, test_memory},
 };
