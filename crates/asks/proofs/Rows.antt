@@ -34,7 +34,6 @@ use Rattle.tables_rows.proofs.Carrying.{length_selves, wanted_row}
 use Rattle.query.specs.Carry.{rows_of, Carry}
 use Rattle.query_reduced.specs.declared.reduced.ReducedExclusion.{ReducedExclusion}
 use Rattle.query_reduced.specs.Met.{reduced_met}
-use Rattle.exclusion_rows.specs.Rows.{exclusions_in}
 use Rattle.exclusion_rows.specs.Table.{exclusions_of}
 use Rattle.policy_tables.specs.declared.PolicyTables.{PolicyTables}
 use Rattle.policy_tables.specs.Held.{Holds}
@@ -138,5 +137,4 @@ module _ (p : Policy) (u : ℕ) (x : Others) (ledger : List ℕ) (l : Line) (f :
 
 -- ---- what a policy's tables hold of it
 pub known_of : (t : PolicyTables) (p : Policy) → Holds t p → Known t.head t.authorized (exclusions_of t.exclusions) p
-unfolding exclusions_in
 known_of t p h = record { head_is = h.head_is; own_is = h.own_is; exclusions_are = h.exclusions_are }

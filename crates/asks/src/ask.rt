@@ -20,32 +20,31 @@ use exclusion_rows::ExclusionTable;
 use ledger::bytes::{line_of, put_line};
 use ledger_change::put_in;
 use limits_left::roles_left;
-use model::Line;
 use policy_tables::PolicyTables;
 use query_rank::Job;
 use query_reduced::exclusions::reduce;
+use query_reduced::line_session::LineSession;
 use reasons::{Reason, Refusal};
 use search_steps::Query;
 use sessions::answer::fill;
 use sessions::given::UserSession;
 
-// The best admissible role set for session k of a line that meets every exclusion, by the rows of the roles that the
+// The best admissible role set for a session of a line that meets every exclusion, by the rows of the roles that the
 // user may activate.
 pub fn best(
     rows: &[[u64; 4]; 64],
     authorized: u64,
     xs: &ExclusionTable,
-    l: Line,
-    k: usize,
+    at: LineSession,
     wanted: Wanted,
 ) -> Option<u64>
-    requires { k < SESSIONS }
-    ensures { (p : Policy) (u : ℕ) (x : Others) → Asked p u x l k authorized (exclusions_of xs.now) (rows_of rows.now)
-        → answered result ≡ choose (left_to p u x l k) l k (value wanted.lower) (value wanted.upper) (number_of wanted.first)
-        (number_of wanted.second) }
+    ensures { (p : Policy) (u : ℕ) (x : Others)
+        → Asked p u x at.line at.session authorized (exclusions_of xs.now) (rows_of rows.now)
+        → answered result ≡ choose (left_to p u x at.line at.session) at.line at.session (value wanted.bounds.lower)
+        (value wanted.bounds.upper) (number_of wanted.first) (number_of wanted.second) }
 {
-    let reduced = reduce(xs, l, k);
-    let lower = wanted.lower;
+    let reduced = reduce(xs, at);
+    let lower = wanted.bounds.lower;
     let job = Job {
         lower,
         first: wanted.first,
@@ -56,11 +55,11 @@ pub fn best(
         exclusions: reduced.list(),
         job,
     };
-    search::solve(&query, wanted.upper, authorized)
+    search::solve(&query, wanted.bounds.upper, authorized)
 }
 
 // The best admissible role set takes the place of the active roles of the session, on a line that meets every
-// exclusion, and fills the answer; 20 where no set is admissible.
+// exclusion, and fills the answer; 20 where no set is admissible. That the line is there is a clause, as at `put_line`.
 fn put_best(
     ledger: &mut [u8],
     tables: &PolicyTables,
@@ -75,17 +74,19 @@ fn put_best(
         (exclusions_of tables.now.exclusions)
         → Answers (asked_on p ledger.old who.user who.session
         (choose (left_to p who.user x (line_of SESSIONS ledger.old who.user) who.session) (line_of SESSIONS ledger.old who.user)
-        who.session (value wanted.lower) (value wanted.upper) (number_of wanted.first) (number_of wanted.second)))
+        who.session (value wanted.bounds.lower) (value wanted.bounds.upper) (number_of wanted.first) (number_of wanted.second)))
         (fault_of result) ledger.new answer.old answer.new }
 {
-    let rows = tables_rows::carried::carried(&tables.granted, &tables.below, authorized);
+    let rows = tables_rows::carried::carried(&tables.grants(), authorized);
     let u = who.user as usize;
-    let k = who.session as usize;
-    let l = line_of(ledger, u);
-    let Some(s) = best(&rows, authorized, &tables.exclusions, l, k, wanted) else {
+    let at = LineSession {
+        line: line_of(ledger, u),
+        session: who.session as usize,
+    };
+    let Some(s) = best(&rows, authorized, &tables.exclusions, at, wanted) else {
         return Err(Reason::NoRoles);
     };
-    put_line(ledger, u, put_in(l, k, s));
+    put_line(ledger, u, put_in(at.line, at.session, s));
     fill(answer, s, query::carry::carried_by(&rows, s));
     Ok(())
 }

@@ -69,7 +69,7 @@ pub wrote_text : (p : Policy) (u : ℕ) (x : Others) (k : ℕ) (ledger granted b
     → Reduces xs l k rs
     → (length (text_by h.roles h.permissions own (rows_of rows) low high (masks_of rs) (ns_of rs) (length rs) a b) ≤ TEXT_ROOM
     → Written before (text_by h.roles h.permissions own (rows_of rows) low high (masks_of rs) (ns_of rs) (length rs) a b) after n)
-    → Written before (text_of (left_to p u x (line_of SESSIONS ledger u) k) (line_of SESSIONS ledger u) k low high a b) after n
+    → Written before (text_of (left_to p u x l k) l k low high a b) after n
 unfolding meaning unbarred exclusions_met
 wrote_text p u x k ledger granted below own xs h l rows rs low high a b {before} {after} {n} range eh s el below-k er d w =
     let m = left_to p u x l k in
@@ -81,5 +81,4 @@ wrote_text p u x k ledger granted below own xs h l rows rs low high a b {before}
     (sym (ap (λ (y : Line). (left_to p u x y k).authorized) el ∙ s.own_is))
     ∙ text_is m l k (rows_of rows) (masks_of rs) (ns_of rs) (length rs) t low high a b in
     let q = (text_small m (left_meant (meaning p u) (meant p range u) x l k) l k low high inside (rw el s.met) a b).bytes in
-    let z : Written before (text_of m l k low high a b) after n = subst (λ (y : List ℕ). Written before y after n) e (w (rw e q)) in
-    subst (λ (y : Line). Written before (text_of (left_to p u x y k) y k low high a b) after n) el z
+    subst (λ (y : List ℕ). Written before y after n) e (w (rw e q))

@@ -1,6 +1,6 @@
 -- The cases of a clause text: refused as an ask is up to 18, longer than the buffer, and written.
 -- Assumes nothing.
-use mathlib.Core.Path.{◌≡◌, refl, sym, ap, ◌∙◌}
+use mathlib.Core.Path.{◌≡◌, refl, sym, ap, subst, ◌∙◌}
 use mathlib.Core.Bool.{true, false, not}
 use mathlib.Core.Option.{none}
 use mathlib.Core.List.{List, [], ◌∷◌}
@@ -11,6 +11,7 @@ use lib.Dec.{ltb}
 use lib.ListN.{length}
 use borrow.Table.Steps.{cases}
 use borrow.Author.Tests.{lt-leb, ltb-true, ltb-false, lt-ltb, le-ltb}
+use Rattle.model.specs.declared.Line.{Line}
 use Rattle.model.specs.Tests.{pick, first}
 use Rattle.model.specs.Bytes.{number}
 use Rattle.model.specs.Policy.{Policy, Meaning, meaning}
@@ -113,15 +114,21 @@ module _ (p : Policy) (ledger : List ℕ) (u k : ℕ) (lower upper : List ℕ) (
   abbrev told_by_lem : Event
   told_by_lem = step_on SESSIONS p ledger (clauses_by u k lower upper a b (length before))
 
-  pub tells_text : InRange p → AskReady SESSIONS p ledger u k (sizes lower upper) (number lower) (number upper) a b 40
+  pub tells_text : {l : Line} → InRange p → AskReady SESSIONS p ledger u k (sizes lower upper) (number lower) (number upper) a b 40
       → Quiet SESSIONS p ledger u k lower upper a b (length before)
-      → lo ≡ number lower → hi ≡ number upper → Written before (text_of m (line_of SESSIONS ledger u) k lo hi a b) after size
+      → lo ≡ number lower → hi ≡ number upper → l ≡ line_of SESSIONS ledger u
+      → Written before (text_of (left_to p u (others SESSIONS p ledger u k lower upper a b (length before)) l k) l k lo hi a b) after size
       → n ≡ pick {X = ℕ} (ltb (length before) size) 19 (256 * size % 2 ^ 64) → Tells told_by_lem n before after
   unfolding text_for pick returned wrote written unbarred exclusions_met
-  tells_text range r quiet el eh w e = cases (ltb (length before) size) long fits
+  tells_text range r quiet el eh there found e = cases (ltb (length before) size) long fits
     where
       t : List ℕ
       t = text_of m (line_of SESSIONS ledger u) k (number lower) (number upper) a b
+
+      w : Written before (text_of m (line_of SESSIONS ledger u) k lo hi a b) after size
+      w =
+          let x = others SESSIONS p ledger u k lower upper a b (length before) in
+          subst (λ (y : Line). Written before (text_of (left_to p u x y k) y k lo hi a b) after size) there found
 
       wrote_it : Written before t after size
       wrote_it = rw (← el, ← eh) w

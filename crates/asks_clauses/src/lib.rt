@@ -6,7 +6,7 @@ ghost use Rattle.std.specs.Prelude.{◌≡◌, List, ℕ, ◌+◌, ◌*◌, ◌%
 ghost use Rattle.model.specs.Tests.{pick};
 ghost use Rattle.model.specs.Policy.{Policy};
 ghost use Rattle.model.specs.Limits.{Others};
-ghost use Rattle.model.specs.Line.{SESSIONS, line_size};
+ghost use Rattle.model.specs.Line.{SESSIONS};
 ghost use Rattle.model.specs.Dimacs.{text_of};
 ghost use Rattle.model.specs.Run.{step_on, clauses_by, line_of};
 ghost use Rattle.model.specs.Ranges.{InRange};
@@ -22,17 +22,20 @@ ghost use Rattle.asks_clauses.specs.Tells.{Tells};
 
 use asks_request::request::{Request, Wanted, limited_refusal};
 use clauses_hard::question::Question;
+use clauses_lines::variables::Variables;
 use ledger::bytes::line_of;
 use limits_left::roles_left;
+use model::Line;
 use policy_tables::PolicyTables;
 use query_reduced::exclusions::reduce;
+use query_reduced::line_session::LineSession;
 use reasons::{Reason, Refusal};
 use sessions::given::UserSession;
 
 // The length of the clause text of an ask on a line that meets every exclusion; it is written to the front of the
 // buffer if it fits.
 fn write_clauses(
-    ledger: &[u8],
+    l: Line,
     tables: &PolicyTables,
     authorized: u64,
     who: UserSession,
@@ -40,32 +43,38 @@ fn write_clauses(
     out: &mut [u8],
 ) -> usize
     requires { (tables.now.head.roles ≤ 64) × (tables.now.head.permissions ≤ 256)
-        × (line_size SESSIONS * who.user + line_size SESSIONS ≤ length ledger.now) × (who.session < SESSIONS) }
-    ensures { (p : Policy) (x : Others) → InRange p → p.head ≡ tables.now.head
-        → Searched p who.user x ledger.now who.session (values tables.now.granted) tables.now.below authorized
+        × (who.session < SESSIONS) }
+    ensures { (p : Policy) (x : Others) (ledger : List ℕ) → InRange p → p.head ≡ tables.now.head
+        → Searched p who.user x ledger who.session (values tables.now.granted) tables.now.below authorized
         (exclusions_of tables.now.exclusions)
+        → l ≡ line_of SESSIONS ledger who.user
         → Written out.old
-        (text_of (left_to p who.user x (line_of SESSIONS ledger.now who.user) who.session)
-        (line_of SESSIONS ledger.now who.user) who.session (value wanted.lower) (value wanted.upper)
+        (text_of (left_to p who.user x l who.session) l who.session (value wanted.bounds.lower) (value wanted.bounds.upper)
         (number_of wanted.first) (number_of wanted.second))
         out.new result }
 {
-    let rows = tables_rows::carried::carried(&tables.granted, &tables.below, 18446744073709551615);
-    let l = line_of(ledger, who.user as usize);
-    let reduced = reduce(&tables.exclusions, l, who.session as usize);
+    let rows = tables_rows::carried::carried(&tables.grants(), 18446744073709551615);
+    let at = LineSession {
+        line: l,
+        session: who.session as usize,
+    };
+    let reduced = reduce(&tables.exclusions, at);
     let head = tables.head;
-    let lower = wanted.lower;
-    let upper = wanted.upper;
-    let question = Question {
+    let lower = wanted.bounds.lower;
+    let upper = wanted.bounds.upper;
+    let variables = Variables {
         roles: head.roles as usize,
         permissions: head.permissions as usize,
+    };
+    let question = Question {
+        variables,
         authorized,
         lower,
         upper,
         first: wanted.first,
         second: wanted.second,
     };
-    clauses::whole::write(out, &rows, question, reduced.list())
+    clauses::whole::write(out, &rows, question, &reduced)
 }
 
 // 19 for a text that is longer than the buffer, else its length.
@@ -95,6 +104,7 @@ pub fn ask_clauses(
     let wanted = limited_refusal(ledger, tables, request, 40)?;
     let own = roles_left(ledger, tables, request.who);
     let room = out.len();
-    let size = write_clauses(ledger, tables, own, request.who, wanted, out);
+    let l = line_of(ledger, request.who.user as usize);
+    let size = write_clauses(l, tables, own, request.who, wanted, out);
     told(size, room)
 }

@@ -1,12 +1,14 @@
 -- The cases of an obstacle: refused as an ask is up to 17, a buffer of another length, nothing in the way, and told.
 -- Assumes nothing.
-use mathlib.Core.Path.{◌≡◌, refl, sym, ap, ◌∙◌}
-use mathlib.Core.Bool.{not}
+use mathlib.Core.Path.{◌≡◌, refl, sym, ap, ap₂, ◌∙◌}
+use mathlib.Core.Bool.{Bool, not}
 use mathlib.Core.Option.{Option, none, some}
 use mathlib.Core.List.{List, [], ◌∷◌}
 use Prim.Native.Nat.{ℕ, ◌+◌, ◌*◌}
 use lib.ListN.{length}
 use borrow.Author.Tests.{lt-leb, eq-eqb, ne_eqb}
+use Rattle.model.specs.declared.Head.{Head}
+use Rattle.model.specs.declared.Exclusions.{Exclusions}
 use Rattle.model.specs.Tests.{pick, first}
 use Rattle.model.specs.Bytes.{number}
 use Rattle.model.specs.Policy.{Policy, meaning}
@@ -16,10 +18,10 @@ use Rattle.model.specs.Obstacle.{Obstacle, obstacle_of}
 use Rattle.model.specs.Session.{Refusal, bad_session, is_closed, bad_set, bad_permission, bad_bounds, bad_pair, no_obstacle, refuse, refusal_number, refusal_extra, is_ask, can_give, obstacle_for, is_none, applies, obstructed, perform, session_of, query_of}
 use Rattle.model.specs.Session as rules
 use Rattle.model.specs.Run.{Call, Event, line_at, step_on, obstacle_by, returned, filled_with, answered, line_of, told}
-use Rattle.sessions.specs.Calls.{Shows}
+use Rattle.sessions.specs.Calls.{Known, Shows}
 use Rattle.sessions.proofs.FirstSteps.{shows-refusal, refuses, performs, holds, fails, ends}
 use Rattle.asks_request.specs.Refusals.{sizes, query_refusal, bounds_refusal, limited_refusal}
-use Rattle.asks_request.proofs.Requests.{AskReady}
+use Rattle.asks_request.proofs.Requests.{AskReady, Passed, passed}
 use Rattle.asks_request.proofs.Refused.{number_of, extras, or_session, test, own_tests, refused}
 use Rattle.asks_obstacle.specs.Telling.{reply_of, Tells}
 
@@ -29,6 +31,14 @@ shows-refused : (e : Event) (n m x : ℕ) (ledger room : List ℕ) → n ≡ m +
 unfolding returned refuse answered filled_with
 shows-refused e n m x ledger room q h =
     record { number = q ∙ sym (ap (λ (y : Event). returned y.reply) h); buffer = sym (ap (λ (y : Event). answered room y.reply) h) }
+
+-- what code holds that was not refused an ask with the objectives 0
+pub passed_unaimed : {W : ℕ} {head : Head} {own : List ℕ} {xs : Exclusions} {limits ledger : List ℕ} {u k : ℕ} {sized : Bool} {low high a b room n : ℕ}
+    → ((p : Policy) → Known head own xs p → p.limits ≡ limits → n ≡ limited_refusal W p ledger u k sized low high a b room)
+    → a ≡ 0 → b ≡ 0 → n ≡ 0 → Passed W head own xs limits ledger u k sized low high 0 0 room
+passed_unaimed {W = W} {ledger = ledger} {u = u} {k = k} {sized = sized} {low = low} {high = high} {room = room} e x y z =
+    passed _ _ _ _ _ _ _ _ _ _ _ _ _ _ _
+    (λ p h l. e p h l ∙ ap₂ (λ (i j : ℕ). limited_refusal W p ledger u k sized low high i j room) x y) z
 
 module _ (W : ℕ) (p : Policy) (ledger : List ℕ) (u k : ℕ) (lower upper : List ℕ) (room : ℕ) where
   abbrev pub call : Call

@@ -6,7 +6,7 @@ ghost use Rattle.std.specs.Prelude.{◌≡◌, List, ◌++◌, ℕ, ◌*◌, ◌
 ghost use Rattle.model.specs.Bytes.{bytes_of};
 ghost use Rattle.model.specs.Policy.{Policy, meaning};
 ghost use Rattle.model.specs.Limits.{Others};
-ghost use Rattle.model.specs.Line.{SESSIONS, line_size};
+ghost use Rattle.model.specs.Line.{SESSIONS};
 ghost use Rattle.model.specs.Obstacle.{obstacle_of};
 ghost use Rattle.model.specs.Run.{step_on, obstacle_by, line_of};
 ghost use Rattle.reasons.specs.Numbers.{returned_by};
@@ -23,9 +23,11 @@ use asks_request::request::{Request, Wanted, limited_refusal};
 use exclusion_rows::number_of;
 use ledger::bytes::line_of;
 use limits_left::roles_left;
+use model::Line;
 use obstacles::{Roles, obstacle};
 use obstacles_lacks::found::{Lack, Obstacle};
 use policy_tables::PolicyTables;
+use query_reduced::line_session::LineSession;
 use reasons::{Reason, Refusal};
 use sessions::first::roles_of;
 use sessions::given::UserSession;
@@ -94,32 +96,26 @@ fn told(found: Option<Obstacle>, roles: &mut [u8]) -> Result<u64, Refusal>
     }
 }
 
-// What stands in the way of an ask for session k of a line that meets every exclusion.
+// What stands in the way of an ask for a session of the user's line, which meets every exclusion.
 fn found_for(
-    ledger: &[u8],
+    l: Line,
     tables: &PolicyTables,
     roles: Roles,
     who: UserSession,
     wanted: Wanted,
 ) -> Option<Obstacle>
-    requires { (line_size SESSIONS * who.user + line_size SESSIONS ≤ length ledger.now) × (who.session < SESSIONS) }
-    ensures { (p : Policy) (x : Others)
-        → Searched p who.user x ledger.now who.session (values tables.now.granted) tables.now.below roles.free
+    requires { who.session < SESSIONS }
+    ensures { (p : Policy) (x : Others) (ledger : List ℕ)
+        → Searched p who.user x ledger who.session (values tables.now.granted) tables.now.below roles.free
         (exclusions_of tables.now.exclusions)
-        → (meaning p who.user).authorized ≡ roles.own
-        → found_of result ≡ obstacle_of (meaning p who.user) x (line_of SESSIONS ledger.now who.user) who.session
-        (value wanted.lower) (value wanted.upper) }
+        → (meaning p who.user).authorized ≡ roles.own → l ≡ line_of SESSIONS ledger who.user
+        → found_of result ≡ obstacle_of (meaning p who.user) x l who.session (value wanted.bounds.lower) (value wanted.bounds.upper) }
 {
-    let l = line_of(ledger, who.user as usize);
-    obstacle(
-        &tables.granted,
-        &tables.below,
-        &tables.exclusions,
-        l,
-        who.session as usize,
-        roles,
-        wanted,
-    )
+    let at = LineSession {
+        line: l,
+        session: who.session as usize,
+    };
+    obstacle(&tables.grants(), &tables.exclusions, at, roles, wanted)
 }
 
 // What stands in the way of an ask, written to the buffer and returned. Limits bar roles as in an ask.
@@ -143,5 +139,6 @@ pub fn ask_obstacle(
     let free = roles_left(ledger, tables, who);
     let own = roles_of(&tables.authorized, who.user as usize);
     let mine = Roles { own, free };
-    told(found_for(ledger, tables, mine, who, wanted), roles)
+    let l = line_of(ledger, who.user as usize);
+    told(found_for(l, tables, mine, who, wanted), roles)
 }

@@ -10,7 +10,7 @@ use Rattle.asks_request.specs.Refusals.{sized_of, lower_of, upper_of}
 -- the bounds and the objectives wanted are those of the request
 pub record Wants (bounds : Option Bounds) (first second : ℕ) (w : Wanted) : Type 0 where
   pub lengths : sized_of bounds ≡ true
-  pub lower-is : value w.lower ≡ lower_of bounds
-  pub upper_is : value w.upper ≡ upper_of bounds
+  pub lower-is : value w.bounds.lower ≡ lower_of bounds
+  pub upper_is : value w.bounds.upper ≡ upper_of bounds
   pub first_is : number_of w.first ≡ first
   pub second_is : number_of w.second ≡ second

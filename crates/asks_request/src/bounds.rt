@@ -1,6 +1,5 @@
-// The bounds of an ask as permission sets: 32 bytes read into four words, and whether a set has permissions of the
-// policy alone.
-ghost use Rattle.std.specs.Prelude.{◌≡◌, ◌*◌, ◌^◌, ltb, length, MatchOption};
+// The bounds of an ask as permission sets: 32 bytes read into four words.
+ghost use Rattle.std.specs.Prelude.{◌≡◌, length, MatchOption};
 ghost use Rattle.model.specs.Bytes.{number};
 ghost use Rattle.sets.specs.Words.{value};
 ghost use Rattle.asks_request.specs.Refusals.{BoundedBy, Unsized, Sized};
@@ -35,26 +34,4 @@ pub fn bounds_of(lower: &[u8], upper: &[u8]) -> Option<Bounds>
         lower: bound(lower)?,
         upper: bound(upper)?,
     })
-}
-
-// The word, whose lowest bit is permission `at`, has permissions below n alone.
-fn word_below(word: u64, at: u16, n: u16) -> bool
-    ensures { result ≡ ltb (word * 2 ^ at) (2 ^ n) }
-{
-    if n <= at {
-        return word == 0;
-    }
-    let k = n - at;
-    if k < 64 {
-        return word < (1 << k);
-    }
-    true
-}
-
-// The set has permissions below n alone.
-pub fn below(set: [u64; 4], n: u16) -> bool
-    ensures { result ≡ ltb (value set) (2 ^ n) }
-{
-    let low = word_below(set[0], 0, n) & word_below(set[1], 64, n);
-    low & word_below(set[2], 128, n) & word_below(set[3], 192, n)
 }

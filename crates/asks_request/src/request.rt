@@ -2,20 +2,20 @@
 ghost use Rattle.std.specs.Prelude.{◌≡◌, IfOk};
 ghost use Rattle.model.specs.Line.{SESSIONS};
 ghost use Rattle.model.specs.Policy.{Policy};
-ghost use Rattle.sessions.specs.Calls.{Known};
+ghost use Rattle.sessions.specs.Calls.{KnownBy};
 ghost use Rattle.sets.specs.Words.{value};
-ghost use Rattle.exclusion_rows.specs.Table.{exclusions_of};
 ghost use Rattle.reasons.specs.Numbers.{fault_of, refusal_of};
 ghost use Rattle.asks_request.specs.Refusals.{sized_of, lower_of, upper_of, bounds_refusal as bounds_refusal_of, query_refusal as query_refusal_of, ask_refusal as ask_refusal_of, limited_refusal as limited_refusal_of};
 ghost use Rattle.asks_request.specs.Wishes.{Wants};
 
-use crate::bounds::{Bounds, below};
+use crate::bounds::Bounds;
 use ledger::bytes::line_of;
 use policy_tables::PolicyTables;
 use query_rank::objective::Objective;
 use reasons::{Reason, Refusal};
 use sessions::first::{first_refusal, session_refusal};
 use sessions::given::UserSession;
+use sets::counted::Counted;
 
 // An ask, as a host makes it: the session of a user, the bounds where both are 32 bytes long, and the numbers of the
 // objectives (01: aims) on permissions and on roles. These are read late: the clauses `refused` have 9 to 17 before 18.
@@ -30,8 +30,7 @@ pub struct Request {
 // What is asked for: the bounds as sets, and the objectives on permissions and on roles.
 #[derive(Clone, Copy)]
 pub struct Wanted {
-    pub lower: [u64; 4],
-    pub upper: [u64; 4],
+    pub bounds: Bounds,
     pub first: Objective,
     pub second: Objective,
 }
@@ -48,12 +47,10 @@ fn bounds_refusal(
     ensures refused { fault_of result ≡ bounds_refusal_of permissions (value bounds.lower) (value bounds.upper) request.first request.second room }
     ensures given { IfOk result (Wants (Some bounds) request.first request.second) }
 {
-    let lower = bounds.lower;
-    let upper = bounds.upper;
-    if !below(lower, permissions) || !below(upper, permissions) {
+    if !bounds.lower.below(permissions) || !bounds.upper.below(permissions) {
         return Err(Reason::Permission);
     }
-    if !sets::perm_within(lower, upper) {
+    if !sets::perm_within(bounds.lower, bounds.upper) {
         return Err(Reason::Bounds);
     }
     let first = Objective::try_from(request.first)?;
@@ -62,8 +59,7 @@ fn bounds_refusal(
         return Err(Reason::Room);
     }
     Ok(Wanted {
-        lower,
-        upper,
+        bounds,
         first,
         second,
     })
@@ -89,7 +85,7 @@ pub fn ask_refusal(
     request: Request,
     room: usize,
 ) -> Result<Wanted, Reason>
-    ensures refused { (p : Policy) → Known tables.now.head tables.now.authorized (exclusions_of tables.now.exclusions) p
+    ensures refused { (p : Policy) → KnownBy tables.now p
         → fault_of result ≡ ask_refusal_of SESSIONS p ledger.now request.who.user request.who.session (sized_of request.bounds)
         (lower_of request.bounds) (upper_of request.bounds) request.first request.second room }
     ensures given { IfOk result (Wants request.bounds request.first request.second) }
@@ -107,7 +103,7 @@ pub fn limited_refusal(
     request: Request,
     room: usize,
 ) -> Result<Wanted, Refusal>
-    ensures refused { (p : Policy) → Known tables.now.head tables.now.authorized (exclusions_of tables.now.exclusions) p
+    ensures refused { (p : Policy) → KnownBy tables.now p
         → p.limits ≡ tables.now.limits
         → refusal_of result ≡ limited_refusal_of SESSIONS p ledger.now request.who.user request.who.session (sized_of request.bounds)
         (lower_of request.bounds) (upper_of request.bounds) request.first request.second room }

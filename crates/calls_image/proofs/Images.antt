@@ -5,19 +5,18 @@ use Rattle.std.proofs.Common.{List, ℕ, ◌≤◌}
 use Rattle.model.specs.declared.Head.{Head}
 use Rattle.model.specs.declared.Checked.{Checked}
 use Rattle.model.specs.declared.Checked.TheVariants.{Accepted, Refused}
-use Rattle.model.specs.Image.{empty_rows, check_number}
+use Rattle.model.specs.Image.{check_number}
 use Rattle.model.specs.Judgement.{judge}
 use Rattle.model.specs.Policy.{policy_of, below_table}
 use Rattle.model.specs.Ranges.{InRange}
 use Rattle.model_laws.proofs.Judgements.{accepted_in_range}
-use Rattle.sets.specs.Words.{value, values}
-use Rattle.exclusion_rows.specs.Rows.{exclusions_in}
+use Rattle.sets.specs.Words.{values}
+use Rattle.exclusion_rows.specs.Table.{exclusions_of}
 use Rattle.std.specs.Prelude.{Result, Ok, Err}
 use Rattle.reasons.specs.declared.Refusal.{Refusal}
 use Rattle.reasons.specs.Numbers.{number_of, refusal_of, checked_of}
 use Rattle.policy_tables.specs.declared.PolicyTables.{PolicyTables}
-use Rattle.policy_tables.specs.Held.{Blank, Holds}
-use Rattle.tables.specs.Tables.{Fresh}
+use Rattle.policy_tables.specs.Held.{Holds}
 use Rattle.sessions.specs.Calls.{Known}
 
 -- a judgement's number
@@ -32,17 +31,6 @@ judged-refused q f = sym q ∙ ap checked_of f
 
 pub judged-accepted : {o : Result Head Refusal} {k : Checked} {h : Head} → checked_of o ≡ k → o ≡ Ok h → k ≡ Accepted h
 judged-accepted q f = sym q ∙ ap checked_of f
-
--- tables of zeros are fresh
-pub blank-fresh : {t : PolicyTables} → Blank t → Fresh t
-unfolding empty_rows values value
-blank-fresh b =
-    record {
-      assigned_none = b.authorized_none;
-      granted_none = ap values b.granted_none;
-      juniors_none = b.below_none;
-      limits_none = b.limits_none;
-    }
 
 module _ (s : List ℕ) {t : PolicyTables} (h : Holds t (policy_of s)) where
   -- the tables are those of the image's policy
@@ -64,8 +52,7 @@ module _ (s : List ℕ) {t : PolicyTables} (h : Holds t (policy_of s)) where
     held_permissions = subst (λ (x : Head). x.permissions ≤ 256) h.head_is (accepted_in_range s h' e).permissions.1
 
   -- and so known to a call on a line
-  pub held_known : Known t.head t.authorized (exclusions_in t.exclusions.rows t.exclusions.count) (policy_of s)
-  unfolding exclusions_in
+  pub held_known : Known t.head t.authorized (exclusions_of t.exclusions) (policy_of s)
   held_known = record { head_is = h.head_is; own_is = h.own_is; exclusions_are = h.exclusions_are }
 
 -- the numbers of an accepted image are in their ranges

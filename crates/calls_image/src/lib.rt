@@ -34,7 +34,8 @@ pub fn show_loop(image: &[u8], chain: &mut [u8]) -> u64
     returned(hierarchy_loop::chain::show_loop(&juniors, head.roles, chain))
 }
 
-// Writes the tidy image of the image's policy at the front of the buffer.
+// Writes the tidy image of the image's policy at the front of the buffer. Here as in each call the judgement of the
+// image is taken apart by `let .. else` (docs/ACCEPTANCE.md).
 pub fn write_tidy(image: &[u8], out: &mut [u8]) -> u64
     ensures { Writes (tidy_call image.now out.old) result out.new }
 {
@@ -55,10 +56,5 @@ pub fn fill_table(image: &[u8], table: &mut [u8]) -> u64
     let Ok(()) = outcome else {
         return refused(outcome);
     };
-    refused(grant_table::table::grant_table(
-        &policy.granted,
-        &policy.below,
-        policy.head.roles,
-        table,
-    ))
+    refused(grant_table::table::grant_table(&policy.grants(), policy.head.roles, table))
 }

@@ -11,7 +11,9 @@ use policy_tables::PolicyTables;
 use reasons::refused;
 use tables::read::read;
 
-// Carries a ledger from so many sessions a user to so many.
+// Carries a ledger from so many sessions a user to so many. An enum of the two moves would give the same two numbers on
+// to `move_lines`, and a third number of sessions needs only one more pair of them. The judgement is taken apart as in
+// each call, by `let .. else` (docs/ACCEPTANCE.md).
 fn moved(image: &[u8], old: &[u8], new: &mut [u8], from: u8, to: u8) -> u64
     requires { (0 < from) × (from ≤ SESSIONS) × (to ≤ SESSIONS) }
     ensures { Gives (move from to image.now old.now new.old) result new.new }

@@ -1,5 +1,5 @@
 // What stands in the way of an ask, over byte slices: the image is read first, and the call is refused as the image is,
-// or goes by its policy.
+// or goes by its policy, by `let .. else` as each call (docs/ACCEPTANCE.md).
 #![tactic(auto)]
 
 ghost use Rattle.std.specs.Prelude.{length};

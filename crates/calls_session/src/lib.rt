@@ -1,5 +1,5 @@
 // The calls on a user's session, over byte slices: each reads its image first and is refused as the image is, and then
-// goes by its policy.
+// goes by its policy. Each takes the judgement of its image apart itself, by `let .. else` (docs/ACCEPTANCE.md).
 #![tactic(auto)]
 
 ghost use Rattle.std.specs.Prelude.{◌≡◌, length};

@@ -10,8 +10,7 @@ use lib.ListN.{length}
 use borrow.Author.Tests.{eq-eqb, ne_eqb}
 use Rattle.model.specs.declared.Head.{Head}
 use Rattle.model.specs.declared.Checked.TheVariants.{Accepted, Refused}
-use Rattle.model.specs.Tests.{pick}
-use Rattle.model.specs.Sets.{with, set_of, count}
+use Rattle.model.specs.Sets.{set_of, count}
 use Rattle.model.specs.Bytes.{bytes_of}
 use Rattle.model.specs.Judgement.{judge}
 use Rattle.model.specs.Policy.{Policy, policy_of, meaning}
@@ -23,19 +22,13 @@ use Rattle.octets.specs.Splice.{splice}
 use Rattle.octets.proofs.Splices.{splice_all}
 use Rattle.hierarchy.specs.Replies.{Replies}
 use Rattle.hierarchy.proofs.Filling.{filled_whole}
-use Rattle.hierarchy.proofs.Joining.{set_of-next}
 use Rattle.model_stopped.specs.Stopped.{stopped_set, telling, stopped_on, stopped_by, stopped_call}
 
--- ---- the set, user by user
+-- ---- the set
 
 -- whether user u is stopped
 abbrev pub stops : ℕ → Policy → List ℕ → ℕ → Bool
 stops W p ledger u = not (sound W (meaning p u) (line_of W ledger u))
-
-pub set_next : (W : ℕ) (p : Policy) (ledger : List ℕ) (u found next : ℕ) (good : Bool) → found ≡ set_of (stops W p ledger) u
-    → good ≡ sound W (meaning p u) (line_of W ledger u) → next ≡ pick (not good) (with found u) found → next ≡ set_of (stops W p ledger) (u + 1)
-set_next W p ledger u found next good e t q =
-    set_of-next (stops W p ledger) u found next e (q ∙ ap (λ (b : Bool). pick (not b) (with found u) found) t)
 
 pub set_all : (W : ℕ) (p : Policy) (ledger : List ℕ) (u found : ℕ) → u ≡ p.head.users → found ≡ set_of (stops W p ledger) u
     → found ≡ stopped_set W p ledger

@@ -4,36 +4,31 @@
 ghost use Rattle.std.specs.Prelude.{◌≡◌, ◌*◌, ◌≤◌, length};
 ghost use Rattle.model.specs.Policy.{Policy};
 ghost use Rattle.model.specs.Line.{SESSIONS, line_size};
-ghost use Rattle.exclusion_rows.specs.Table.{exclusions_of};
 ghost use Rattle.hierarchy.specs.Replies.{Replies};
 ghost use Rattle.reasons.specs.Numbers.{returned_by};
-ghost use Rattle.sessions.specs.Calls.{Known};
+ghost use Rattle.sessions.specs.Calls.{KnownBy};
 ghost use Rattle.model_stopped.specs.Stopped.{stopped_set as stopped_set_of, stopped_on, stopped_call};
 
-use hierarchy::member::joined;
 use ledger::bytes::LINE;
 use limits_lines::lines::line_sound;
 use policy_tables::PolicyTables;
 use reasons::{Reason, Refusal, refused, returned};
 use tables::read::read;
 
-// The users whose line is not sound, user u as bit u.
+// The users whose line is not sound, user u as bit u. It asks of the ledger what `line_sound` does.
 fn stopped_set(ledger: &[u8], policy: &PolicyTables) -> u64
     requires { length ledger.now ≡ line_size SESSIONS * policy.now.head.users }
-    ensures { (p : Policy) → Known policy.now.head policy.now.authorized (exclusions_of policy.now.exclusions) p
+    ensures { (p : Policy) → KnownBy policy.now p
         → result ≡ stopped_set_of SESSIONS p ledger.now }
 {
-    let mut found: u64 = 0;
-    for u in 0..policy.head.users as usize {
-        found = joined(found, u, !line_sound(ledger, policy, u));
-    }
-    found
+    let users = policy.head.users as usize;
+    sets::set_of(users, |u| !line_sound(ledger, policy, u))
 }
 
 // Under an accepted policy: refused where the ledger does not fit, and where the buffer has not 8 bytes; else these are
 // the users, and the extra is how many they are.
 fn tell(ledger: &[u8], policy: &PolicyTables, users: &mut [u8]) -> Result<u64, Refusal>
-    ensures { (p : Policy) → Known policy.now.head policy.now.authorized (exclusions_of policy.now.exclusions) p
+    ensures { (p : Policy) → KnownBy policy.now p
         → Replies (stopped_on SESSIONS p ledger.now (length users.old)) (returned_by result) users.old users.new }
 {
     if ledger.len() != LINE * policy.head.users as usize {
@@ -47,7 +42,7 @@ fn tell(ledger: &[u8], policy: &PolicyTables, users: &mut [u8]) -> Result<u64, R
     Ok(sets::size(set) as u64)
 }
 
-// Tells whom the image stops.
+// Tells whom the image stops. By `let .. else` as each call (docs/ACCEPTANCE.md).
 pub fn tell_stopped(image: &[u8], ledger: &[u8], users: &mut [u8]) -> u64
     ensures { Replies (stopped_call SESSIONS image.now ledger.now (length users.old)) result
         users.old users.new }

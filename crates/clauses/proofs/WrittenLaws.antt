@@ -8,7 +8,6 @@ use native.Mathlib.Numerals.{add-one}
 use native.Mathlib.Omega.{arith}
 use lib.ListN.{length, set, take, drop}
 use lib.Seq.{sets, sets-eq}
-use Rattle.model_clauses.specs.Texts.{TEXT_ROOM}
 use Rattle.clauses_bytes.specs.Putting.{behind, stored, Puts}
 use Rattle.clauses.specs.Writing.{Needs, Written}
 
@@ -30,10 +29,7 @@ stored_is l at (b ∷ bs) h =
 
 -- ---- a text that is written if it fits
 
--- a buffer that has room for every text, and the length of a text
-pub needs_none : (room : ℕ) (t : List ℕ) → TEXT_ROOM ≤ room → length t ≤ TEXT_ROOM → Needs room t 0
-needs_none room t h i = record { too_long = λ q. absurd (omega arith); fits = λ q. omega arith }
-
+-- the length of a text
 pub needs_size : (room : ℕ) (t : List ℕ) (n : ℕ) → n ≡ length t → Needs room t n
 needs_size room t n e = record { too_long = λ q. e; fits = λ q. omega arith }
 

@@ -3,21 +3,16 @@ ghost use Rattle.std.specs.Prelude.{◌≤◌, length};
 ghost use Rattle.model_clauses.specs.Texts.{TEXT_ROOM};
 ghost use Rattle.clauses.specs.Writing.{Needs, Written};
 ghost use Rattle.clauses_text.specs.Whole.{text_for};
+ghost use Rattle.query_reduced.specs.Reduction.{listed};
 
 use clauses_hard::question::Question;
 use clauses_text::whole::put_text;
-use query_reduced::reduced::ReducedExclusion;
+use query_reduced::reduced::Reduced;
 
 // What the text needs of a buffer of this length: nothing where every text fits, else its length, by a walk that writes
 // nothing.
-fn needed(
-    buffer: usize,
-    rows: &[[u64; 4]; 64],
-    q: Question,
-    exclusions: &[ReducedExclusion],
-) -> usize
-    requires { (q.roles ≤ 64) × (q.permissions ≤ 256) × (length exclusions.now ≤ 32) }
-    ensures { length (text_for q rows.now exclusions.now) ≤ TEXT_ROOM → Needs buffer (text_for q rows.now exclusions.now) result }
+fn needed(buffer: usize, rows: &[[u64; 4]; 64], q: Question, exclusions: &Reduced) -> usize
+    ensures { let text = text_for q rows.now (listed exclusions.now) in length text ≤ TEXT_ROOM → Needs buffer text result }
 {
     if 8388608 <= buffer {
         return 0;
@@ -26,15 +21,8 @@ fn needed(
 }
 
 // The length of the text, which is written to the front of the buffer if it fits.
-pub fn write(
-    out: &mut [u8],
-    rows: &[[u64; 4]; 64],
-    q: Question,
-    exclusions: &[ReducedExclusion],
-) -> usize
-    requires { (q.roles ≤ 64) × (q.permissions ≤ 256) × (length exclusions.now ≤ 32) }
-    ensures { length (text_for q rows.now exclusions.now) ≤ TEXT_ROOM
-        → Written out.old (text_for q rows.now exclusions.now) out.new result }
+pub fn write(out: &mut [u8], rows: &[[u64; 4]; 64], q: Question, exclusions: &Reduced) -> usize
+    ensures { let text = text_for q rows.now (listed exclusions.now) in length text ≤ TEXT_ROOM → Written out.old text out.new result }
 {
     let size = needed(out.len(), rows, q, exclusions);
     if out.len() < size {

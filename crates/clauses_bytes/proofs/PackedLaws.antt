@@ -102,6 +102,8 @@ module _ (p : ℕ) where
   pub packed_width_five : 4294967296 ≤ p → 5 ≡ length (packed_text p)
   packed_width_five g = ap length (packed_five p _ refl _ refl _ refl _ refl _ refl g)
 
+pub ruleset packed_widths = (packed_width_one, packed_width_two, packed_width_three, packed_width_four, packed_width_five)
+
 -- ---- decimals, the last digit highest
 
 packed_end : (k a : ℕ) → a < 256 → packed_to k a ≡ a ∷ []

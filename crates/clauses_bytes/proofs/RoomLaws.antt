@@ -56,6 +56,8 @@ width_two n g h = ap length (decimal-two n (figure (n / 10)) (figure n) refl ref
 pub width_three : (n : ℕ) → 100 ≤ n → n < 1000 → 3 ≡ length (decimal n)
 width_three n g h = ap length (decimal_three n (figure (n / 10 / 10)) (figure (n / 10)) (figure n) refl refl refl g h)
 
+pub ruleset low_widths = (width_one, width_two, width_three)
+
 pub width_more : {w : ℕ} (n : ℕ) → w ≡ length (decimal (n / 10 / 10 / 10)) → 1000 ≤ n → 3 + w ≡ length (decimal n)
 width_more n e h =
     let t = figure (n / 10 / 10) ∷ figure (n / 10) ∷ figure n ∷ [] in

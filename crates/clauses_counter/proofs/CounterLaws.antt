@@ -9,8 +9,6 @@ use native.Mathlib.Numerals.{add-one}
 use native.Mathlib.Omega.{arith}
 use lib.Dec.{eqb}
 use lib.ListN.{length, get_or, length-append}
-use mir.Val.{Fits}
-use mir.Syntax.{w64}
 use borrow.Table.Steps.{cases}
 use borrow.Author.Tests.{eqb-true, eqb-false}
 use Rattle.model.specs.Sets.{has, one, count_to, count}
@@ -143,11 +141,8 @@ module _ (s m n : ℕ) (e : m ≡ count 64 s) where
   pub helpers_are : m * n ≡ length (variables_in s) * n
   helpers_are = ap (λ (x : ℕ). x * n) (e ∙ sym (variables_length s))
 
-  pub helpers-small : n ≤ 4294967295 → m * n ≤ 274877906880
-  helpers-small h = mul-le-mul {n₁ = m} {m₁ = n} {n₂ = 64} {m₂ = 4294967295} (omega (arith, count-le s)) h
-
-  pub helpers_fit : n ≤ 4294967295 → Fits w64 (m * n)
-  helpers_fit h = record { fits = omega (arith, helpers-small h) }
+  pub helpers_small : n ≤ 4294967295 → m * n ≤ 274877906880
+  helpers_small h = mul-le-mul {n₁ = m} {m₁ = n} {n₂ = 64} {m₂ = 4294967295} (omega (arith, count-le s)) h
 
 -- ---- the exclusions from one on
 
@@ -171,17 +166,18 @@ pub counters_goes :
     → Along l at whole (lines_of w (counters masks ns (count - (i + 1)) (i + 1) (a + more))) b r
 counters_goes w masks ns count i a n more p s h en e = along_goes (counters-next w masks ns count i a n more h en e) s p
 
--- the same of the exclusions as a list
+-- the same of the exclusions as a list, where those that are walked are these
 pub exclusion_goes :
-    {l m b whole : List ℕ} {at next r : ℕ} (w : ℕ) (xs : List ReducedExclusion) (i a n more : ℕ) (d : ReducedExclusion)
-    → Puts m next (lines_of w (counter n a (variables_in (get_or xs i d).members))) b r
+    {l m b whole : List ℕ} {at next r : ℕ} (w : ℕ) (xs ys : List ReducedExclusion) (i a n more : ℕ) (d : ReducedExclusion) → ys ≡ xs
+    → Puts m next (lines_of w (counter n a (variables_in (get_or ys i d).members))) b r
     → Along l at whole (lines_of w (counters (masks_of xs) (ns_of xs) (length xs - i) i a)) m next
-    → i < length xs → n ≡ (get_or xs i d).n → more ≡ length (variables_in (get_or xs i d).members) * n
+    → i < length ys → n ≡ (get_or ys i d).n → more ≡ length (variables_in (get_or ys i d).members) * n
     → Along l at whole (lines_of w (counters (masks_of xs) (ns_of xs) (length xs - (i + 1)) (i + 1) (a + more))) b r
-exclusion_goes w xs i a n more d p s h en e =
-    let em : get_or (masks_of xs) i 0 ≡ (get_or xs i d).members = get_or-map (λ (x : ReducedExclusion). x.members) xs i d 0 h in
-    let ens : get_or (ns_of xs) i 0 ≡ (get_or xs i d).n = get_or-map (λ (x : ReducedExclusion). x.n) xs i d 0 h in
-    counters_goes w (masks_of xs) (ns_of xs) (length xs) i a n more (rw em p) s h (en ∙ sym ens) (rw em e)
+exclusion_goes w xs ys i a n more d f p s h en e =
+    let t : i < length xs = rw f at h in
+    let em : get_or (masks_of xs) i 0 ≡ (get_or ys i d).members = get_or-map (λ (x : ReducedExclusion). x.members) xs i d 0 t ∙ rw f in
+    let ens : get_or (ns_of xs) i 0 ≡ (get_or ys i d).n = get_or-map (λ (x : ReducedExclusion). x.n) xs i d 0 t ∙ rw f in
+    counters_goes w (masks_of xs) (ns_of xs) (length xs) i a n more (rw em p) s t (en ∙ sym ens) (rw em e)
 
 pub counters-start : (l : List ℕ) (at w : ℕ) (masks ns : List ℕ) (count a : ℕ)
     → Along l at (lines_of w (counters masks ns count 0 a)) (lines_of w (counters masks ns (count - 0) 0 a)) l at

@@ -9,16 +9,17 @@ use native.Mathlib.Decide.{dec_lt}
 use native.Mathlib.Omega.{arith}
 use lib.Pow.{pow_pos}
 use lib.ListN.{get_or}
+use Rattle.model.specs.Tests.{all_below}
 use Rattle.model.specs.Sets.{has, one, count}
 use Rattle.model.specs.Clauses.{when, holds, fails, role_variable}
 use Rattle.model.specs.Dimacs.{literal_text, literals_text}
+use Rattle.model_laws.proofs.Every.{at_below}
 use Rattle.model_laws.proofs.SetLaws.{has_low, has_beyond}
 use Rattle.sets.specs.Members.{without, Lowest}
 use Rattle.sets.specs.Words.{value, joined}
 use Rattle.sets.proofs.Taken.{without_lt, without_gone, without_other, count-without}
 use Rattle.query.specs.Carry.{Turned}
-use Rattle.query_reduced.specs.Met.{all_below}
-use Rattle.query_reduced.proofs.MetLaws.{below_at, every}
+use Rattle.query_reduced.proofs.MetLaws.{every}
 use Rattle.clauses_bytes.specs.Putting.{Puts}
 use Rattle.clauses_lines.specs.Lines.{line_of, lines_of}
 use Rattle.clauses_hard.specs.Parts.{roles_in, Columns, carrier, carriers_to, carried_one}
@@ -81,8 +82,8 @@ unfolding value joined all_below has
 columns_are R row t low n e turned =
     record {
       same =
-          λ r q h g. turned r q (rw (e, has_low every R r h) (below_at (has every) 64 r refl (omega arith)))
-          (below_at (has (value (every ∷ every ∷ every ∷ every ∷ []))) 256 q refl g);
+          λ r q h g. turned r q (rw (e, has_low every R r h) (at_below (has every) 64 refl r (omega arith)))
+          (at_below (has (value (every ∷ every ∷ every ∷ every ∷ []))) 256 refl q g);
     }
 
 -- the line by the column is that by the rows

@@ -8,7 +8,7 @@ use native.Mathlib.Nat.{mod-lt, mod-eq_of_lt}
 use native.Mathlib.Decide.{dec_lt}
 use native.Mathlib.Omega.{arith}
 use lib.Pow.{pow_pos}
-use lib.Count.{ones, ones-le}
+use lib.Count.{ones}
 use lib.ListN.{get_or}
 use mir.Val.{Fits}
 use mir.Syntax.{w64}
@@ -41,9 +41,6 @@ rest-is ws fit from l =
 abbrev pub Between : ℕ → ℕ → ℕ → Type 0
 Between s from at = (k : ℕ) → from ≤ k → k < at → has s k ≡ false
 
-pub between_none : (s at : ℕ) → Between s at at
-between_none s at k g h = absurd (omega arith)
-
 module _ (s from at rest : ℕ) (none : Between s from at) (part : Rest s at rest) where
   -- none before the place, and none in the d numbers from there on: none in all
   between_more : (d : ℕ) → d ≤ 64 - at % 64 → ((k : ℕ) → k < d → has rest k ≡ false) → Between s from (at + d)
@@ -73,11 +70,6 @@ module _ (s from at rest : ℕ) (none : Between s from at) (part : Rest s at res
       differ : has rest r ≡ false → ⊥
       differ e = let z : ◌≡◌ {A = ℕ} 0 1 = ap one (sym e ∙ low.member) in omega arith
 
--- where the end is reached none is left
-pub next-none : (s from end at : ℕ) → from ≤ end → end ≤ at → Between s from at → Next s from end end
-next-none s from end at g l none =
-    record { behind = g; inside = omega arith; member = λ h. absurd (omega arith); between = λ k a b. none k a (omega arith) }
-
 -- ---- how many there are
 
 -- the members of a word below n: the rest of a division
@@ -97,9 +89,6 @@ module _ (word n : ℕ) where
       let f : ones low ≡ count_to (has word) n
       = ap ones e ∙ ones_count n (word % 2 ^ n) (mod-lt word (pow_pos n)) ∙ count_cong (has (word % 2 ^ n)) (has word) n (λ k h. has_low word n k h) in
       (f, omega (arith, count_most (has word) n))
-
-pub ones_fit : (n : ℕ) → Fits w64 n → Fits w64 (ones n)
-ones_fit n h = omega (arith, ones-le 64 n h.fits)
 
 -- the members of m numbers more, which stand in one word
 pub count_more : (s from rest m n t : ℕ) → Rest s from rest → m ≤ 64 - from % 64 → n ≡ count from s → t ≡ count m rest → n + t ≡ count (from + m) s

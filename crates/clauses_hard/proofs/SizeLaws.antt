@@ -7,8 +7,6 @@ use Prim.Native.Nat.{ℕ, zero, suc, ◌+◌, ◌-◌, ◌*◌, ◌≤◌, ◌<�
 use native.Mathlib.Nat.{suc-mul, zero-mul, mul-le-mul}
 use native.Mathlib.Numerals.{add-one}
 use native.Mathlib.Omega.{arith}
-use mir.Val.{Fits}
-use mir.Syntax.{w64}
 use lib.ListN.{length, get_or, length-append}
 use Rattle.model.specs.Sets.{has, one, count_to, count}
 use Rattle.model.specs.Clauses.{list_to, when, must, must_not, gives, give, role_variable, keeping, adding, row, rows, counter, variables_in}
@@ -47,22 +45,24 @@ row_taken rows n k i t h l e =
     let g : i < n = omega (arith, l, length-take-le n rows h) in
     e ∙ ap (λ (x : List ℕ). count k (value x)) (get_or-take n rows i [] g)
 
--- the next of the exclusions counted
-pub exclusion_helpers : (xs : List ReducedExclusion) (i n t m : ℕ) (d : ReducedExclusion) → i < length xs
-    → n ≡ sum_to (λ k. length (variables_in (get_or (masks_of xs) k 0)) * get_or (ns_of xs) k 0) i → m ≡ (get_or xs i d).n
-    → t ≡ length (variables_in (get_or xs i d).members) * m
+-- the next of the exclusions counted, where those that are walked are these
+pub exclusion_helpers : (xs ys : List ReducedExclusion) (i n t m : ℕ) (d : ReducedExclusion) → ys ≡ xs → i < length ys
+    → n ≡ sum_to (λ k. length (variables_in (get_or (masks_of xs) k 0)) * get_or (ns_of xs) k 0) i → m ≡ (get_or ys i d).n
+    → t ≡ length (variables_in (get_or ys i d).members) * m
     → n + t ≡ sum_to (λ k. length (variables_in (get_or (masks_of xs) k 0)) * get_or (ns_of xs) k 0) (i + 1)
-exclusion_helpers xs i n t m d h en em et =
+exclusion_helpers xs ys i n t m d f h en em et =
+    let l : i < length xs = rw f at h in
     sum-next (λ k. length (variables_in (get_or (masks_of xs) k 0)) * get_or (ns_of xs) k 0) i n t en
-    (rw (get_or-map (λ (x : ReducedExclusion). x.members) xs i d 0 h, get_or-map (λ (x : ReducedExclusion). x.n) xs i d 0 h) (rw em at et))
+    (rw (get_or-map (λ (x : ReducedExclusion). x.members) xs i d 0 l, get_or-map (λ (x : ReducedExclusion). x.n) xs i d 0 l) (rw (em, f) at et))
 
-pub exclusion_counter : (xs : List ReducedExclusion) (i n t m : ℕ) (d : ReducedExclusion) → i < length xs
-    → n ≡ sum_to (λ k. counter_size (get_or (ns_of xs) k 0) (get_or (masks_of xs) k 0)) i → m ≡ (get_or xs i d).n
-    → t ≡ counter_size m (get_or xs i d).members
+pub exclusion_counter : (xs ys : List ReducedExclusion) (i n t m : ℕ) (d : ReducedExclusion) → ys ≡ xs → i < length ys
+    → n ≡ sum_to (λ k. counter_size (get_or (ns_of xs) k 0) (get_or (masks_of xs) k 0)) i → m ≡ (get_or ys i d).n
+    → t ≡ counter_size m (get_or ys i d).members
     → n + t ≡ sum_to (λ k. counter_size (get_or (ns_of xs) k 0) (get_or (masks_of xs) k 0)) (i + 1)
-exclusion_counter xs i n t m d h en em et =
+exclusion_counter xs ys i n t m d f h en em et =
+    let l : i < length xs = rw f at h in
     sum-next (λ k. counter_size (get_or (ns_of xs) k 0) (get_or (masks_of xs) k 0)) i n t en
-    (rw (get_or-map (λ (x : ReducedExclusion). x.members) xs i d 0 h, get_or-map (λ (x : ReducedExclusion). x.n) xs i d 0 h) (rw em at et))
+    (rw (get_or-map (λ (x : ReducedExclusion). x.members) xs i d 0 l, get_or-map (λ (x : ReducedExclusion). x.n) xs i d 0 l) (rw (em, f) at et))
 
 -- ---- a counter
 
@@ -77,9 +77,6 @@ tally_some (suc m) n r h e = let s : suc m - 1 ≡ m = omega arith in rw (s, e)
 
 pub rows-small : (m r : ℕ) → m ≤ 64 → r ≤ 8589934590 → (m - 1) * r ≤ 549755813760
 rows-small m r h g = mul-le-mul {n₁ = m - 1} {m₁ = r} {n₂ = 64} {m₂ = 8589934590} (omega arith) g
-
-pub rows_fit : (m r : ℕ) → m ≤ 64 → r ≤ 8589934590 → Fits w64 ((m - 1) * r)
-rows_fit m r h g = record { fits = omega (arith, rows-small m r h g) }
 
 row-length : (n a x : ℕ) → length (row n a x) ≡ row_size n
 unfolding row keeping adding row_size

@@ -10,10 +10,11 @@ ghost use Rattle.clauses_hard.specs.Parts.{rows_of, barred, barring_to, carrying
 use crate::members::{low_members, next_member};
 use clauses_bytes::bytes::put_packed;
 use clauses_lines::lines::{Literal, put_end, put_implies, put_literal, put_must, put_must_not};
+use clauses_lines::variables::{Variables, role_variable};
 use model::{Permission, Role};
 use query::carriers::carriers;
 
-// The numbers of roles and permissions are two parameters, and not a struct: half of the functions take only the one.
+// The buffer and the place of the next byte are two parameters, for the reason in clauses_bytes/src/bytes.rt.
 
 // ---- own roles
 
@@ -25,16 +26,22 @@ fn put_barred(out: &mut [u8], at: usize, w: usize, authorized: u64, r: Role) -> 
     if sets::has(authorized, r) {
         return at;
     }
-    put_must_not(out, at, w, r.0 as usize + 1)
+    put_must_not(out, at, w, role_variable(r))
 }
 
 // Puts that no role is chosen that is not authorized.
-pub fn put_barring(out: &mut [u8], at: usize, w: usize, authorized: u64, roles: usize) -> usize
-    requires { roles ≤ 64 }
-    ensures { Puts out.old at (lines_of w (barring_to roles authorized)) out.new result }
+pub fn put_barring(
+    out: &mut [u8],
+    at: usize,
+    w: usize,
+    authorized: u64,
+    variables: Variables,
+) -> usize
+    ensures { Puts out.old at (lines_of w (barring_to variables.roles authorized)) out.new result }
 {
     let mut next = at;
-    for r in 0..roles {
+    // The number is the role that is asked about; no table is walked.
+    for r in 0..variables.roles {
         next = put_barred(out, next, w, authorized, Role(r as u8));
     }
     next
@@ -49,18 +56,17 @@ fn put_carrying_row(
     w: usize,
     row: [u64; 4],
     r: Role,
-    roles: usize,
-    permissions: usize,
+    variables: Variables,
 ) -> usize
-    requires { (permissions ≤ 256) × (roles ≤ 64) }
-    ensures { Puts out.old at (lines_of w (carrying_row roles permissions (value row) (role_variable r.0))) out.new result }
+    ensures { Puts out.old at (lines_of w (carrying_row variables.roles variables.permissions (value row) (role_variable r.0))) out.new result }
 {
     let mut next = at;
-    let x = r.0 as usize + 1;
+    let permissions = variables.permissions;
+    let x = role_variable(r);
     let mut q = next_member(row, 0, permissions);
     // An iterator would hold the set, its place and the end beside what is here.
     while q < permissions {
-        next = put_implies(out, next, w, x, roles + q + 1);
+        next = put_implies(out, next, w, x, variables.permission(Permission(q as u8)));
         q = next_member(row, q + 1, permissions);
     }
     next
@@ -72,27 +78,25 @@ pub fn put_carrying(
     at: usize,
     w: usize,
     rows: &[[u64; 4]; 64],
-    roles: usize,
-    permissions: usize,
+    variables: Variables,
 ) -> usize
-    requires { (permissions ≤ 256) × (roles ≤ 64) }
-    ensures { Puts out.old at (lines_of w (carrying_to roles permissions (rows_of rows.now))) out.new result }
+    ensures { Puts out.old at (lines_of w (carrying_to variables.roles variables.permissions (rows_of rows.now))) out.new result }
 {
     let mut next = at;
-    for r in 0..roles {
-        next = put_carrying_row(out, next, w, rows[r], Role(r as u8), roles, permissions);
+    // The number is a role and its row's place.
+    for r in 0..variables.roles {
+        next = put_carrying_row(out, next, w, rows[r], Role(r as u8), variables);
     }
     next
 }
 
-// Puts the roles of a set below a number.
-fn put_roles(out: &mut [u8], at: usize, set: u64, roles: usize) -> usize
-    requires { roles ≤ 64 }
-    ensures { Puts out.old at (literals_text (roles_in roles set)) out.new result }
+// Puts the roles of a set, as far as there are roles.
+fn put_roles(out: &mut [u8], at: usize, set: u64, variables: Variables) -> usize
+    ensures { Puts out.old at (literals_text (roles_in variables.roles set)) out.new result }
 {
     let mut next = at;
-    for r in sets::members(low_members(set, roles)) {
-        next = put_literal(out, next, Literal::Holds(r as usize + 1));
+    for r in sets::members(low_members(set, variables.roles)) {
+        next = put_literal(out, next, Literal::Holds(role_variable(Role(r))));
     }
     next
 }
@@ -104,26 +108,25 @@ fn put_carried_one(
     w: usize,
     set: u64,
     q: Permission,
-    roles: usize,
+    variables: Variables,
 ) -> usize
-    requires { roles ≤ 64 }
-    ensures { Puts out.old at (line_of w (fails (roles + q.0 + 1) ∷ roles_in roles set)) out.new result }
+    ensures { Puts out.old at (line_of w (fails (variables.roles + q.0 + 1) ∷ roles_in variables.roles set)) out.new result }
 {
     let a = put_packed(out, at, w);
-    let b = put_literal(out, a, Literal::Fails(roles + q.0 as usize + 1));
-    let c = put_roles(out, b, set, roles);
+    let b = put_literal(out, a, Literal::Fails(variables.permission(q)));
+    let c = put_roles(out, b, set, variables);
     put_end(out, c)
 }
 
-// For each permission the roles below a number whose rows have it.
-fn carriers_of(rows: &[[u64; 4]; 64], roles: usize) -> [u64; 256]
-    requires { roles ≤ 64 }
-    ensures { Columns roles (rows_of rows.now) result }
+// For each permission the roles whose rows have it.
+#[tactic(auto, using(crate::proofs::CarrierLaws::columns_are))]
+fn carriers_of(rows: &[[u64; 4]; 64], variables: Variables) -> [u64; 256]
+    ensures { Columns variables.roles (rows_of rows.now) result }
 {
     let every = 18446744073709551615u64;
     carriers(
         rows,
-        low_members(every, roles),
+        low_members(every, variables.roles),
         [every, every, every, every],
     )
 }
@@ -134,16 +137,15 @@ pub fn put_carried(
     at: usize,
     w: usize,
     rows: &[[u64; 4]; 64],
-    roles: usize,
-    permissions: usize,
+    variables: Variables,
 ) -> usize
-    requires { (permissions ≤ 256) × (roles ≤ 64) }
-    ensures { Puts out.old at (lines_of w (carried_to roles permissions (rows_of rows.now))) out.new result }
+    ensures { Puts out.old at (lines_of w (carried_to variables.roles variables.permissions (rows_of rows.now))) out.new result }
 {
-    let table = carriers_of(rows, roles);
+    let table = carriers_of(rows, variables);
     let mut next = at;
-    for q in 0..permissions {
-        next = put_carried_one(out, next, w, table[q], Permission(q as u8), roles);
+    // The number is a permission and its column's place.
+    for q in 0..variables.permissions {
+        next = put_carried_one(out, next, w, table[q], Permission(q as u8), variables);
     }
     next
 }
@@ -156,17 +158,16 @@ pub fn put_lower_bound(
     at: usize,
     w: usize,
     lower: [u64; 4],
-    roles: usize,
-    permissions: usize,
+    variables: Variables,
 ) -> usize
-    requires { (permissions ≤ 256) × (roles ≤ 64) }
-    ensures { Puts out.old at (lines_of w (lower_bound_to roles permissions (value lower))) out.new result }
+    ensures { Puts out.old at (lines_of w (lower_bound_to variables.roles variables.permissions (value lower))) out.new result }
 {
     let mut next = at;
+    let permissions = variables.permissions;
     let mut q = next_member(lower, 0, permissions);
     // As in `put_carrying_row`.
     while q < permissions {
-        next = put_must(out, next, w, roles + q + 1);
+        next = put_must(out, next, w, variables.permission(Permission(q as u8)));
         q = next_member(lower, q + 1, permissions);
     }
     next
@@ -178,16 +179,15 @@ fn put_absent(
     at: usize,
     w: usize,
     upper: [u64; 4],
-    roles: usize,
     q: Permission,
+    variables: Variables,
 ) -> usize
-    requires { roles ≤ 64 }
-    ensures { Puts out.old at (lines_of w (upper_of roles (value upper) q.0)) out.new result }
+    ensures { Puts out.old at (lines_of w (upper_of variables.roles (value upper) q.0)) out.new result }
 {
     if sets::perm_has(upper, q) {
         return at;
     }
-    put_must_not(out, at, w, roles + q.0 as usize + 1)
+    put_must_not(out, at, w, variables.permission(q))
 }
 
 // Puts that no permission outside the upper bound is there.
@@ -196,15 +196,14 @@ pub fn put_upper_bound(
     at: usize,
     w: usize,
     upper: [u64; 4],
-    roles: usize,
-    permissions: usize,
+    variables: Variables,
 ) -> usize
-    requires { (permissions ≤ 256) × (roles ≤ 64) }
-    ensures { Puts out.old at (lines_of w (upper_bound_to roles permissions (value upper))) out.new result }
+    ensures { Puts out.old at (lines_of w (upper_bound_to variables.roles variables.permissions (value upper))) out.new result }
 {
     let mut next = at;
-    for q in 0..permissions {
-        next = put_absent(out, next, w, upper, roles, Permission(q as u8));
+    // The number is the permission that is asked about; no table is walked.
+    for q in 0..variables.permissions {
+        next = put_absent(out, next, w, upper, Permission(q as u8), variables);
     }
     next
 }

@@ -12,6 +12,8 @@ use clauses_bytes::bytes::{
     width,
 };
 
+// The buffer and the place of the next byte are two parameters, for the reason in clauses_bytes/src/bytes.rt.
+
 // ---- literals
 
 // A variable that is to be true, or one that is to be false.
@@ -33,6 +35,7 @@ impl Literal {
     }
 
     // How long its text is.
+    #[tactic(auto, using(crate::proofs::LineLaws::holds_width, crate::proofs::LineLaws::fails_width))]
     fn width(self) -> usize
         requires { Short self }
         ensures { (result ≡ length (literal_text (literal_of self))) × (result ≤ 8) }

@@ -36,19 +36,19 @@ wanting_weight w x zero n = ap weight_of (empty w x n)
 wanting_weight w x (suc zero) n = weight_singles w (λ i. must_not (x i)) n
 wanting_weight w x (suc (suc a)) n = weight_singles w (λ i. must (x i)) n
 
-pub soft-length : (R P a b m n : ℕ) → m ≡ where_aimed a P → n ≡ where_aimed b R → m + n ≡ length (soft_by R P a b)
+pub soft_length : (R P a b m n : ℕ) → m ≡ where_aimed a P → n ≡ where_aimed b R → m + n ≡ length (soft_by R P a b)
 unfolding soft_by wanting_permissions wanting_roles
-soft-length R P a b m n e f =
+soft_length R P a b m n e f =
     rw (e, f)
     (sym (length-append (list_to P (λ q. wanting a (R + 1) (R + q + 1))) (list_to R (λ r. wanting b 1 (r + 1)))
     ∙ rw (wanting-length (R + 1) (λ q. R + q + 1) a P, wanting-length 1 (λ r. r + 1) b R)))
 
-pub weights-small : (R P : ℕ) → R ≤ 64 → P ≤ 256 → P * (R + 1) ≤ 16640
-weights-small R P h g = mul-le-mul {n₁ = P} {m₁ = R + 1} {n₂ = 256} {m₂ = 65} g (omega arith)
+pub weights_small : (R P : ℕ) → R ≤ 64 → P ≤ 256 → P * (R + 1) ≤ 16640
+weights_small R P h g = mul-le-mul {n₁ = P} {m₁ = R + 1} {n₂ = 256} {m₂ = 65} g (omega arith)
 
-pub soft-top : (R P a b m n : ℕ) → m ≡ where_aimed a (P * (R + 1)) → n ≡ where_aimed b R → m + n + 1 ≡ top (soft_by R P a b)
+pub soft_top : (R P a b m n : ℕ) → m ≡ where_aimed a (P * (R + 1)) → n ≡ where_aimed b R → m + n + 1 ≡ top (soft_by R P a b)
 unfolding soft_by wanting_permissions wanting_roles top
-soft-top R P a b m n e f =
+soft_top R P a b m n e f =
     rw (e, f)
     (sym (ap (λ (n : ℕ). n + 1) (weight_append (list_to P (λ q. wanting a (R + 1) (R + q + 1))) (list_to R (λ r. wanting b 1 (r + 1)))
     ∙ rw (wanting_weight (R + 1) (λ q. R + q + 1) a P, wanting_weight 1 (λ r. r + 1) b R, mul-one R))))

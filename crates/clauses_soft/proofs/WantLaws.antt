@@ -31,6 +31,6 @@ weighed zero v x = refl
 weighed (suc zero) v x = refl
 weighed (suc (suc a)) v x = refl
 
-pub wanted_put : {l m : List ℕ} {at r : ℕ} (a w v x : ℕ) → Puts l at (lines_of w (wanted a x)) m r → packed_text w ≡ decimal v
+pub wanted_put : {l m : List ℕ} {at r : ℕ} (a w v x y : ℕ) → Puts l at (lines_of w (wanted a y)) m r → packed_text w ≡ decimal v → y ≡ x
     → Puts l at (clauses_text (wanting a v x)) m r
-wanted_put a w v x p e = rw (← weighed a v x) (puts_as (lines-weighing w v (wanted a x) e) p)
+wanted_put a w v x y p e h = rw (← weighed a v x) (puts_as (lines-weighing w v (wanted a x) e) (rw h at p))

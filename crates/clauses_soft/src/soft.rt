@@ -1,5 +1,4 @@
 // The soft clauses of the objectives.
-ghost use Rattle.std.specs.Prelude.{◌≤◌};
 ghost use Rattle.model.specs.Dimacs.{clauses_text};
 ghost use Rattle.query_rank.specs.Objectives.{number_of};
 ghost use Rattle.clauses_bytes.specs.Putting.{Puts};
@@ -8,9 +7,11 @@ ghost use Rattle.clauses_soft.specs.Soft.{wanted, wanting_permissions, wanting_r
 
 use clauses_bytes::bytes::packed;
 use clauses_lines::lines::{put_must, put_must_not};
+use clauses_lines::variables::{Variables, role_variable};
+use model::{Permission, Role};
 use query_rank::objective::Objective;
 
-// The numbers of roles and permissions are two parameters, as in the hard clauses (clauses_hard/src/carries.rt).
+// The buffer and the place of the next byte are two parameters, for the reason in clauses_bytes/src/bytes.rt.
 
 // Puts what an objective wants of a variable: that it is false for the fewest, true for the most. The weight w is a
 // packed text.
@@ -29,29 +30,28 @@ pub fn put_wanting_permissions(
     out: &mut [u8],
     at: usize,
     aim: Objective,
-    roles: usize,
-    permissions: usize,
+    variables: Variables,
 ) -> usize
-    requires { (roles ≤ 64) × (permissions ≤ 256) }
-    ensures { Puts out.old at (clauses_text (wanting_permissions roles permissions (number_of aim))) out.new result }
+    ensures { Puts out.old at (clauses_text (wanting_permissions variables.roles variables.permissions (number_of aim))) out.new result }
 {
-    let w = packed(roles + 1);
+    let w = packed(variables.roles + 1);
     let mut next = at;
-    for q in 0..permissions {
-        next = put_wanting(out, next, aim, w, roles + q + 1);
+    // The number is the permission that has the clause; no table is walked, here and below.
+    for q in 0..variables.permissions {
+        next = put_wanting(out, next, aim, w, variables.permission(Permission(q as u8)));
     }
     next
 }
 
-// Puts what the second objective wants of the roles.
-pub fn put_wanting_roles(out: &mut [u8], at: usize, aim: Objective, roles: usize) -> usize
-    requires { roles ≤ 64 }
-    ensures { Puts out.old at (clauses_text (wanting_roles roles (number_of aim))) out.new result }
+// Puts what the second objective wants of the roles. Beside the permissions' it has another definition, weight and
+// variable, which leaves one line that both would share.
+pub fn put_wanting_roles(out: &mut [u8], at: usize, aim: Objective, variables: Variables) -> usize
+    ensures { Puts out.old at (clauses_text (wanting_roles variables.roles (number_of aim))) out.new result }
 {
     let w = packed(1);
     let mut next = at;
-    for r in 0..roles {
-        next = put_wanting(out, next, aim, w, r + 1);
+    for r in 0..variables.roles {
+        next = put_wanting(out, next, aim, w, role_variable(Role(r as u8)));
     }
     next
 }

@@ -25,9 +25,9 @@ text_by R P s row lower upper masks ns k a b =
 -- the same of a question, by the rows of what roles carry and the reduced exclusions
 abbrev pub hard_for : Question → List (List ℕ) → List ReducedExclusion → List Clause
 hard_for q rows xs =
-    hard_by q.roles q.permissions q.authorized (rows_of rows) (value q.lower) (value q.upper) (masks_of xs) (ns_of xs) (length xs)
+    hard_by q.variables.roles q.variables.permissions q.authorized (rows_of rows) (value q.lower) (value q.upper) (masks_of xs) (ns_of xs) (length xs)
 
 abbrev pub text_for : Question → List (List ℕ) → List ReducedExclusion → List ℕ
 text_for q rows xs =
-    text_by q.roles q.permissions q.authorized (rows_of rows) (value q.lower) (value q.upper) (masks_of xs) (ns_of xs) (length xs)
+    text_by q.variables.roles q.variables.permissions q.authorized (rows_of rows) (value q.lower) (value q.upper) (masks_of xs) (ns_of xs) (length xs)
     (number_of q.first) (number_of q.second)

@@ -4,6 +4,7 @@ ghost use Rattle.model.specs.Dimacs.{ascii, decimal, head_text, clauses_text};
 ghost use Rattle.clauses_bytes.specs.Putting.{Puts};
 ghost use Rattle.clauses_lines.specs.Lines.{lines_of};
 ghost use Rattle.query_rank.specs.Objectives.{number_of};
+ghost use Rattle.query_reduced.specs.Reduction.{listed};
 ghost use Rattle.clauses_soft.specs.Soft.{soft_by};
 ghost use Rattle.clauses_text.specs.Whole.{hard_for, text_for};
 
@@ -16,7 +17,9 @@ use clauses_hard::question::Question;
 use clauses_hard::sizes::{hard_size, helpers_of};
 use clauses_soft::sizes::{soft_size, top_weight};
 use clauses_soft::soft::{put_wanting_permissions, put_wanting_roles};
-use query_reduced::reduced::ReducedExclusion;
+use query_reduced::reduced::Reduced;
+
+// The buffer and the place of the next byte are two parameters, for the reason in clauses_bytes/src/bytes.rt.
 
 // ---- the head
 
@@ -55,30 +58,27 @@ fn put_hard(
     w: usize,
     rows: &[[u64; 4]; 64],
     q: Question,
-    exclusions: &[ReducedExclusion],
+    exclusions: &Reduced,
 ) -> usize
-    requires { (q.roles ≤ 64) × (q.permissions ≤ 256) × (length exclusions.now ≤ 32) }
-    ensures { Puts out.old at (lines_of w (hard_for q rows.now exclusions.now)) out.new result }
+    ensures { Puts out.old at (lines_of w (hard_for q rows.now (listed exclusions.now))) out.new result }
 {
-    let roles = q.roles;
-    let permissions = q.permissions;
+    let variables = q.variables;
     let lower = q.lower;
     let upper = q.upper;
-    let a = put_barring(out, at, w, q.authorized, roles);
-    let b = put_carrying(out, a, w, rows, roles, permissions);
-    let c = put_carried(out, b, w, rows, roles, permissions);
-    let d = put_lower_bound(out, c, w, lower, roles, permissions);
-    let e = put_upper_bound(out, d, w, upper, roles, permissions);
-    put_counters(out, e, w, roles + permissions, exclusions)
+    let a = put_barring(out, at, w, q.authorized, variables);
+    let b = put_carrying(out, a, w, rows, variables);
+    let c = put_carried(out, b, w, rows, variables);
+    let d = put_lower_bound(out, c, w, lower, variables);
+    let e = put_upper_bound(out, d, w, upper, variables);
+    put_counters(out, e, w, variables.last_plain(), exclusions)
 }
 
 // Puts the soft clauses.
 fn put_soft(out: &mut [u8], at: usize, q: Question) -> usize
-    requires { (q.roles ≤ 64) × (q.permissions ≤ 256) }
-    ensures { Puts out.old at (clauses_text (soft_by q.roles q.permissions (number_of q.first) (number_of q.second))) out.new result }
+    ensures { Puts out.old at (clauses_text (soft_by q.variables.roles q.variables.permissions (number_of q.first) (number_of q.second))) out.new result }
 {
-    let a = put_wanting_permissions(out, at, q.first, q.roles, q.permissions);
-    put_wanting_roles(out, a, q.second, q.roles)
+    let a = put_wanting_permissions(out, at, q.first, q.variables);
+    put_wanting_roles(out, a, q.second, q.variables)
 }
 
 // ---- the text
@@ -89,20 +89,18 @@ pub fn put_text(
     at: usize,
     rows: &[[u64; 4]; 64],
     q: Question,
-    exclusions: &[ReducedExclusion],
+    exclusions: &Reduced,
 ) -> usize
-    requires { (q.roles ≤ 64) × (q.permissions ≤ 256) × (length exclusions.now ≤ 32) }
-    ensures { Puts out.old at (text_for q rows.now exclusions.now) out.new result }
+    ensures { Puts out.old at (text_for q rows.now (listed exclusions.now)) out.new result }
 {
-    let roles = q.roles;
-    let permissions = q.permissions;
+    let variables = q.variables;
     let first = q.first;
     let second = q.second;
-    let w = top_weight(first, second, roles, permissions);
-    let variables = roles + permissions + helpers_of(exclusions);
+    let w = top_weight(first, second, variables);
+    let last = variables.last_plain() + helpers_of(exclusions);
     let hard = hard_size(rows, q, exclusions);
-    let clauses = hard + soft_size(first, second, roles, permissions);
-    let a = put_head(out, at, variables, clauses, w);
+    let clauses = hard + soft_size(first, second, variables);
+    let a = put_head(out, at, last, clauses, w);
     let b = put_hard(out, a, packed(w), rows, q, exclusions);
     put_soft(out, b, q)
 }

@@ -1,5 +1,4 @@
--- What the contracts of the rows' code say, beside the model's definitions.
+-- What the contracts of the table of exclusions say, beside the model's definitions.
 
 -- Believed: theorems or the contracts of exported functions are stated in these.
-pub mod Rows
 pub mod Table

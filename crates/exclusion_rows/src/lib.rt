@@ -1,11 +1,9 @@
-// An exclusion as a row of two machine words, so that a table of exclusions can go by reference: its kind and its n in
-// the first word, its members in the second.
+// The numbers of an exclusion's kind in an image, and a table of exclusions.
 #![tactic(auto)]
 
-ghost use Rattle.std.specs.Prelude.{◌≡◌, ◌≤◌, replicate, take};
+ghost use Rattle.std.specs.Prelude.{◌≡◌, ◌≤◌, length, replicate, take};
 ghost use Rattle.model.specs.Image.{kind_of};
 ghost use Rattle.model.specs.Policy.{kind_number};
-ghost use Rattle.exclusion_rows.specs.Rows.{exclusion_of as exclusion_by_row};
 
 use model::{Exclusion, Kind};
 
@@ -22,7 +20,7 @@ pub fn kind_of(k: u8) -> Kind
     }
 }
 
-// The number of a kind in an image. A match has them, as must-fail/kinds_swapped.edit says.
+// The number of a kind in an image. A match has them: Kind is the model's, whose definition `kind_number` has them too.
 pub fn number_of(kind: Kind) -> u8
     ensures { result ≡ kind_number kind }
 {
@@ -34,50 +32,36 @@ pub fn number_of(kind: Kind) -> u8
     }
 }
 
-// The row of an exclusion.
-pub fn row_of(x: Exclusion) -> [u64; 2]
-    ensures { exclusion_by_row result ≡ x }
-{
-    let kind = x.kind;
-    let number = number_of(kind);
-    [4 * (x.n as u64) + (number as u64), x.members]
-}
-
-// The exclusion of a row.
-pub fn exclusion_of(row: [u64; 2]) -> Exclusion
-    ensures { result ≡ exclusion_by_row row }
-{
-    let kind = kind_of((row[0] % 4) as u8);
-    Exclusion {
-        kind,
-        n: (row[0] / 4 % 256) as u8,
-        members: row[1],
-    }
-}
-
 // ---- the table
 
-// The exclusions of a policy, in image order: the first `count` rows.
+// The exclusions of a policy, in image order: the first `count` rows. That there are 32 is a fact of the type, since
+// proofs know the length of an array by itself only where its elements are numbers. `Reduced` of query_reduced has
+// another element: one generic table would need Clone and Copy by hand, for a method of one line.
 #[derive(Clone, Copy)]
 pub struct ExclusionTable {
-    pub rows: [[u64; 2]; 32],
+    pub rows: [Exclusion; 32],
     pub count: usize,
-    ghost few: { count ≤ 32 },
+    ghost few: { (count ≤ 32) × (length rows ≡ 32) },
 }
 
 impl ExclusionTable {
     // No exclusion.
     pub fn new() -> Self
-        ensures { (result.rows ≡ replicate 32 (replicate 2 0)) × (result.count ≡ 0) }
+        ensures { (result.rows ≡ replicate 32 (record { kind = Kind.SsDmer; n = 0; members = 0 })) × (result.count ≡ 0) }
     {
+        let none = Exclusion {
+            kind: Kind::SsDmer,
+            n: 0,
+            members: 0,
+        };
         ExclusionTable {
-            rows: [[0; 2]; 32],
+            rows: [none; 32],
             count: 0,
         }
     }
 
-    // The rows of the exclusions.
-    pub fn listed(&self) -> &[[u64; 2]]
+    // The exclusions as a slice.
+    pub fn listed(&self) -> &[Exclusion]
         ensures { result.now ≡ take self.now.count self.now.rows }
     {
         &self.rows[..self.count]

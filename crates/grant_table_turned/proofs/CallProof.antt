@@ -1,17 +1,21 @@
 -- The calls on tables of 2,048 bytes, a law for each way that they go, and both round trips.
 -- Assumes nothing.
 use mathlib.Core.Path.{◌≡◌, refl, sym, ap, ◌∙◌}
-use mathlib.Core.Bool.{Bool, true, false, ◌&&◌}
+use mathlib.Core.Bool.{Bool, true, false, ◌&&◌, and-false}
 use mathlib.Core.List.{List}
 use Prim.Native.Nat.{ℕ}
 use native.Mathlib.Omega.{arith}
 use lib.Dec.{eqb}
 use lib.Pow.{are_bytes}
 use lib.ListN.{length, replicate}
-use borrow.Author.Tests.{eq-eqb, eqb-true}
+use borrow.Author.Tests.{eq-eqb, ne_eqb}
 use Rattle.model.specs.Session.{Reply, refuse}
 use Rattle.model.specs.Run.{returned, filled_with, answered}
-use Rattle.model_laws.proofs.Bools.{and_l, and_r, both}
+use Rattle.model_laws.proofs.Bools.{both}
+use Rattle.std.specs.Prelude.{Option as Maybe, Some, None, Result, Ok, Err}
+use Rattle.std.specs.Option.{ok_or}
+use Rattle.reasons.specs.declared.Reason.{Reason}
+use Rattle.reasons.specs.declared.Reason.TheVariants.{Room}
 use Rattle.hierarchy.specs.Replies.{Replies}
 use Rattle.hierarchy.proofs.Filling.{filled_whole}
 use Rattle.grant_table_turned.specs.Turned.{turned, unturned}
@@ -34,6 +38,18 @@ module _ (room bs : List ℕ) (e : Reply) where
   unfolding refuse returned answered filled_with
   left_by_lem q = record { number = sym (ap returned q); bytes = sym (ap (answered room) q) }
 
+-- the reason where bytes are no table
+pub room_reason : {A : Type 0} (o : Maybe A) (r : Reason) → Err r ≡ ok_or o Room → r ≡ Room
+room_reason o r e = ap reason_in e ∙ always o
+  where
+    reason_in : {A : Type 0} → Result A Reason → Reason
+    reason_in (Ok x) = Room
+    reason_in (Err x) = x
+
+    always : {A : Type 0} (o : Maybe A) → reason_in (ok_or o Room) ≡ Room
+    always None = refl
+    always (Some x) = refl
+
 -- ---- turned, and back
 module _ (source room : List ℕ) where
   -- the test of both sizes
@@ -51,11 +67,11 @@ module _ (source room : List ℕ) where
   unfolding unturn_call
   by_unturn b e = ap (λ (x : Bool). sized x (unturned source)) e
 
-  pub source_size : fit ≡ true → length source ≡ 2048
-  source_size e = eqb-true (length source) 2048 (and_l (eqb (length source) 2048) (eqb (length room) 2048) e)
+  pub source_unfit : (length source ≡ 2048 → ⊥) → fit ≡ false
+  source_unfit n = ap (λ (x : Bool). x && eqb (length room) 2048) (ne_eqb (length source) 2048 n)
 
-  pub target_size : fit ≡ true → length room ≡ 2048
-  target_size e = eqb-true (length room) 2048 (and_r (eqb (length source) 2048) (eqb (length room) 2048) e)
+  pub target_unfit : (length room ≡ 2048 → ⊥) → fit ≡ false
+  target_unfit n = ap (λ (x : Bool). eqb (length source) 2048 && x) (ne_eqb (length room) 2048 n) ∙ and-false (eqb (length source) 2048)
 
   pub turn_19 : fit ≡ false → (19 ≡ returned (turn_call source (length room))) × (room ≡ answered room (turn_call source (length room)))
   turn_19 e =

@@ -16,15 +16,15 @@ fn numbers(source: &[u8], from: usize, step: usize) -> [u64; 64]
     ensures { Numbers source.now from step result }
 {
     let mut out = [0u64; 64];
-    for i in 0..64usize {
-        out[i] = octets::get_u64(source, from + step * i);
+    for (i, number) in out.iter_mut().enumerate() {
+        *number = octets::get_u64(source, from + step * i);
     }
     out
 }
 
 // Puts the words of column w turned, 64 rows of eight bytes.
-fn put_column(target: &mut [u8], w: usize, words: &[u64; 64])
-    requires { (w < 4) × (length target.old ≡ 2048) }
+fn put_column(target: &mut [u8; 2048], w: usize, words: &[u64; 64])
+    requires { w < 4 }
     ensures { target.new ≡ splice target.old (512 * w) (turned_bytes words.now) }
 {
     let rows = transpose(words);
@@ -32,10 +32,10 @@ fn put_column(target: &mut [u8], w: usize, words: &[u64; 64])
 }
 
 // 64 rows of 256 bits made 256 rows of 64: bit p of row r goes to bit r of row p. Word w of each row makes 64 rows.
-pub fn turn(source: &[u8], target: &mut [u8])
-    requires { (length source.now ≡ 2048) × (length target.old ≡ 2048) }
+pub fn turn(source: &[u8; 2048], target: &mut [u8; 2048])
     ensures { target.new ≡ turned source.now }
 {
+    // The number is a column, of which words far apart are read; no table is walked.
     for w in 0..4usize {
         let words = numbers(source, 8 * w, 32);
         put_column(target, w, &words);
@@ -43,8 +43,8 @@ pub fn turn(source: &[u8], target: &mut [u8])
 }
 
 // Which of 64 rows of one word, from row 64 * w on, have each of 64 bits.
-fn part(source: &[u8], w: usize) -> [u64; 64]
-    requires { (w < 4) × (length source.now ≡ 2048) }
+fn part(source: &[u8; 2048], w: usize) -> [u64; 64]
+    requires { w < 4 }
     ensures { Part source.now w result }
 {
     let words = numbers(source, 512 * w, 8);
@@ -52,8 +52,7 @@ fn part(source: &[u8], w: usize) -> [u64; 64]
 }
 
 // 256 rows of 64 bits made 64 rows of 256: bit r of row p goes to bit p of row r.
-pub fn unturn(source: &[u8], target: &mut [u8])
-    requires { (length source.now ≡ 2048) × (length target.old ≡ 2048) }
+pub fn unturn(source: &[u8; 2048], target: &mut [u8; 2048])
     ensures { target.new ≡ unturned source.now }
 {
     let parts = [
@@ -62,6 +61,7 @@ pub fn unturn(source: &[u8], target: &mut [u8])
         part(source, 2),
         part(source, 3),
     ];
+    // The number is the place in four parts and in the target: a zip of five would be longer.
     for r in 0..64usize {
         let row = [parts[0][r], parts[1][r], parts[2][r], parts[3][r]];
         octets::put_numbers(target, 32 * r, &row);
@@ -70,34 +70,25 @@ pub fn unturn(source: &[u8], target: &mut [u8])
 
 // ---- the calls
 
-// Both have 2,048 bytes.
-fn sized(source: usize, target: usize) -> Result<(), Reason>
-    ensures { MatchResult result
-        (λ _. (eqb source 2048 && eqb target 2048) ≡ true)
-        (λ r. ((eqb source 2048 && eqb target 2048) ≡ false) × (r ≡ Reason.Room)) }
-{
-    if (source == 2048) & (target == 2048) {
-        return Ok(());
-    }
-    Err(Reason::Room)
-}
-
 // Turns the source into the target, where both have 2,048 bytes.
 pub fn turn_bytes(source: &[u8], target: &mut [u8]) -> Result<(), Refusal>
     ensures { (refusal_of result ≡ returned (turn_call source.now (length target.old)))
         × (target.new ≡ answered target.old (turn_call source.now (length target.old))) }
 {
-    sized(source.len(), target.len())?;
-    turn(source, target);
+    let rows = source.as_array().ok_or(Reason::Room)?;
+    let columns = target.as_mut_array().ok_or(Reason::Room)?;
+    turn(rows, columns);
     Ok(())
 }
 
-// Turns the source back into the target, where both have 2,048 bytes.
+// Turns the source back into the target, where both have 2,048 bytes. A call of its own, with a definition of its own:
+// a closure for the one line between would be as long.
 pub fn unturn_bytes(source: &[u8], target: &mut [u8]) -> Result<(), Refusal>
     ensures { (refusal_of result ≡ returned (unturn_call source.now (length target.old)))
         × (target.new ≡ answered target.old (unturn_call source.now (length target.old))) }
 {
-    sized(source.len(), target.len())?;
-    unturn(source, target);
+    let columns = source.as_array().ok_or(Reason::Room)?;
+    let rows = target.as_mut_array().ok_or(Reason::Room)?;
+    unturn(columns, rows);
     Ok(())
 }

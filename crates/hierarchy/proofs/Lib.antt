@@ -1,5 +1,4 @@
 -- The laws that the proofs of seniority's code use.
 pub mod Closing
 pub mod Naming
-pub mod Joining
 pub mod Filling

@@ -36,6 +36,7 @@ pub fn close_first(rows: &mut [u64; 64], m: usize, n: usize)
     requires { (n ≤ 64) × (m ≤ 64) × EmptyFrom m rows.old }
     ensures { rows.new ≡ closure_by n rows.old }
 {
+    // The number is a role, and each turn changes all rows: they cannot be walked meanwhile.
     for k in 0..n {
         through_first(rows, m, Role(k as u8));
     }

@@ -2,5 +2,4 @@
 #![tactic(auto)]
 
 pub mod closure; // closure.rt: the table closed by Warshall's rule
-pub mod member; // member.rt: a set with one role more, by a test
 pub mod reach; // reach.rt: the roles that roles reach, and the granting role among them

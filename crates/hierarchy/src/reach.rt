@@ -16,7 +16,7 @@ pub fn reach(below: &[u64; 64], r: Role) -> u64
     sets::with(below[who], r)
 }
 
-// The roles that the roles of a set reach.
+// The roles that the roles of a set reach. `sets::perm_union_at` joins rows alone, and of four words each.
 pub fn reached_by(below: &[u64; 64], set: u64) -> u64
     ensures { result ≡ union_at (with_selves below.now) set }
 {

@@ -6,7 +6,6 @@ ghost use Rattle.model.specs.Policy.{with_selves};
 ghost use Rattle.hierarchy.specs.Names.{found_of};
 ghost use Rattle.hierarchy_judged.specs.Reach.{stands_over, Over, Few, Authorizes};
 
-use hierarchy::member::joined;
 use hierarchy::reach::reached_by;
 
 // Those of so many roles that stand over another.
@@ -14,11 +13,7 @@ fn seniors_in(below: &[u64; 64], roles: usize) -> u64
     requires { roles ≤ 64 }
     ensures { result ≡ set_of (stands_over below.now) roles }
 {
-    let mut found: u64 = 0;
-    for r in 0..roles {
-        found = joined(found, r, below[r] != 0);
-    }
-    found
+    sets::set_of(roles, |r| below[r] != 0)
 }
 
 // What a set of roles reaches: where none of them stands over another, the set itself.

@@ -18,9 +18,9 @@ pub fn lowest_on_loop(below: &[u64; 64], roles: usize) -> Option<Role>
     requires { roles ≤ 64 }
     ensures { name_of result ≡ if_below roles (lowest (λ a. has (get_or below.now a 0) a) 0 roles) }
 {
-    for r in 0..roles {
+    for (r, row) in below[..roles].iter().enumerate() {
         let role = Role(r as u8);
-        if sets::has(below[r], role) {
+        if sets::has(*row, role) {
             return Some(role);
         }
     }

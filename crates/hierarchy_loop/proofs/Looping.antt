@@ -1,20 +1,21 @@
 -- The turns of the loops that fill the levels of a role and write its chain.
 -- Assumes nothing.
 use mathlib.Core.Path.{◌≡◌, sym, ap, ap₂, subst, ◌∙◌}
-use mathlib.Core.Bool.{true}
+use mathlib.Core.Bool.{Bool, true, false}
 use mathlib.Core.Logic.{inl, inr}
 use mathlib.Core.List.{List, [], ◌∷◌, ◌++◌, append_assoc, append-nil}
-use Prim.Native.Nat.{ℕ, suc, ◌+◌, ◌-◌, ◌^◌, ◌≤◌, ◌<◌}
+use Prim.Native.Nat.{ℕ, zero, suc, ◌+◌, ◌-◌, ◌^◌, ◌≤◌, ◌<◌}
 use native.Mathlib.Nat.{le_antisymm, eq-zero-or-pos}
+use native.Mathlib.Decide.{dec_le}
 use native.Mathlib.Omega.{arith}
 use native.Mathlib.Numerals.{add-one}
-use lib.Bits.{or_zero_l}
+use lib.Bits.{or_zero_l, or_zero_r}
 use lib.ListN.{length, get_or, set, take, drop, replicate, length-set}
 use lib.Seq.{take-suc-set}
 use Rattle.std.proofs.Common.{Some}
 use Rattle.std.proofs.lemmas.List.{length-take-le, take_all, drop-replicate}
-use Rattle.model.specs.Tests.{lowest}
-use Rattle.model.specs.Sets.{has, inter, with, meets}
+use Rattle.model.specs.Tests.{pick, lowest}
+use Rattle.model.specs.Sets.{has, union, inter, with, meets, set_of}
 use Rattle.model.specs.Loop.{seniors_of, level, chain_down}
 use Rattle.model_laws.proofs.Bools.{not_both}
 use Rattle.model_laws.proofs.LowestLaws.{lowest_is, lowest_found, set_of-has, meets-has}
@@ -26,6 +27,16 @@ use Rattle.hierarchy.proofs.Filling.{stored_next}
 use Rattle.hierarchy_loop.specs.Chained.{Levels}
 
 -- ---- levels
+
+-- a set made by a test is made by that of the first n, where those from n on fail it
+pub set_of_rest : (f : ℕ → Bool) (n m : ℕ) → n ≤ m → ((a : ℕ) → n ≤ a → f a ≡ false) → set_of f m ≡ set_of f n
+unfolding set_of pick
+set_of_rest f n zero l h = let z : n ≡ 0 = omega arith in ap (set_of f) (sym z)
+set_of_rest f n (suc m) l h =
+    elim (dec_le n m) [
+      | yes q ↦ ap (λ (b : Bool). union (set_of f m) (pick b (2 ^ m) 0)) (h m q) ∙ or_zero_r (set_of f m) ∙ set_of_rest f n m q h
+      | no q ↦ let z : n ≡ suc m = omega arith in ap (set_of f) (sym z)
+    ]
 
 pub level_none : (juniors : List ℕ) (r : ℕ) → with 0 r ≡ level juniors r 0
 unfolding level

@@ -14,7 +14,6 @@ ghost use Rattle.hierarchy.specs.Replies.{Replies};
 ghost use Rattle.hierarchy_loop.specs.Chained.{Levels, Ranged};
 
 use hierarchy::closure::close_first;
-use hierarchy::member::joined;
 use hierarchy_judged::loops::lowest_on_loop;
 use model::Role;
 use reasons::{Reason, Refusal};
@@ -26,11 +25,7 @@ fn seniors_among(juniors: &[u64; 64], roles: usize, set: u64) -> u64
     requires { (roles ≤ 64) × EmptyFrom roles juniors.now }
     ensures { result ≡ seniors_of juniors.now set }
 {
-    let mut found: u64 = 0;
-    for a in 0..roles {
-        found = joined(found, a, juniors[a] & set != 0);
-    }
-    found
+    sets::set_of(roles, |a| juniors[a] & set != 0)
 }
 
 // Fills level after level over role r until r itself is in one: how many senior words its shortest loop has, if it is

@@ -70,21 +70,33 @@ pub wrong_kind_lem : (h : Head) (rows : List ℕ) (t : Scan) (final : Bool) (w :
 unfolding fault pick
 wrong_kind_lem h rows t final w ek = ap (λ (b : Bool). pick b 3 (sparing w.spare (entry_fault h rows t w.entry))) (sym ek)
 
+-- by the fault that its kind is
+pub kind_right : (b : Bool) (n : ℕ) → n ≡ pick b 3 0 → n ≡ 0 → b ≡ false
+unfolding pick
+kind_right true n e z = absurd (omega arith)
+kind_right false n e z = refl
+
+pub kind_wrong : (b : Bool) (n : ℕ) → n ≡ pick b 3 0 → 0 < n → (b ≡ true) × (n ≡ 3)
+unfolding pick
+kind_wrong true n e l = (refl, e)
+kind_wrong false n e l = absurd (omega arith)
+
 -- and so taken
-pub took : {h : Head} {a₀ j₀ : List ℕ} {t : Scan} {final : Bool} {w : Word} {n : ℕ} {a j : List ℕ} (e : Entry) (k : Bool)
-    → w.entry ≡ e → k ≡ wrong_kind final t.due w.entry → k ≡ false → n ≡ sparing w.spare (entry_fault h a₀ t e)
+pub took : {h : Head} {a₀ j₀ : List ℕ} {t : Scan} {final : Bool} {w : Word} {n : ℕ} {a j : List ℕ} (e : Entry)
+    → w.entry ≡ e → wrong_kind final t.due w.entry ≡ false → n ≡ sparing w.spare (entry_fault h a₀ t e)
     → (n ≡ 0 → a ≡ assigning a₀ e) → (n ≡ 0 → j ≡ ordering j₀ e) → Taken h a₀ j₀ t final w n a j
-took {h} {a₀} {j₀} {t} {final} {w} {n} e k ee ek z en fa fj =
+took {h} {a₀} {j₀} {t} {final} {w} {n} e ee ek en fa fj =
     record {
-      faulty = right_kind h a₀ t final w n e ee (sym ek ∙ z) en;
+      faulty = right_kind h a₀ t final w n e ee ek en;
       assigned_is = λ z. fa z ∙ ap (assigning a₀) (sym ee);
       juniors_is = λ z. fj z ∙ ap (ordering j₀) (sym ee);
     }
 
-pub mistook : {h : Head} {a₀ j₀ : List ℕ} {t : Scan} {final : Bool} {w : Word} {a j : List ℕ} (k : Bool) → k ≡ wrong_kind final t.due w.entry
-    → k ≡ true → Taken h a₀ j₀ t final w 3 a j
-mistook {h} {a₀} {j₀} {t} {final} {w} k ek z =
-    record { faulty = wrong_kind_lem h a₀ t final w (sym ek ∙ z); assigned_is = λ z. absurd (omega arith); juniors_is = λ z. absurd (omega arith) }
+pub mistook : {h : Head} {a₀ j₀ : List ℕ} {t : Scan} {final : Bool} {w : Word} {n : ℕ} {a j : List ℕ}
+    → n ≡ pick (wrong_kind final t.due w.entry) 3 0 → 0 < n → Taken h a₀ j₀ t final w n a j
+mistook {h} {a₀} {j₀} {t} {final} {w} e l =
+    let k = kind_wrong _ _ e l in
+    record { faulty = k.1 ∙ wrong_kind_lem h a₀ t final w k.0; assigned_is = λ z. absurd (omega arith); juniors_is = λ z. absurd (omega arith) }
 
 -- an exclusion word known by few tests is taken
 pub opened : {h : Head} {a j : List ℕ} {t t' : Scan} {w : ℕ} → Opens h.roles t w t' → Taken h a j t false (decode w) 0 a j

@@ -12,12 +12,12 @@ ghost use Rattle.image.specs.Taken.{Due, Taken};
 use crate::ending::closing;
 use crate::front::words_of;
 use image_faults::fault::{
-    assignment_fault, at_place, exclusion_fault, grant_fault, limit_fault, member_fault,
-    senior_fault, spared, wrong_kind,
+    assignment_fault, at_place, exclusion_fault, grant_fault, kind_fault, limit_fault,
+    member_fault, senior_fault, spared,
 };
 use image_usual::taking::NoGrants;
 use image_usual::usual::{members, opens, pass};
-use image_words::word::{decode, head_of};
+use image_words::word::decode;
 use image_words::words::{ImageWords, Run};
 use model::{Entry, Head, Role, Scan, User, Word};
 use reasons::{Reason, Refusal};
@@ -64,6 +64,9 @@ pub fn take_senior(
 
 // A word before the last judged and taken in. One match a word, so that one jump goes to the arm: each tests the spare
 // bits and judges, and those of an assignment and of a senior word store.
+// Beside `step` of tables_words::take, whose clause has five tables and a place: one function for both asks for a trait
+// of three stores (of a grant, a limit, an exclusion's place), each with its rows, its step and a law of the other
+// words, and two impls, which is longer than these eight arms.
 fn taken(
     h: Head,
     assigned: &mut [u64; 64],
@@ -74,12 +77,9 @@ fn taken(
     requires { Small w.entry }
     ensures { Taken h assigned.old juniors.old t false w (fault_of result) assigned.new juniors.new }
 {
-    let e = w.entry;
+    kind_fault(false, t.due, w.entry)?;
     let spare = w.spare;
-    if wrong_kind(false, t.due, e) {
-        return Err(Reason::Kind);
-    }
-    match e {
+    match w.entry {
         Entry::Assignment(u, r) => take_assignment(h, assigned, spare, u, r),
         Entry::Grant(r, p) => spared(spare, grant_fault(h, r, p)),
         Entry::Senior(a, b) => take_senior(h, juniors, spare, a, b),
@@ -88,18 +88,6 @@ fn taken(
         Entry::Limit(r, n) => spared(spare, limit_fault(h, r, n)),
         Entry::End => spared(spare, Ok(())),
         Entry::Unknown => spared(spare, Ok(())),
-    }
-}
-
-// What the first word behind the head is judged by: no exclusion so far, and no member due.
-// A Default of Scan may stand in its own crate alone, the model's, so this is a function.
-pub fn fresh() -> Scan
-    ensures { result ≡ start }
-{
-    Scan {
-        exclusions: 0,
-        due: 0,
-        members: 0,
     }
 }
 
@@ -140,13 +128,14 @@ fn take(
     }
     let word = decode(w);
     taken(h, assigned, juniors, t, word)?;
-    let e = word.entry;
-    Ok(next(t, e))
+    Ok(next(t, word.entry))
 }
 
 // ---- the words behind the head, and the whole
 
 // Usual words in runs, and the other words one by one, each exclusion word with its members.
+// Beside tables::read::read_words: there every other word is decoded, since an exclusion's place is kept; here an
+// exclusion word is known by few tests, and members are looked for behind such a word alone.
 fn check_words(
     image: &ImageWords,
     h: Head,
@@ -161,7 +150,7 @@ fn check_words(
         × (juniors.new ≡ fold ordering juniors.old (entries_from image.now.bytes.now (image.now.count - 1) 1))) }
 {
     let end = image.last();
-    let mut t = fresh();
+    let mut t = Scan::default();
     let mut at = Run {
         place: 1,
         sum: first,
@@ -195,7 +184,7 @@ pub fn check(
         × ((g : HeadOf) → checked_of result ≡ Accepted g
         → (assigned.new ≡ (policy_of image.now).assigned) × (juniors.new ≡ (policy_of image.now).juniors)) }
 {
-    let words = words_of(image)?;
-    let w = words.word(0);
-    check_words(&words, head_of(w), w, assigned, juniors)
+    let front = words_of(image)?;
+    let words = front.words;
+    check_words(&words, front.head, words.word(0), assigned, juniors)
 }

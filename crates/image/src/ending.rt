@@ -4,7 +4,7 @@ ghost use Rattle.model.specs.Image.{fault};
 ghost use Rattle.reasons.specs.Numbers.{fault_of, checked_of};
 ghost use Rattle.image.specs.Ending.{Closing};
 
-use image_faults::fault::{at_place, spared, wrong_kind};
+use image_faults::fault::{at_place, kind_fault, spared};
 use image_words::word::decode;
 use image_words::words::ImageWords;
 use model::{Entry, Head, Scan, Word, layout};
@@ -15,10 +15,7 @@ fn end_fault(due: u32, w: Word) -> Result<(), Reason>
     ensures { ((h : Head) (rows : List ℕ) (t : Scan) → t.due ≡ due → fault_of result ≡ fault h rows t true w)
         × (fault_of result ≡ 0 → w.entry ≡ Entry.End) }
 {
-    let e = w.entry;
-    if wrong_kind(true, due, e) {
-        return Err(Reason::Kind);
-    }
+    kind_fault(true, due, w.entry)?;
     spared(w.spare, Ok(()))
 }
 

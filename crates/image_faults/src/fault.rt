@@ -1,5 +1,6 @@
 // The faults of a word behind the head; `assigned` has the roles assigned so far, a row a user.
 ghost use Rattle.std.specs.Prelude.{◌≡◌, List, ℕ, ◌^◌, ◌<◌, Ok, Err, IfOk, IfErr};
+ghost use Rattle.model.specs.Tests.{pick};
 ghost use Rattle.model.specs.Image.{wrong_kind as wrong_kind_of, sparing, entry_fault};
 ghost use Rattle.reasons.specs.Numbers.{fault_of};
 
@@ -7,7 +8,7 @@ use model::{Entry, Exclusion, Head, Permission, Role, Scan, User};
 use reasons::{Reason, Refusal};
 
 // The word is of a kind that cannot stand at its place.
-pub fn wrong_kind(last: bool, due: u32, e: Entry) -> bool
+fn wrong_kind(last: bool, due: u32, e: Entry) -> bool
     ensures { result ≡ wrong_kind_of last due e }
 {
     match e {
@@ -16,6 +17,16 @@ pub fn wrong_kind(last: bool, due: u32, e: Entry) -> bool
         Entry::Unknown => true,
         _ => last | (due != 0),
     }
+}
+
+// The word is of a kind that can stand at its place.
+pub fn kind_fault(last: bool, due: u32, e: Entry) -> Result<(), Reason>
+    ensures { fault_of result ≡ pick (wrong_kind_of last due e) 3 0 }
+{
+    if wrong_kind(last, due, e) {
+        return Err(Reason::Kind);
+    }
+    Ok(())
 }
 
 // The user and the role are in range, and the role is not a 17th of the user.

@@ -69,14 +69,16 @@ impl Iterator for Reader<'_> {
     }
 }
 
-// ---- for callers that hold no reader
+// ---- for callers that hold no reader; docs/DECISIONS.md, 9, names both functions
 
 // The entry behind the place.
 pub fn entry_after(image: &[u8], place: usize) -> Option<Word>
     ensures { result ≡ found_at image.now (place + 1) }
 {
-    let at = place_after(image, place);
-    let mut reader = Reader { image, at };
+    let mut reader = Reader {
+        image,
+        at: place_after(image, place),
+    };
     reader.next()
 }
 
@@ -87,11 +89,7 @@ fn is_exclusion(found: Option<Word>) -> bool
     let Some(word) = found else {
         return false;
     };
-    let e = word.entry;
-    let Entry::Exclude(_, _) = e else {
-        return false;
-    };
-    true
+    matches!(word.entry, Entry::Exclude(_, _))
 }
 
 // The place of the first exclusion behind the place: from one to the next, the exclusions in image order.
@@ -99,6 +97,7 @@ pub fn exclusion_after(image: &[u8], place: usize) -> Option<usize>
     ensures { (place_of result ≡ exclusion_after_of image.now place) × IfSome result (λ q. place < q) }
 {
     let last = behind_head(image);
+    // The place is the answer.
     for at in place..last {
         if is_exclusion(entry_after(image, at)) {
             return Some(at + 1);

@@ -10,7 +10,7 @@ use Rattle.model.specs.declared.Entry.TheVariants.{Assignment, Grant, Senior, Ex
 use Rattle.image_usual.specs.declared.taking.UsualGrant.{UsualGrant}
 use Rattle.model.specs.Image.{field, role, permission, kind_of, says, in_range, decode, fault, assigning, next, scan}
 use Rattle.model.specs.Sets.{count}
-use Rattle.model.specs.Policy.{entry_at, entries_from, fold, granting, ordering, limiting}
+use Rattle.model.specs.Policy.{entry_at, entries_from, fold, ordering, limiting}
 
 -- the usual words are grants, assignments and senior words
 unfoldable pub Usual : Entry → Type 0
@@ -75,17 +75,6 @@ pub record FilledBy
     (place sum : ℕ) (assigned granted juniors : List ℕ) : Type 0 where
   pub passed : Passed s h words due from sum₀ assigned₀ juniors₀ place sum assigned juniors
   pub granted_is : fold step granted (entries_from s (words - place) place) ≡ fold step granted₀ (entries_from s (words - from) from)
-  pub limits_is : (limits : List ℕ)
-      → fold limiting limits (entries_from s (words - place) place) ≡ fold limiting limits (entries_from s (words - from) from)
-  pub places_are : places_from s (words - place) place ≡ places_from s (words - from) from
-
--- the same with the permissions granted, and not beyond the last word
-pub record Filled
-    (s : List ℕ) (h : Head) (words due from sum₀ : ℕ) (assigned₀ granted₀ juniors₀ : List ℕ) (place sum : ℕ)
-    (assigned granted juniors : List ℕ) : Type 0 where
-  pub passed : Passed s h words due from sum₀ assigned₀ juniors₀ place sum assigned juniors
-  pub inside : place ≤ words - 1
-  pub granted_is : fold granting granted (entries_from s (words - place) place) ≡ fold granting granted₀ (entries_from s (words - from) from)
   pub limits_is : (limits : List ℕ)
       → fold limiting limits (entries_from s (words - place) place) ≡ fold limiting limits (entries_from s (words - from) from)
   pub places_are : places_from s (words - place) place ≡ places_from s (words - from) from

@@ -8,13 +8,13 @@ ghost use Rattle.sets.specs.Words.{values};
 ghost use Rattle.image_usual.specs.Usual.{Ungranting};
 ghost use Rattle.image_usual.specs.Granting.{granting_none, nothing_none};
 
-use sets::{WidePermission, WideRole};
+use model::{Permission, Role};
 
 // A usual grant: the permission, to the role.
 #[derive(Clone, Copy)]
 pub struct UsualGrant {
-    pub role: WideRole,
-    pub permission: WidePermission,
+    pub role: Role,
+    pub permission: Permission,
 }
 
 // What takes in grants: the rows that it has, and what a word leaves of them.
@@ -53,6 +53,6 @@ impl TakesGrants for [[u64; 4]; 64] {
     ghost ungranting = { granting_none };
 
     fn take(&mut self, grant: UsualGrant) {
-        sets::wide_put(self, grant.role, grant.permission);
+        sets::perm_put(self, grant.role, grant.permission);
     }
 }

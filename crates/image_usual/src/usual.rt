@@ -8,8 +8,7 @@ ghost use Rattle.image_usual.specs.Usual.{Grants, Quick, Passed, Led, FilledBy, 
 use crate::taking::{TakesGrants, UsualGrant};
 use image_faults::fault::senior_fault;
 use image_words::words::{ImageWords, Run};
-use model::{Head, Role, Scan, layout};
-use sets::{WidePermission, WideRole};
+use model::{Head, Permission, Role, Scan, layout};
 
 // A kind above a number of six bits, as in a word turned until that number is lowest.
 const ASSIGNMENT_TURNED: u32 = 64 * layout::ASSIGNMENT;
@@ -43,8 +42,8 @@ pub fn grants(h: Head, w: u32) -> Option<UsualGrant>
         return None;
     }
     Some(UsualGrant {
-        role: WideRole(r),
-        permission: WidePermission(p),
+        role: Role(r as u8),
+        permission: Permission(p as u8),
     })
 }
 
@@ -66,6 +65,7 @@ fn gather(image: &ImageWords, at: Run, roles: u8, u: u32, own: u64) -> Gathered
 {
     let key = u + ASSIGNMENT_TURNED;
     let mut all = Gathered { run: at, row: own };
+    // Words are read at their places: there is no slice of words to walk.
     for place in at.place..image.last() {
         let w = image.word(place);
         let x = turned(w, 16);
@@ -180,7 +180,8 @@ fn ahead<G: TakesGrants>(
 }
 
 // The run of usual words from where `at` is, where so many members are due. The last word of the image is in no run.
-// The tables are lent one by one: a check has two of them alone, and a policy's tables have them among others.
+// The tables are lent one by one: a check has two of them, as arrays of its caller, and a policy's tables have all
+// three among others, so that a struct of them would be three `&mut` fields, made by each caller for this call alone.
 pub fn pass<G: TakesGrants>(
     image: &ImageWords,
     at: Run,
@@ -286,6 +287,7 @@ pub fn members(image: &ImageWords, at: Run, roles: u8, t: Scan) -> Behind
     if 64 < roles {
         return behind;
     }
+    // Words are read at their places: there is no slice of words to walk.
     for place in at.place..image.last() {
         let w = image.word(place);
         let Some(scan) = member(roles, behind.scan, w) else {

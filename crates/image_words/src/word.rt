@@ -1,6 +1,6 @@
 // A word decoded: the head's numbers, or what a word behind the head says, in the enum of entries.
-ghost use Rattle.std.specs.Prelude.{◌≡◌, ◌%◌, ◌^◌};
-ghost use Rattle.model.specs.Image.{field, kind_of, says, decode as decode_of, head_of as head_by_word, head_right as head_right_of};
+ghost use Rattle.std.specs.Prelude.{◌≡◌, ◌%◌, ◌^◌, true, false, MatchOption};
+ghost use Rattle.model.specs.Image.{field, kind_of, says, decode as decode_of, head_of as head_by_word, head_right};
 ghost use Rattle.image_words.specs.Bounds.{Small};
 
 use model::{Entry, Exclusion, Head, Permission, Role, User, Word, layout};
@@ -65,6 +65,7 @@ pub fn decode(w: u32) -> Word
     }
 }
 
+// The head's numbers, whether they are in their ranges or not.
 pub fn head_of(w: u32) -> Head
     ensures { result ≡ head_by_word w }
 {
@@ -75,14 +76,15 @@ pub fn head_of(w: u32) -> Head
     }
 }
 
-// The word is a head with its numbers in their ranges and no spare bits.
-pub fn head_right(w: u32) -> bool
-    ensures { result ≡ head_right_of w }
+// The numbers of a head, where they are in their ranges and it has no spare bits.
+pub fn right_head(w: u32) -> Option<Head>
+    ensures { MatchOption result (head_right w ≡ false) (λ h. (head_right w ≡ true) × (h ≡ head_by_word w)) }
 {
     let h = head_of(w);
-    (w / layout::KIND_UNIT % 16 == layout::HEAD)
+    let right = (w / layout::KIND_UNIT % 16 == layout::HEAD)
         & ((1 <= h.users) & (h.users <= 64))
         & ((1 <= h.roles) & (h.roles <= 64))
         & ((1 <= h.permissions) & (h.permissions <= 256))
-        & (w % layout::PERMISSIONS_UNIT == 0)
+        & (w % layout::PERMISSIONS_UNIT == 0);
+    right.then_some(h)
 }

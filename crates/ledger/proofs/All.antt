@@ -3,11 +3,11 @@
 -- Assumes nothing.
 use mathlib.Core.Path.{◌≡◌, refl, sym, ap, ap₂, ◌∙◌}
 use mathlib.Core.Bool.{Bool, true, false, ◌&&◌}
-use mathlib.Core.List.{List, [], ◌∷◌, map}
-use Prim.Native.Nat.{ℕ, zero, suc, ◌+◌, ◌≤◌, ◌<◌}
+use mathlib.Core.List.{List, [], ◌∷◌}
+use Prim.Native.Nat.{ℕ, ◌+◌, ◌≤◌, ◌<◌}
 use native.Mathlib.Numerals.{add-one}
 use native.Mathlib.Omega.{arith}
-use lib.ListN.{length, get_or, take, drop, drop_of_length-le}
+use lib.ListN.{length, get_or, drop, drop_of_length-le}
 use lib.Seq.{drop-cons}
 use Rattle.model.specs.Tests.{all}
 use Rattle.model_laws.proofs.Bools.{and_l, and_r, both}
@@ -24,16 +24,10 @@ module _ {A : Type 0} (f : A → Bool) (d : A) (xs : List A) (k : ℕ) where
   pub all-stop : {b : Bool} → k < length xs → b ≡ f (get_or xs k d) → b ≡ false → false ≡ all f (drop k xs)
   all-stop h e t = sym (all-at h ∙ ap (λ (x : Bool). x && all f (drop (k + 1) xs)) (sym e ∙ t))
 
-  pub all_end : length xs ≤ k → true ≡ all f (drop k xs)
-  unfolding all
-  all_end h = rw (drop_of_length-le xs h)
-
--- the first n of a list, each by what a map gives for it
-pub all_mapped : {A B : Type 0} (f : B → Bool) (g : A → B) (n : ℕ) (xs : List A) → all (λ x. f (g x)) (take n xs) ≡ all f (take n (map g xs))
+-- behind the last
+pub all_end : {A : Type 0} (f : A → Bool) (xs : List A) (k : ℕ) → length xs ≤ k → true ≡ all f (drop k xs)
 unfolding all
-all_mapped f g zero xs = refl
-all_mapped f g (suc n) [] = refl
-all_mapped f g (suc n) (x ∷ xs) = ap (λ (b : Bool). f (g x) && b) (all_mapped f g n xs)
+all_end f xs k h = rw (drop_of_length-le xs h)
 
 pub all_cong : {A : Type 0} (f g : A → Bool) (xs : List A) → ((x : A) → f x ≡ g x) → all f xs ≡ all g xs
 unfolding all

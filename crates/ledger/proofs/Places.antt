@@ -14,6 +14,7 @@ use Rattle.model.specs.Bytes.{number, bytes_of}
 use Rattle.model.specs.Line.{line_size, read_sessions, read_line, write_sessions, write_line}
 use Rattle.model.specs.Run.{line_at, with_line}
 use Rattle.model_laws.proofs.LineLaws.{length-bytes_of, length-write_sessions, length-write_line}
+use Rattle.model_laws.proofs.LedgerLaws.{apart, line_at-length}
 use Rattle.octets.specs.Splice.{splice, number_at}
 use Rattle.octets.proofs.Splices.{splice-splice, splice-line}
 use Rattle.ledger.specs.Places.{session_in, session_bytes}
@@ -81,6 +82,17 @@ read_next l at k ss s inv h e =
 pub length-line : (z u : ℕ) (ledger : List ℕ) → z * u + z ≤ length ledger → length (line_at z u ledger) ≡ z
 unfolding line_at
 length-line z u ledger h = length-take-le z (drop (z * u) ledger) (omega (arith, length-drop (z * u) ledger))
+
+-- the line of user u, of n with S sessions each
+module _ (S u n : ℕ) (ledger : List ℕ) (whole : length ledger ≡ line_size S * n) (h : u < n) where
+  -- has its bytes there
+  pub line_there : (16 + 16 * S) * u + (16 + 16 * S) ≤ length ledger
+  unfolding line_size
+  line_there = rw whole (apart (16 + 16 * S) u n h)
+
+  -- has its size
+  pub line_whole : (bs : List ℕ) → bs ≡ line_at (line_size S) u ledger → length bs ≡ line_size S
+  line_whole bs e = ap length e ∙ line_at-length (line_size S) u n ledger whole h
 
 -- the line of user u, by where its numbers stand
 pub line_read : (W u : ℕ) (ledger : List ℕ)

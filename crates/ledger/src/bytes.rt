@@ -48,7 +48,8 @@ fn sessions_at(s: &[u8], at: usize) -> [Session; SESSIONS]
     sessions
 }
 
-// The line of the user.
+// The line of the user. That it is there is a clause: callers have it by the refusals 9 and 10, and a `Ledger` would be
+// made at ten calls that read one line each.
 pub fn line_of(ledger: &[u8], user: usize) -> Line
     requires { line_size SESSIONS * user + line_size SESSIONS ≤ length ledger.now }
     ensures { result ≡ read_line SESSIONS (line_at (line_size SESSIONS) user ledger.now) }
@@ -83,7 +84,7 @@ fn put_sessions(s: &mut [u8], at: usize, sessions: [Session; SESSIONS])
     }
 }
 
-// Puts the line in place of the user's.
+// Puts the line in place of the user's. That it is there is a clause: a `Ledger` lends its bytes to be read alone.
 pub fn put_line(ledger: &mut [u8], user: usize, l: Line)
     requires { line_size SESSIONS * user + line_size SESSIONS ≤ length ledger.old }
     ensures { ledger.new ≡ with_line (line_size SESSIONS) user (write_line l) ledger.old }

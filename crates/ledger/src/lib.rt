@@ -2,5 +2,6 @@
 #![tactic(auto)]
 
 pub mod bytes;
+pub mod lines;
 pub mod plainly;
 pub mod sound;

@@ -9,26 +9,21 @@ ghost use Rattle.exclusion_rows.specs.Table.{exclusions_of};
 ghost use Rattle.ledger.specs.Held.{few_in as few_in_of, Held};
 
 use crate::bytes::{LINE, line_bytes, line_of, session_at};
-use crate::sound::{below, session_sound, sound};
-use exclusion_rows::{ExclusionTable, exclusion_of};
+use crate::lines::LineBytes;
+use crate::sound::{session_sound, sound};
+use exclusion_rows::ExclusionTable;
 use model::SESSIONS;
 use policy_tables::PolicyTables;
+use sets::counted::Counted;
 
 // Every session of the line's bytes is sound, by its open bits and the user's history.
-fn sessions_sound_in(
-    bytes: &[u8],
-    sessions: usize,
-    opened: u64,
-    history: u64,
-    authorized: u64,
-) -> bool
-    requires { (16 + 16 * sessions ≤ length bytes.now) × (sessions ≤ 64) }
+fn sessions_sound_in(line: &LineBytes, opened: u64, history: u64, authorized: u64) -> bool
     ensures { (m : Meaning) (l : LineOf) → m.authorized ≡ authorized → l.opened ≡ opened → l.history ≡ history
-        → result ≡ sessions_sound m l 0 (read_sessions sessions (drop 16 bytes.now)) }
+        → result ≡ sessions_sound m l 0 (read_sessions line.now.sessions (drop 16 line.now.bytes.now)) }
 {
     // The sessions go by number: each has its bytes at an offset, and its open bit.
-    for k in 0..sessions {
-        let s = session_at(bytes, 16 + 16 * k);
+    for k in 0..line.sessions as usize {
+        let s = session_at(line.bytes, 16 + 16 * k);
         if !session_sound(opened, history, k, s, authorized) {
             return false;
         }
@@ -40,8 +35,7 @@ fn sessions_sound_in(
 fn few_in(set: u64, xs: &ExclusionTable) -> bool
     ensures { result ≡ few_in_of set (exclusions_of xs.now) }
 {
-    for row in xs.listed() {
-        let x = exclusion_of(*row);
+    for x in xs.listed() {
         if !sets::fewer(x.members, set, x.n as u32) {
             return false;
         }
@@ -49,33 +43,36 @@ fn few_in(set: u64, xs: &ExclusionTable) -> bool
     true
 }
 
-// The line of so many sessions, of a user who may activate the roles `own`, is plainly sound.
-pub fn plainly_sound(bytes: &[u8], sessions: u8, tables: &PolicyTables, own: u64) -> bool
-    requires { (length bytes.now ≡ line_size sessions) × (sessions ≤ 64) }
+// The line, of a user who may activate the roles `own`, is plainly sound.
+pub fn plainly_sound(line: &LineBytes, tables: &PolicyTables, own: u64) -> bool
     ensures { result ≡ true → (m : Meaning) → Held tables.now.head.roles own (exclusions_of tables.now.exclusions) m
-        → sound_by sessions m (read_line sessions bytes.now) ≡ true }
+        → sound_by line.now.sessions m (read_line line.now.sessions line.now.bytes.now) ≡ true }
 {
-    let opened = octets::get_u64(bytes, 0);
-    let history = octets::get_u64(bytes, 8);
-    let formed = below(opened, sessions) & below(history, tables.head.roles);
+    let opened = octets::get_u64(line.bytes, 0);
+    let history = octets::get_u64(line.bytes, 8);
+    let formed = opened.below(line.sessions as u16) & history.below(tables.head.roles as u16);
     if !formed {
         return false;
     }
-    if !sessions_sound_in(bytes, sessions as usize, opened, history, own) {
+    if !sessions_sound_in(line, opened, history, own) {
         return false;
     }
     few_in(history, &tables.exclusions)
 }
 
 // The user's line of the ledger is sound, where the user may activate the roles `own`: plainly, or by all that a line
-// is judged by.
+// is judged by. By a `Ledger` the number of sessions is unknown where a line is judged, and a call that judges 64 lines
+// takes 1.13 of the time: the user's place is a clause.
 pub fn sound_at(ledger: &[u8], user: usize, tables: &PolicyTables, own: u64) -> bool
     requires { line_size SESSIONS * user + line_size SESSIONS ≤ length ledger.now }
     ensures { (m : Meaning) → Held tables.now.head.roles own (exclusions_of tables.now.exclusions) m
         → result ≡ sound_by SESSIONS m (read_line SESSIONS (line_at (line_size SESSIONS) user ledger.now)) }
 {
-    let bytes = line_bytes(ledger, LINE, user);
-    if plainly_sound(bytes, SESSIONS as u8, tables, own) {
+    let line = LineBytes {
+        bytes: line_bytes(ledger, LINE, user),
+        sessions: SESSIONS as u8,
+    };
+    if plainly_sound(&line, tables, own) {
         return true;
     }
     let l = line_of(ledger, user);

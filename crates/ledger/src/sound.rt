@@ -1,13 +1,14 @@
 // Whether a line is sound: its open bits, histories and sessions have their form, and every exclusion is met.
-ghost use Rattle.std.specs.Prelude.{◌≡◌, ◌≤◌, ◌<◌, ◌^◌, ltb};
+ghost use Rattle.std.specs.Prelude.{◌≡◌, ◌≤◌, ◌<◌};
 ghost use Rattle.model.specs.declared.Line.{Line as LineOf};
 ghost use Rattle.model.specs.Policy.{Meaning, met};
 ghost use Rattle.model.specs.Line.{SESSIONS, active_in as active_in_of, counted as counted_by, exclusions_met as exclusions_met_of, session_sound as session_sound_of, sessions_sound as sessions_sound_of, sound as sound_by};
 ghost use Rattle.exclusion_rows.specs.Table.{exclusions_of};
 ghost use Rattle.ledger.specs.Held.{met_at as met_at_of, named_in, named_by, Listed, Held};
 
-use exclusion_rows::{ExclusionTable, exclusion_of};
+use exclusion_rows::ExclusionTable;
 use model::{Exclusion, Kind, Line, Role, SESSIONS, Session};
+use sets::counted::Counted;
 
 // ---- exclusions
 
@@ -102,8 +103,8 @@ pub fn exclusions_met(l: Line, xs: &ExclusionTable) -> bool
 {
     let sessions = l.sessions;
     let all = l.history | named_in(sessions);
-    for row in xs.listed() {
-        if !met_by_all(l, all, exclusion_of(*row)) {
+    for x in xs.listed() {
+        if !met_by_all(l, all, *x) {
             return false;
         }
     }
@@ -144,22 +145,12 @@ fn sessions_sound(l: Line, authorized: u64) -> bool
 
 // ---- the line
 
-// The set has numbers below n alone.
-pub fn below(set: u64, n: u8) -> bool
-    ensures { result ≡ ltb set (2 ^ n) }
-{
-    if n < 64 {
-        return set < (1 << n);
-    }
-    true
-}
-
 // The line of a user who may activate the roles `own` is sound.
 pub fn sound(l: Line, roles: u8, own: u64, xs: &ExclusionTable) -> bool
     ensures { (m : Meaning) → Held roles own (exclusions_of xs.now) m → result ≡ sound_by SESSIONS m l }
 {
-    let opened = below(l.opened, SESSIONS as u8);
-    let history = below(l.history, roles);
+    let opened = l.opened.below(SESSIONS as u16);
+    let history = l.history.below(roles as u16);
     let sessions = sessions_sound(l, own);
     opened & history & sessions & exclusions_met(l, xs)
 }

@@ -1,4 +1,5 @@
-// The changes that calls make to a line: a session opened, closed, or given other active roles.
+// The changes that calls make to a line: a session opened, closed, or given other active roles. Each has one caller,
+// and asks for more of the session or for nothing else, so that line and session are two parameters here.
 #![tactic(auto)]
 
 ghost use Rattle.std.specs.Prelude.{◌≡◌, true, ◌+◌, ◌<◌, ◌^◌};
@@ -12,7 +13,7 @@ pub fn is_open(l: Line, k: usize) -> bool
     requires { k < 64 }
     ensures { result ≡ is_open_of l k }
 {
-    (l.opened >> k) % 2 == 1
+    sets::has_bit(l.opened, k)
 }
 
 // The set of session k alone.
@@ -27,6 +28,7 @@ fn bit(k: usize) -> u64
 pub fn lowest_closed(l: Line) -> Option<usize>
     ensures { IsLowestClosed l result }
 {
+    // The number is a session, and the answer.
     for k in 0..SESSIONS {
         if !is_open(l, k) {
             return Some(k);

@@ -11,6 +11,7 @@ use lib.Bits.{bit_and, bit_xor}
 use lib.ListN.{length, get_or, set, drop, replicate, drop_of_length-le}
 use lib.Pow.{pow_mono}
 use lib.Seq.{drop-cons}
+use mir.Val.{bool_byte}
 use Rattle.model.specs.Sets.{has, one}
 use Rattle.model_laws.proofs.SetLaws.{has-inter, one-most}
 use Rattle.model_laws.proofs.UnionLaws.{has_none}
@@ -80,6 +81,12 @@ unfolding count_in
 none_counted r = rw (has_none r)
 
 -- ---- a digit at its place
+
+-- the machine's number of a test is the digit
+pub digit_of : (b : Bool) (n : ℕ) → n ≡ bool_byte b → (n ≡ one b) × (n < 2)
+digit_of true n e = (e, omega arith)
+digit_of false n e = (e, omega arith)
+
 pub placed : (b i : ℕ) → b < 2 → i < 10 → (b * 2 ^ i % 18446744073709551616 ≡ b * 2 ^ i) × (b * 2 ^ i ≤ 2 ^ i)
 placed b i h l =
     let few : i ≤ 9 = omega arith in

@@ -4,7 +4,9 @@
 
 ghost use Rattle.std.specs.Prelude.{◌≡◌, ℕ, ◌+◌, ◌<◌};
 ghost use Rattle.model.specs.Sets.{has, one};
-ghost use Rattle.limits_counts.specs.Counted.{count_at as count_at_of};
+ghost use Rattle.limits_counts.specs.Counted.{count_at};
+
+use model::Role;
 
 // Ten planes: no role is active in more than 512 sessions.
 #[derive(Clone, Copy)]
@@ -12,46 +14,40 @@ pub struct Counts {
     pub planes: [u64; 10],
 }
 
-// Nothing counted.
-pub fn none() -> Counts
-    ensures { (r : ℕ) → count_at_of result r ≡ 0 }
-{
-    Counts { planes: [0; 10] }
-}
-
-// Each role of the word counts one more. Most sessions have no role active.
-pub fn add(c: Counts, w: u64) -> Counts
-    ensures { (r : ℕ) → count_at_of c r < 1023 → count_at_of result r ≡ count_at_of c r + one (has w r) }
-{
-    if w == 0 {
-        return c;
+impl Counts {
+    // Nothing counted.
+    pub fn none() -> Counts
+        ensures { (r : ℕ) → count_at result r ≡ 0 }
+    {
+        Counts { planes: [0; 10] }
     }
-    let mut planes = c.planes;
-    let mut carried = w;
-    for plane in planes.iter_mut() {
-        let next = *plane & carried;
-        *plane ^= carried;
-        carried = next;
-    }
-    Counts { planes }
-}
 
-// The role's bit of a plane.
-fn bit(plane: u64, r: usize) -> u64
-    requires { r < 64 }
-    ensures { (result ≡ one (has plane r)) × (result < 2) }
-{
-    (plane >> r) % 2
-}
-
-// The count of role r.
-pub fn count_at(c: Counts, r: usize) -> u64
-    requires { r < 64 }
-    ensures { result ≡ count_at_of c r }
-{
-    let mut count: u64 = 0;
-    for (i, plane) in c.planes.iter().enumerate() {
-        count += bit(*plane, r) << i;
+    // Each role of the word counts one more. Most sessions have no role active.
+    pub fn with(self, word: u64) -> Counts
+        ensures { (r : ℕ) → count_at self r < 1023 → count_at result r ≡ count_at self r + one (has word r) }
+    {
+        if word == 0 {
+            return self;
+        }
+        let mut planes = self.planes;
+        let mut carried = word;
+        for plane in planes.iter_mut() {
+            let next = *plane & carried;
+            *plane ^= carried;
+            carried = next;
+        }
+        Counts { planes }
     }
-    count
+
+    // The count of role r.
+    pub fn of(self, r: Role) -> u64
+        requires { r.0 < 64 }
+        ensures { result ≡ count_at self r.0 }
+    {
+        let mut count: u64 = 0;
+        for (i, plane) in self.planes.iter().enumerate() {
+            count += u64::from(sets::has(*plane, r)) << i;
+        }
+        count
+    }
 }

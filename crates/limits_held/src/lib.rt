@@ -8,7 +8,7 @@ ghost use Rattle.limits_counts.specs.Counted.{count_at};
 ghost use Rattle.limits_held.specs.Held.{held_by_all};
 
 use ledger::bytes::line_of;
-use limits_counts::{Counts, add, none};
+use limits_counts::Counts;
 use model::{SESSIONS, Session};
 
 // The sessions of a line, session k without its roles where the line is the asker's own.
@@ -34,17 +34,19 @@ fn add_sessions(c: Counts, sessions: [Session; SESSIONS]) -> Counts
 {
     let mut all = c;
     for s in sessions {
-        all = add(all, s.active);
+        all = all.with(s.active);
     }
     all
 }
 
-// In how many sessions of so many users each role is active, session k of the user left out.
+// In how many sessions of so many users each role is active, session k of the user left out. docs/PROOFS.md names this
+// function: what it asks of a ledger stays a clause, and is no `Ledger`.
 pub fn held(ledger: &[u8], users: usize, user: usize, k: usize) -> Counts
     requires { (users ≤ 64) × (length ledger.now ≡ line_size SESSIONS * users) × (k < SESSIONS) }
     ensures { (r : ℕ) → count_at result r ≡ held_by_all ledger.now user k users r }
 {
-    let mut all = none();
+    let mut all = Counts::none();
+    // The number is a user, whose line is read; there is no slice of lines to walk.
     for v in 0..users {
         let l = line_of(ledger, v);
         let sessions = l.sessions;

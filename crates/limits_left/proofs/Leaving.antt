@@ -4,14 +4,12 @@ use mathlib.Core.Path.{◌≡◌, refl, sym, ap, ◌∙◌, subst}
 use mathlib.Core.Bool.{Bool, true, false, ◌&&◌, ◌||◌, not}
 use mathlib.Core.Logic.{◌⊎◌, inl, inr}
 use mathlib.Core.List.{List}
-use Prim.Native.Nat.{ℕ, ◌+◌, ◌-◌, ◌/◌, ◌%◌, ◌^◌, ◌≤◌, ◌<◌}
+use Prim.Native.Nat.{ℕ, ◌+◌, ◌-◌, ◌^◌, ◌≤◌, ◌<◌}
 use native.Mathlib.Numerals.{add-one}
-use native.Mathlib.Nat.{mod-lt}
 use native.Mathlib.Decide.{dec_lt}
 use native.Mathlib.Omega.{arith}
 use lib.Bits.{bit_and, bit_or, and_zero_r, or_zero_r}
 use lib.Dec.{eqb, ltb, leb}
-use lib.Pow.{pow_pos}
 use lib.ListN.{length, get_or, drop, drop_of_length-le}
 use lib.Seq.{drop-cons}
 use borrow.Author.Tests.{eqb-true, eqb-false, eq-eqb, ne_eqb, lt-ltb, le-ltb, lt-leb, le-leb}
@@ -79,20 +77,17 @@ ltb_not a b =
     ]
 
 module _ (own t n r : ℕ) where
-  pub stays_none : own / 2 ^ r % 2 ≡ 0 → false ≡ stays own t n r
-  unfolding stays has
+  pub stays_none : has own r ≡ false → false ≡ stays own t n r
+  unfolding stays
   stays_none e = rw e
 
-  own_bit : (own / 2 ^ r % 2 ≡ 0 → ⊥) → own / 2 ^ r % 2 ≡ 1
-  own_bit z = let l = mod-lt (own / 2 ^ r) (pow_pos 1) in omega (arith, l, z)
+  pub stays_free : has own r ≡ true → t ≡ 0 → true ≡ stays own t n r
+  unfolding stays
+  stays_free e z = rw (e, eq-eqb t 0 z)
 
-  pub stays_free : (own / 2 ^ r % 2 ≡ 0 → ⊥) → t ≡ 0 → true ≡ stays own t n r
-  unfolding stays has
-  stays_free z e = rw (own_bit z, eq-eqb t 0 e)
-
-  pub stays-under : (m : ℕ) → (own / 2 ^ r % 2 ≡ 0 → ⊥) → (t ≡ 0 → ⊥) → m ≡ n → ltb m (t - 1) ≡ stays own t n r
-  unfolding stays has
-  stays-under m z e f = rw (own_bit z, ne_eqb t 0 e) (ap (λ (i : ℕ). ltb i (t - 1)) f ∙ ltb_not n (t - 1))
+  pub stays-under : (m : ℕ) → has own r ≡ true → (t ≡ 0 → ⊥) → m ≡ n → ltb m (t - 1) ≡ stays own t n r
+  unfolding stays
+  stays-under m h e f = rw (h, ne_eqb t 0 e) (ap (λ (i : ℕ). ltb i (t - 1)) f ∙ ltb_not n (t - 1))
 
 -- ---- the counts are those that an ask is told
 module _ (p : Policy) (ledger : List ℕ) (u k : ℕ) (below : u < p.head.users) where

@@ -8,12 +8,12 @@ ghost use Rattle.model.specs.Sets.{set_of};
 ghost use Rattle.model.specs.Policy.{Policy, authorized};
 ghost use Rattle.model.specs.Line.{SESSIONS, line_size};
 ghost use Rattle.sessions.specs.Calls.{Known};
-ghost use Rattle.limits_counts.specs.Counted.{count_at as count_at_of};
+ghost use Rattle.limits_counts.specs.Counted.{count_at};
 ghost use Rattle.limits_left.specs.Left.{stays as stays_of, Unlimited, Left};
 
-use hierarchy::member::joined;
-use limits_counts::{Counts, count_at};
+use limits_counts::Counts;
 use limits_held::held;
+use model::Role;
 use policy_tables::PolicyTables;
 use sessions::first::roles_of;
 use sessions::given::UserSession;
@@ -43,32 +43,22 @@ fn some_limited(limits: &[u64; 64], set: u64) -> bool
 }
 
 // Role r is one of the user's own, and no limit t bars it.
-fn stays(own: u64, t: u64, counts: Counts, r: usize) -> bool
-    requires { r < 64 }
-    ensures { result ≡ stays_of own t (count_at_of counts r) r }
+fn stays(own: u64, t: u64, counts: Counts, r: Role) -> bool
+    requires { r.0 < 64 }
+    ensures { result ≡ stays_of own t (count_at counts r.0) r.0 }
 {
-    if (own >> r) % 2 == 0 {
-        return false;
-    }
-    if t == 0 {
-        return true;
-    }
-    count_at(counts, r) < t - 1
+    sets::has(own, r) && (t == 0 || counts.of(r) < t - 1)
 }
 
 // Those of the user's roles that no limit bars, by the counts of other sessions.
 fn left_by(own: u64, limits: &[u64; 64], counts: Counts) -> u64
-    ensures { result ≡ set_of (λ r. stays_of own (get_or limits.now r 0) (count_at_of counts r) r) 64 }
+    ensures { result ≡ set_of (λ r. stays_of own (get_or limits.now r 0) (count_at counts r) r) 64 }
 {
-    let mut found: u64 = 0;
-    for (r, t) in limits.iter().enumerate() {
-        found = joined(found, r, stays(own, *t, counts, r));
-    }
-    found
+    sets::set_of(64, |r| stays(own, limits[r], counts, Role(r as u8)))
 }
 
 // Those of the user's own roles that no limit bars for session k. Where none of them has a limit, no other line is
-// looked at.
+// looked at. docs/PROOFS.md names this function: what it asks of a ledger stays a clause, and is no `Ledger`.
 pub fn left(ledger: &[u8], users: usize, user: usize, k: usize, own: u64, limits: &[u64; 64]) -> u64
     requires { (users ≤ 64) × (user < users) × (length ledger.now ≡ line_size SESSIONS * users) × (k < SESSIONS) }
     ensures { (p : Policy) → p.head.users ≡ users → authorized p user ≡ own → p.limits ≡ limits.now
@@ -80,7 +70,7 @@ pub fn left(ledger: &[u8], users: usize, user: usize, k: usize, own: u64, limits
     own
 }
 
-// The same by a policy's tables.
+// The same by a policy's tables, and by the same clause: a `Ledger` would be told to have as many users as the tables.
 pub fn roles_left(ledger: &[u8], tables: &PolicyTables, who: UserSession) -> u64
     requires { (who.user < tables.now.head.users) × (length ledger.now ≡ line_size SESSIONS * tables.now.head.users)
         × (who.session < SESSIONS) }

@@ -3,9 +3,8 @@ ghost use Rattle.std.specs.Prelude.{◌≡◌, ◌*◌, ◌<◌, length};
 ghost use Rattle.model.specs.Policy.{Policy, meaning};
 ghost use Rattle.model.specs.Line.{SESSIONS, line_size, sound as sound_by};
 ghost use Rattle.model.specs.Run.{line_of};
-ghost use Rattle.exclusion_rows.specs.Table.{exclusions_of};
 ghost use Rattle.reasons.specs.Numbers.{code_of, refusal_of};
-ghost use Rattle.sessions.specs.Calls.{Known};
+ghost use Rattle.sessions.specs.Calls.{KnownBy};
 ghost use Rattle.limits_lines.specs.Lines.{blamed as blamed_for, lines_refusal as lines_refusal_of, others_refusal};
 
 use ledger::bytes::LINE;
@@ -15,10 +14,11 @@ use policy_tables::PolicyTables;
 use reasons::{Reason, Refusal};
 use sessions::first::roles_of;
 
-// The line of user v is sound.
+// The line of user v is sound. docs/PROOFS.md names this function: what it asks of a ledger stays a clause, here and in
+// what calls it, and is no `Ledger`.
 pub fn line_sound(ledger: &[u8], tables: &PolicyTables, v: usize) -> bool
     requires { (length ledger.now ≡ line_size SESSIONS * tables.now.head.users) × (v < tables.now.head.users) }
-    ensures { (p : Policy) → Known tables.now.head tables.now.authorized (exclusions_of tables.now.exclusions) p
+    ensures { (p : Policy) → KnownBy tables.now p
         → result ≡ sound_by SESSIONS (meaning p v) (line_of SESSIONS ledger.now v) }
 {
     let own = roles_of(&tables.authorized, v);
@@ -42,9 +42,10 @@ fn blamed(user: u64, v: usize) -> Refusal
 // The lowest line that is not sound.
 fn lines_refusal(ledger: &[u8], tables: &PolicyTables, user: u64) -> Result<(), Refusal>
     requires { length ledger.now ≡ line_size SESSIONS * tables.now.head.users }
-    ensures { (p : Policy) → Known tables.now.head tables.now.authorized (exclusions_of tables.now.exclusions) p
+    ensures { (p : Policy) → KnownBy tables.now p
         → refusal_of result ≡ lines_refusal_of SESSIONS p ledger.now user 0 tables.now.head.users }
 {
+    // The number is a user, and part of the answer.
     for v in 0..tables.head.users as usize {
         if !line_sound(ledger, tables, v) {
             return Err(blamed(user, v));
@@ -55,7 +56,7 @@ fn lines_refusal(ledger: &[u8], tables: &PolicyTables, user: u64) -> Result<(), 
 
 // What a line that is not sound refuses an ask with, where some role has a limit, and neither 9 nor 10 refuses the ask.
 pub fn refusal(ledger: &[u8], tables: &PolicyTables, user: u64) -> Result<(), Refusal>
-    ensures { (p : Policy) → Known tables.now.head tables.now.authorized (exclusions_of tables.now.exclusions) p
+    ensures { (p : Policy) → KnownBy tables.now p
         → p.limits ≡ tables.now.limits → refusal_of result ≡ others_refusal SESSIONS p ledger.now user }
 {
     if !has_limits(&tables.limits) {

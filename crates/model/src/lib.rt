@@ -10,7 +10,8 @@ pub mod layout; // layout.rt: the kinds and fields of an image's words
 #[derive(Clone, Copy, PartialEq, Eq)]
 pub struct User(pub u8);
 
-// A role's number.
+// A role's number, any of a byte: an image can name roles that there are not. That it is below 64 is a clause of the
+// functions that need it.
 #[derive(Clone, Copy, PartialEq, Eq)]
 pub struct Role(pub u8);
 
@@ -21,7 +22,7 @@ pub struct Permission(pub u8);
 // ---- the policy image
 
 // The head's numbers: of users, roles and permissions (01: U, R, P).
-#[derive(Clone, Copy)]
+#[derive(Clone, Copy, Default)]
 pub struct Head {
     pub users: u8,
     pub roles: u8,
@@ -31,8 +32,9 @@ pub struct Head {
 // The four kinds of mutual exclusion, 0 to 3 in an image: what is counted is active in the session (single session),
 // active in any open session of the user (multi session), or was so at any time since the session was opened, or ever
 // (history).
-#[derive(Clone, Copy, PartialEq, Eq, PartialOrd, Ord)]
+#[derive(Clone, Copy, Default, PartialEq, Eq, PartialOrd, Ord)]
 pub enum Kind {
+    #[default]
     SsDmer,
     MsDmer,
     SsHmer,
@@ -40,7 +42,7 @@ pub enum Kind {
 }
 
 // A mutual exclusion: fewer than n of its members may be counted. The members are a role set.
-#[derive(Clone, Copy, PartialEq, Eq, PartialOrd, Ord)]
+#[derive(Clone, Copy, Default, PartialEq, Eq, PartialOrd, Ord)]
 pub struct Exclusion {
     pub kind: Kind,
     pub n: u8,
@@ -77,7 +79,7 @@ pub struct Word {
 
 // What the words so far leave to judge the next one by, beside the roles assigned so far: the number of exclusions, how
 // many members are still due, and the members so far of the exclusion that they are due for.
-#[derive(Clone, Copy)]
+#[derive(Clone, Copy, Default)]
 pub struct Scan {
     pub exclusions: u32,
     pub due: u32,
@@ -98,7 +100,7 @@ pub enum Checked {
 pub const SESSIONS: usize = 8;
 
 // A session: its active roles, and those active at any time since it was opened (01: its past), as role sets.
-#[derive(Clone, Copy)]
+#[derive(Clone, Copy, Default)]
 pub struct Session {
     pub active: u64,
     pub history: u64,

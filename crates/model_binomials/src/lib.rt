@@ -2168,6 +2168,7 @@ pub fn allowed(m: usize, n: usize) -> u64
     ensures { result ≡ sum_below (binomial m) n }
 {
     let mut sum: u64 = 0;
+    // The number is a size that sets have.
     for k in 0..n {
         sum += entry(m, k);
     }

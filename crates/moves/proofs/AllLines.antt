@@ -16,7 +16,7 @@ use Rattle.model.specs.Line.{line_size}
 use Rattle.model.specs.Session.{Reply, refuse, done}
 use Rattle.model.specs.Run.{Event, line_at, returned}
 use Rattle.model.specs.Moves.{resized, line_fault, move_answer, resized_lines, written_if, move_on}
-use Rattle.model_laws.proofs.LedgerLaws.{apart, line_at-length}
+use Rattle.model_laws.proofs.LedgerLaws.{apart}
 use Rattle.model_laws.proofs.Resizing.{length-resized}
 use Rattle.model_laws.proofs.MoveLines.{length-lines, answer_done, done_answer}
 use Rattle.octets.specs.Splice.{splice}
@@ -24,13 +24,9 @@ use Rattle.octets.proofs.Splices.{splice-splice}
 use Rattle.sessions.specs.Calls.{Gives}
 use Rattle.sessions.proofs.FirstSteps.{refused_by}
 
--- ---- a line among those of n users, of z bytes each
-module _ (z size u n : ℕ) (l : List ℕ) (e : size ≡ z) (fits : length l ≡ z * n) (h : u < n) where
-  pub line_inside : size * u + size ≤ length l
-  line_inside = rw (e, fits) (apart z u n h)
-
-  pub line_whole : (bs : List ℕ) → bs ≡ line_at size u l → length bs ≡ z
-  line_whole bs k = ap length k ∙ ap (λ (x : ℕ). length (line_at x u l)) e ∙ line_at-length z u n l fits h
+-- a line among those of n users, of z bytes each, has its bytes
+pub line_inside : (z u n : ℕ) (l : List ℕ) → length l ≡ z * n → u < n → z * u + z ≤ length l
+line_inside z u n l fits h = rw fits (apart z u n h)
 
 -- the size of a line of F sessions, and of the lines of n users
 pub size_most : (F W size : ℕ) → size ≡ line_size F → F ≤ W → size ≤ line_size W
@@ -41,9 +37,9 @@ pub lines-most : (F W size n : ℕ) → size ≡ line_size F → F ≤ W → n �
 lines-most F W size n e h i = mul-le-mul (size_most F W size e h) i
 
 -- the fault of user u's line, by the bytes that code found
-pub fault_at : (F T : ℕ) (p : Policy) (old : List ℕ) (u : ℕ) {size n : ℕ} {bs : List ℕ} → size ≡ line_size F → bs ≡ line_at size u old
-    → n ≡ line_fault F T (meaning p u) bs → n ≡ line_fault F T (meaning p u) (line_at (line_size F) u old)
-fault_at F T p old u e k q = q ∙ ap (line_fault F T (meaning p u)) (k ∙ ap (λ (z : ℕ). line_at z u old) e)
+pub fault_at : {F S : ℕ} (T : ℕ) (p : Policy) (old : List ℕ) (u : ℕ) {n : ℕ} {bs : List ℕ} → S ≡ F → bs ≡ line_at (line_size F) u old
+    → n ≡ line_fault S T (meaning p u) bs → n ≡ line_fault F T (meaning p u) (line_at (line_size F) u old)
+fault_at T p old u e k q = q ∙ ap₂ (λ (s : ℕ) (l : List ℕ). line_fault s T (meaning p u) l) e k
 
 -- ---- the answer, from user u on of n
 module _ (F W : ℕ) (p : Policy) (old : List ℕ) (u n : ℕ) where
@@ -105,11 +101,11 @@ lines_next F W old new u n h fits =
     ∙ ap (resized_lines F W old 0) (sym (add-one u)))
 
 -- a turn of the loop that writes them
-pub lines_put : (F T : ℕ) (old new₀ new after bs : List ℕ) (size u n : ℕ) → size ≡ line_size F → u < n → length new₀ ≡ line_size T * n
-    → new ≡ splice new₀ 0 (resized_lines F T old 0 u) → bs ≡ line_at size u old → after ≡ splice new (line_size T * u) (resized T bs)
-    → after ≡ splice new₀ 0 (resized_lines F T old 0 (u + 1))
-lines_put F T old new₀ new after bs size u n e h fits inv k put =
-    put ∙ ap₂ (λ (x y : List ℕ). splice x (line_size T * u) (resized T y)) inv (k ∙ ap (λ (x : ℕ). line_at x u old) e)
+pub lines_put : (F T : ℕ) (old new₀ new after bs : List ℕ) (u n : ℕ) → u < n → length new₀ ≡ line_size T * n
+    → new ≡ splice new₀ 0 (resized_lines F T old 0 u) → bs ≡ line_at (line_size F) u old
+    → after ≡ splice new (line_size T * u) (resized T bs) → after ≡ splice new₀ 0 (resized_lines F T old 0 (u + 1))
+lines_put F T old new₀ new after bs u n h fits inv k put =
+    put ∙ ap₂ (λ (x y : List ℕ). splice x (line_size T * u) (resized T y)) inv k
     ∙ lines_next F T old new₀ u n h fits
 
 -- ---- a move under an accepted policy

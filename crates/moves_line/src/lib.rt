@@ -13,13 +13,15 @@ ghost use Rattle.reasons.specs.Numbers.{fault_of};
 ghost use Rattle.ledger.specs.Held.{Held};
 
 use ledger::bytes::session_at;
+use ledger::lines::LineBytes;
 use ledger::plainly::plainly_sound;
-use ledger::sound::{below, sound};
+use ledger::sound::sound;
 use model::{Line, SESSIONS, Session};
 use policy_tables::PolicyTables;
 use reasons::Reason;
+use sets::counted::Counted;
 
-// The bytes of a line with so many sessions.
+// The bytes of a line with so many sessions: of SESSIONS as many as the constant `ledger::bytes::LINE` says.
 pub fn line_size(sessions: u8) -> usize
     ensures { result ≡ line_size_of sessions }
 {
@@ -28,65 +30,56 @@ pub fn line_size(sessions: u8) -> usize
 
 // ---- reads
 
-// The sessions of a line with so many, and empty ones behind them. A line of SESSIONS has none of these, so that
+// The sessions of a line, and empty ones behind them. A line of SESSIONS has none of these, so that
 // `ledger::bytes::line_of` reads it with no count.
-fn sessions_in(bytes: &[u8], count: usize) -> [Session; SESSIONS]
-    requires { (count ≤ SESSIONS) × (16 + 16 * count ≤ length bytes.now) }
-    ensures { result ≡ read_sessions count (drop 16 bytes.now) ++ replicate (SESSIONS - count) empty_session }
+fn sessions_in(line: &LineBytes) -> [Session; SESSIONS]
+    ensures { result
+        ≡ read_sessions line.now.sessions (drop 16 line.now.bytes.now) ++ replicate (SESSIONS - line.now.sessions) empty_session }
 {
     let mut sessions = [Session {
         active: 0,
         history: 0,
     }; SESSIONS];
     // The sessions go by number: each has its bytes at an offset.
-    for k in 0..count {
-        let next = session_at(bytes, 16 + 16 * k);
+    for k in 0..line.sessions as usize {
+        let next = session_at(line.bytes, 16 + 16 * k);
         sessions[k] = next;
     }
     sessions
 }
 
-// The line of so many sessions, with empty ones behind them.
-fn line_in(bytes: &[u8], count: u8) -> Line
-    requires { (count ≤ SESSIONS) × (length bytes.now ≡ line_size_of count) }
-    ensures { result ≡ padded (SESSIONS - count) (read_line count bytes.now) }
+// The line, with empty sessions behind its own.
+fn line_in(line: &LineBytes) -> Line
+    ensures { result ≡ padded (SESSIONS - line.now.sessions) (read_line line.now.sessions line.now.bytes.now) }
 {
-    let sessions = sessions_in(bytes, count as usize);
+    let sessions = sessions_in(line);
     Line {
-        opened: octets::get_u64(bytes, 0),
-        history: octets::get_u64(bytes, 8),
+        opened: octets::get_u64(line.bytes, 0),
+        history: octets::get_u64(line.bytes, 8),
         sessions,
     }
 }
 
-// The line of so many sessions, of a user who may activate the roles `own`, is sound: plainly, or as the line of
-// SESSIONS that it is with empty ones behind it.
-fn line_sound(bytes: &[u8], sessions: u8, tables: &PolicyTables, own: u64) -> bool
-    requires { (length bytes.now ≡ line_size_of sessions) × (0 < sessions) × (sessions ≤ SESSIONS) }
+// The line, of a user who may activate the roles `own`, is sound: plainly, or as the line of SESSIONS that it is with
+// empty ones behind it.
+fn line_sound(line: &LineBytes, tables: &PolicyTables, own: u64) -> bool
     ensures { (m : Meaning) → Antitone m → Held tables.now.head.roles own (exclusions_of tables.now.exclusions) m
-        → result ≡ sound_by sessions m (read_line sessions bytes.now) }
+        → result ≡ sound_by line.now.sessions m (read_line line.now.sessions line.now.bytes.now) }
 {
-    if plainly_sound(bytes, sessions, tables, own) {
+    if plainly_sound(line, tables, own) {
         return true;
     }
-    let l = line_in(bytes, sessions);
-    below(l.opened, sessions) & sound(l, tables.head.roles, own, &tables.exclusions)
+    let l = line_in(line);
+    l.opened.below(line.sessions as u16) & sound(l, tables.head.roles, own, &tables.exclusions)
 }
 
-// Why a line of `from` sessions cannot go to `to`: it is not sound, or a session from `to` on is open.
-pub fn line_fault(
-    bytes: &[u8],
-    from: u8,
-    to: u8,
-    tables: &PolicyTables,
-    own: u64,
-) -> Result<(), Reason>
-    requires { (length bytes.now ≡ line_size_of from) × (0 < from) × (from ≤ SESSIONS) }
+// Why a line cannot go to `to` sessions: it is not sound, or a session from `to` on is open.
+pub fn line_fault(line: &LineBytes, to: u8, tables: &PolicyTables, own: u64) -> Result<(), Reason>
     ensures { (m : Meaning) → Antitone m → Held tables.now.head.roles own (exclusions_of tables.now.exclusions) m
-        → fault_of result ≡ line_fault_of from to m bytes.now }
+        → fault_of result ≡ line_fault_of line.now.sessions to m line.now.bytes.now }
 {
-    let low = below(octets::get_u64(bytes, 0), to);
-    let formed = line_sound(bytes, from, tables, own);
+    let low = octets::get_u64(line.bytes, 0).below(to as u16);
+    let formed = line_sound(line, tables, own);
     if !formed {
         return Err(Reason::Line);
     }
@@ -130,7 +123,8 @@ fn put(s: &mut [u8], at: usize, bytes: &[u8])
     copy(s, at, bytes);
 }
 
-// Writes the line at the user's place of a ledger with so many sessions a user: with zeros behind it, or cut.
+// Writes the line at the user's place of a ledger with so many sessions a user: with zeros behind it, or cut. That the
+// place is there is a clause: a `Ledger` lends its bytes to be read alone.
 pub fn put_resized(ledger: &mut [u8], sessions: u8, user: usize, bytes: &[u8])
     requires { line_size_of sessions * user + line_size_of sessions ≤ length ledger.old }
     ensures { ledger.new ≡ splice ledger.old (line_size_of sessions * user) (resized sessions bytes.now) }

@@ -1,5 +1,6 @@
 // The calls of the session kit as a static library for C hosts: each export calls the library's function of its name
-// and promises the same. Numbers are u64, a slice is a pointer and a length.
+// and promises the same. Numbers are u64, a slice is a pointer and a length. The clauses stand here a second time since
+// a library exports nothing and a static library is no library (docs/DECISIONS.md, 143).
 #![tactic(auto)]
 
 ghost use Rattle.std.specs.Prelude.{◌≡◌, ◌+◌, ◌*◌, length};

@@ -1,12 +1,12 @@
 // The script as it is read, and the answers as they are written.
-ghost use Rattle.std.specs.Prelude.{◌≡◌, ◌+◌, ◌≤◌, ◌<◌, length, IfOk, IfSome};
+ghost use Rattle.std.specs.Prelude.{◌≡◌, ℕ, ◌+◌, ◌≤◌, ◌<◌, length, IfOk, IfSome};
 ghost use Rattle.model.specs.Judgement.{judge};
 ghost use Rattle.model_script.specs.Script.{first_ledger};
-ghost use Rattle.script_input.specs.declared.lines.Run.{Run};
 
 use script_answers::lines::{Place, answer_last, answer_lines};
 use script_input::failure::say;
-use script_input::lines::Run;
+use script_input::lines::BegunLine;
+use script_text::Writer;
 use std::io;
 use std::io::Read;
 
@@ -29,62 +29,53 @@ impl Failure {
     }
 }
 
-// Answers the lines of a chunk and writes the answers.
+// Answers the lines of a chunk and writes the answers; returns how many calls are answered.
 fn answer_chunk(
     rt: &impl Print,
     image: &[u8],
     ledger: &mut [u8],
-    line: &mut [u8; 174],
+    line: &mut BegunLine,
     chunk: &[u8],
     out: &mut [u8; 65536],
-    run: Run,
-) -> io::Result<Run>
-    requires { (run.kept ≤ 174) × (run.calls + length chunk.now ≤ 18446744073709551615) }
-    ensures { IfOk result (λ (r : Run). (r.kept ≤ 174) × (r.calls ≤ run.calls + length chunk.now)) }
+    calls: u64,
+) -> io::Result<u64>
+    requires { calls + length chunk.now ≤ 18446744073709551615 }
+    ensures { IfOk result (λ (r : ℕ). r ≤ calls + length chunk.now) }
 {
-    let mut p = Place {
-        next: 0,
-        kept: run.kept,
-        calls: run.calls,
-        filled: 0,
-    };
+    let mut p = Place { next: 0, calls };
     // A turn takes as many lines as the output buffer has room for, so the places are not counted one by one.
     while p.next < chunk.len() {
-        let answered = answer_lines(image, ledger, line, chunk, out, p);
-        rt.write_all(&out[..answered.filled])?;
-        p = Place {
-            filled: 0,
-            ..answered
-        };
+        let mut text = Writer { out, at: 0 };
+        p = answer_lines(image, ledger, line, chunk, &mut text, p);
+        rt.write_all(text.written())?;
     }
-    Ok(Run {
-        kept: p.kept,
-        calls: p.calls,
-    })
+    Ok(p.calls)
 }
 
-// Reads once and answers what came; at the end of the input, the line that is begun, and then the run goes no further.
+// Reads once and answers what came, and returns how many calls are answered; at the end of the input, the line that is
+// begun, and then the run goes no further.
 // A read that fails is not the end: a line that is begun gets no answer, since it is not known whole.
 fn answer_some(
     rt: &impl Print,
     input: &mut impl Read,
     image: &[u8],
     ledger: &mut [u8],
-    line: &mut [u8; 174],
+    line: &mut BegunLine,
     chunk: &mut [u8; 65536],
     out: &mut [u8; 65536],
-    run: Run,
-) -> Result<Option<Run>, Failure>
-    requires { (run.kept ≤ 174) × (run.calls + 65536 < 18446744073709551615) }
-    ensures { IfOk result (λ o. IfSome o (λ (r : Run). (r.kept ≤ 174) × (r.calls ≤ run.calls + 65536))) }
+    calls: u64,
+) -> Result<Option<u64>, Failure>
+    requires { calls + 65536 < 18446744073709551615 }
+    ensures { IfOk result (λ o. IfSome o (λ (r : ℕ). r ≤ calls + 65536)) }
 {
     let count = input.read(chunk).map_err(Failure::Read)?;
     if count == 0 {
-        let filled = answer_last(image, ledger, line, run.kept, run.calls, out);
-        rt.write_all(&out[..filled]).map_err(Failure::Write)?;
+        let mut text = Writer { out, at: 0 };
+        answer_last(image, ledger, line, calls, &mut text);
+        rt.write_all(text.written()).map_err(Failure::Write)?;
         return Ok(None);
     }
-    let after = answer_chunk(rt, image, ledger, line, &chunk[..count], out, run);
+    let after = answer_chunk(rt, image, ledger, line, &chunk[..count], out, calls);
     Ok(Some(after.map_err(Failure::Write)?))
 }
 
@@ -95,16 +86,16 @@ fn answer_each(
     input: &mut impl Read,
     image: &[u8],
     ledger: &mut [u8],
-    line: &mut [u8; 174],
+    line: &mut BegunLine,
     chunk: &mut [u8; 65536],
     out: &mut [u8; 65536],
 ) -> Result<(), Failure> {
-    let mut run = Run { kept: 0, calls: 0 };
+    let mut calls: u64 = 0;
     for _turn in 0..281474976710655u64 {
-        let Some(after) = answer_some(rt, input, image, ledger, line, chunk, out, run)? else {
+        let Some(after) = answer_some(rt, input, image, ledger, line, chunk, out, calls)? else {
             break;
         };
-        run = after;
+        calls = after;
     }
     Ok(())
 }
@@ -119,7 +110,7 @@ pub fn answer_all(
 ) -> Result<(), Failure>
     requires { ledger.old ≡ first_ledger (judge image.now) }
 {
-    let mut line = [0u8; 174];
+    let mut line = BegunLine::new();
     let mut chunk = [0u8; 65536];
     let mut out = [0u8; 65536];
     answer_each(rt, input, image, ledger, &mut line, &mut chunk, &mut out)

@@ -6,6 +6,7 @@
 mod input;
 
 use script_input::failure::say;
+use script_text::Writer;
 
 // Writes the survey; where it can't be written, says why on standard error.
 fn write_survey(rt: &(impl Print + Eprint), text: &[u8]) {
@@ -19,10 +20,13 @@ fn main(rt: HostRuntime) {
     let size = script_input::file::read_image(&rt, &mut file);
     let image = &file[..size];
     let mut out = [0u8; 16384];
-    let opening = survey_exclusions::exclusions::put_opening(image, &mut out);
-    let filled = opening.filled;
-    if !opening.accepted {
-        write_survey(&rt, &out[0..filled]);
+    let mut text = Writer {
+        out: &mut out,
+        at: 0,
+    };
+    let accepted = survey_exclusions::exclusions::put_opening(image, &mut text);
+    if !accepted {
+        write_survey(&rt, text.written());
         return;
     }
     let mut ledger = [0u8; script_input::lines::LEDGER];
@@ -31,8 +35,8 @@ fn main(rt: HostRuntime) {
     let mut input = rt.stdin();
     match input::count_all(&mut input, image, &mut ledger[..used], &mut counts) {
         Ok(true) => {
-            let end = survey_counts::counts::put_counts(&mut out, filled, &counts);
-            write_survey(&rt, &out[0..end]);
+            survey_counts::counts::put_counts(&mut text, &counts);
+            write_survey(&rt, text.written());
         }
         Ok(false) => {}
         Err(e) => say(&rt, "nutrameza_survey: standard input can't be read", e),

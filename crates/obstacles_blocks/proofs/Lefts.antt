@@ -14,6 +14,7 @@ use lib.Seq.{get_or-take, length-take-le, take-take}
 use Rattle.std.proofs.Common.{take_all}
 use Rattle.std.proofs.lemmas.List.{take-map}
 use Rattle.model.specs.declared.Exclusion.{Exclusion}
+use Rattle.model.specs.declared.Exclusions.{Exclusions}
 use Rattle.model.specs.declared.Line.{Line}
 use Rattle.model.specs.Sets.{within}
 use Rattle.model.specs.Policy.{Policy, Meaning, authorized, below_table, reached, carried_table, granter, insert, sorted, meaning}
@@ -27,8 +28,6 @@ use Rattle.model_laws.proofs.Blocking.{not_blocked, blocked_behind}
 use Rattle.model_laws.proofs.Bools.{not_both}
 use Rattle.model_laws.proofs.ObstacleLaws.{left_is, left_front}
 use Rattle.model_laws.proofs.SortedLaws.{sorted_mem}
-use Rattle.exclusion_rows.specs.Rows.{exclusion_of, exclusions_in}
-use Rattle.exclusion_rows.proofs.Packing.{row_at}
 use Rattle.query.specs.Carry.{Keeps}
 use Rattle.query_reduced.specs.Met.{reduced_met}
 use Rattle.query_reduced.specs.declared.reduced.ReducedExclusion.{ReducedExclusion}
@@ -43,6 +42,10 @@ use Rattle.obstacles_blocks.specs.Blocking.{Blocks}
 use Rattle.obstacles_blocks.specs.Firsts.{Finds, Ends}
 use Rattle.obstacles_blocks.proofs.AnyOrder.{met_among, left-sorted}
 use Rattle.obstacles_blocks.proofs.Firsts.{found_one, found_none}
+
+-- the first exclusions of a list
+abbrev pub firsts : List Exclusion → ℕ → Exclusions
+firsts xs n = record { list = xs; count = n }
 
 -- the policy with its exclusions in the order of the tidy image
 abbrev pub ordered : Policy → Policy
@@ -77,13 +80,13 @@ module _ (p : Policy) (u : ℕ) (x : Others) (l : Line) (k lower upper : ℕ) wh
   unfolding left excluding_only excluding_just unbarred barred meaning authorized carried_table granter reached below_table
   left_cut j = refl
 
-  pub asked_cut : (own : ℕ) (rows : List (List ℕ)) (row : ℕ → ℕ) (j n : ℕ) → j ≤ n → Asked p u x l k own (exclusions_in rows n) row
-      → Asked (cut j) u x l k own (exclusions_in rows j) row
-  unfolding exclusions_in excluding_just unbarred barred meaning authorized carried_table granter reached below_table exclusions_met
+  pub asked_cut : (own : ℕ) (rows : List Exclusion) (row : ℕ → ℕ) (j n : ℕ) → j ≤ n → Asked p u x l k own (firsts rows n) row
+      → Asked (cut j) u x l k own (firsts rows j) row
+  unfolding excluding_just unbarred barred meaning authorized carried_table granter reached below_table exclusions_met
   asked_cut own rows row j n h g =
       record {
         own_is = g.own_is;
-        exclusions_are = ap (take j) g.exclusions_are ∙ take-take j n (map exclusion_of rows) h;
+        exclusions_are = ap (take j) g.exclusions_are ∙ take-take j n rows h;
         met =
             met_among l p.exclusions (take j p.exclusions)
             (λ y i. subst (Memᴰ y) (take-append-drop j p.exclusions) (Memᴰ.append_left (drop j p.exclusions) i)) g.met;
@@ -91,10 +94,10 @@ module _ (p : Policy) (u : ℕ) (x : Others) (l : Line) (k lower upper : ℕ) wh
       }
 
   -- ---- the same in the order of the tidy image
-  pub asked_ordered : (own : ℕ) (rows : List (List ℕ)) (row : ℕ → ℕ) (count : ℕ) (done : List (List ℕ)) (n : ℕ)
-      → take n (map exclusion_of done) ≡ sorted (take count (map exclusion_of rows)) → Asked p u x l k own (exclusions_in rows count) row
-      → Asked (ordered p) u x l k own (exclusions_in done n) row
-  unfolding exclusions_in excluding_just unbarred barred meaning authorized carried_table granter reached below_table exclusions_met
+  pub asked_ordered : (own : ℕ) (rows : List Exclusion) (row : ℕ → ℕ) (count : ℕ) (done : List Exclusion) (n : ℕ)
+      → take n done ≡ sorted (take count rows) → Asked p u x l k own (firsts rows count) row
+      → Asked (ordered p) u x l k own (firsts done n) row
+  unfolding excluding_just unbarred barred meaning authorized carried_table granter reached below_table exclusions_met
   asked_ordered own rows row count done n e g =
       record {
         own_is = g.own_is;
@@ -126,23 +129,20 @@ module _ (p : Policy) (u : ℕ) (x : Others) (l : Line) (k lower upper : ℕ) wh
   blocked_none E h = sym (not_blocked leaves (left_front (left_to p u x l k) l k lower upper small) [] E h)
 
   -- found between none of them and them all
-  pub blocked_at : (own : ℕ) (rows : List (List ℕ)) (row : ℕ → ℕ) (n j : ℕ) → n ≤ length rows → Asked p u x l k own (exclusions_in rows n) row
-      → Blocks p u x l k lower upper n j → some (exclusion_of (get_or rows j [])) ≡ blocking leaves [] p.exclusions
-  unfolding exclusions_in
-  blocked_at own rows row n j few g b =
+  pub blocked_at : (own : ℕ) (xs : List Exclusion) (row : ℕ → ℕ) (n j : ℕ) (d : Exclusion) → n ≤ length xs → Asked p u x l k own (firsts xs n) row
+      → Blocks p u x l k lower upper n j → some (get_or xs j d) ≡ blocking leaves [] p.exclusions
+  blocked_at own xs row n j d few g b =
       let E : List Exclusion = p.exclusions in
-      let long : length E ≡ n = ap length g.exclusions_are ∙ length-take-le n (map exclusion_of rows) (omega (arith, length-map rows exclusion_of)) in
+      let long : length E ≡ n = ap length g.exclusions_are ∙ length-take-le n xs few in
       let inside = b.inside in
-      let here : get_or E j (exclusion_of []) ≡ exclusion_of (get_or rows j []) =
-      ap (λ (ys : List Exclusion). get_or ys j (exclusion_of [])) g.exclusions_are ∙ get_or-take n (map exclusion_of rows) j (exclusion_of []) inside
-      ∙ row_at rows j in
+      let here : get_or E j d ≡ get_or xs j d = ap (λ (ys : List Exclusion). get_or ys j d) g.exclusions_are ∙ get_or-take n xs j d inside in
       ap some (sym here)
-      ∙ sym (blocked_behind leaves (left_front (left_to p u x l k) l k lower upper small) E j (exclusion_of []) (omega arith) b.leaves
+      ∙ sym (blocked_behind leaves (left_front (left_to p u x l k) l k lower upper small) E j d (omega arith) b.leaves
       (ap (λ (i : ℕ). leaves (take i E)) (sym (add-one j)) ∙ b.stops))
 
 -- ---- what a search finds: what is searched under the first j exclusions, by all of them reduced
-module _ (p : Policy) (u : ℕ) (x : Others) (l : Line) (k lower upper own : ℕ) (xs : List (List ℕ)) (row : ℕ → ℕ) (rs : List ReducedExclusion) (n free : ℕ)
-    (g : Asked p u x l k own (exclusions_in xs n) row) (d : Reduces (exclusions_in xs n) l k rs) (inside : k < length l.sessions)
+module _ (p : Policy) (u : ℕ) (x : Others) (l : Line) (k lower upper own : ℕ) (xs : List Exclusion) (row : ℕ → ℕ) (rs : List ReducedExclusion) (n free : ℕ)
+    (g : Asked p u x l k own (firsts xs n) row) (d : Reduces (firsts xs n) l k rs) (inside : k < length l.sessions)
     (few : n ≤ length xs) (fits : own < 2 ^ 64) (keeps : Keeps (λ i. within (row i) upper) own free) where
   abbrev task : ℕ → Task
   task j = record { row = row; lower = lower; met = reduced_met (take j rs); first = 0; second = 0 }
@@ -153,27 +153,24 @@ module _ (p : Policy) (u : ℕ) (x : Others) (l : Line) (k lower upper own : ℕ
   abbrev meant : ℕ → Meaning
   meant j = left_to (first j) u x l k
 
-  reduces_cut : (j : ℕ) → j ≤ n → Reduces (exclusions_in xs j) l k (take j rs)
-  unfolding exclusions_in
+  reduces_cut : (j : ℕ) → j ≤ n → Reduces (firsts xs j) l k (take j rs)
   reduces_cut j h =
-      let e : take j rs ≡ map (reduced_for l k) (take j (map exclusion_of xs)) =
-      ap (take j) d.each ∙ take-map (reduced_for l k) j (take n (map exclusion_of xs))
-      ∙ ap (map (reduced_for l k)) (take-take j n (map exclusion_of xs) h) in
+      let e : take j rs ≡ map (reduced_for l k) (take j xs) =
+      ap (take j) d.each ∙ take-map (reduced_for l k) j (take n xs)
+      ∙ ap (map (reduced_for l k)) (take-take j n xs h) in
       record {
-        same = λ q w ex m s o. reduced_same q w l k inside m s o (map exclusion_of xs) j (take j rs) ex e;
+        same = λ q w ex m s o. reduced_same q w l k inside m s o xs j (take j rs) ex e;
         each = e;
       }
 
   -- they are as many as the exclusions
   pub as_many : length rs ≡ n
-  unfolding exclusions_in
   as_many =
-      ap length d.each ∙ length-map (take n (map exclusion_of xs)) (reduced_for l k)
-      ∙ length-take-le n (map exclusion_of xs) (omega (arith, length-map xs exclusion_of))
+      ap length d.each ∙ length-map (take n xs) (reduced_for l k)
+      ∙ length-take-le n xs few
 
   given : (j : ℕ) → j ≤ n → Given (meant j) l k own row (reduced_met (take j rs))
-  unfolding exclusions_in
-  given j h = given-of (first j) u x own (exclusions_in xs j) l k (take j rs) row (reduces_cut j h) (asked_cut p u x l k lower upper own xs row j n h g)
+  given j h = given-of (first j) u x own (firsts xs j) l k (take j rs) row (reduces_cut j h) (asked_cut p u x l k lower upper own xs row j n h g)
 
   -- sets that are left under the first j
   lefts : (j : ℕ) → (leaves p u x l k lower upper (take j p.exclusions) ≡ true) ↔ ((s : ℕ) × (admissible (meant j) l k lower upper s ≡ true))
@@ -203,8 +200,7 @@ module _ (p : Policy) (u : ℕ) (x : Others) (l : Line) (k lower upper own : ℕ
 
   -- under them all
   whole : take n p.exclusions ≡ p.exclusions
-  unfolding exclusions_in
-  whole = ap (take n) g.exclusions_are ∙ take-take n n (map exclusion_of xs) (omega arith) ∙ sym g.exclusions_are
+  whole = ap (take n) g.exclusions_are ∙ take-take n n xs (omega arith) ∙ sym g.exclusions_are
 
   found_under : (b v : Bool) → Finds (task n) 0 free b → b ≡ v → leaves p u x l k lower upper p.exclusions ≡ v
   found_under b v f e = ap (leaves p u x l k lower upper) (sym whole) ∙ found_left n (omega arith) b f ∙ e
@@ -227,14 +223,14 @@ module _ (p : Policy) (u : ℕ) (x : Others) (l : Line) (k lower upper own : ℕ
       (λ s b v. not_both (leaves p u x l k lower upper p.exclusions) (found_under true true (found_one (task n) 0 free s b v) refl) e)
 
   -- where no set is left under them all, and one without them
-  pub found_blocking : (j : ℕ) → leaves p u x l k lower upper [] ≡ true → leaves p u x l k lower upper p.exclusions ≡ false
+  pub found_blocking : (j : ℕ) (y : Exclusion) → leaves p u x l k lower upper [] ≡ true → leaves p u x l k lower upper p.exclusions ≡ false
       → (Finds (task 0) 0 free true → Finds (task n) 0 free false → Ends (λ i. Finds (task i) 0 free) n j)
-      → (j < n) × (some (exclusion_of (get_or xs j [])) ≡ blocking (leaves p u x l k lower upper) [] p.exclusions)
-  found_blocking j o e h =
+      → (j < n) × (some (get_or xs j y) ≡ blocking (leaves p u x l k lower upper) [] p.exclusions)
+  found_blocking j y o e h =
       let w = h (left_found 0 (omega arith) o) (none_found e) in
       let i = w.inside in (
         i,
-        blocked_at p u x l k lower upper own xs row n j few g (
+        blocked_at p u x l k lower upper own xs row n j y few g (
             record {
               inside = i;
               leaves = found_left j (omega arith) true w.leaves;
@@ -244,12 +240,11 @@ module _ (p : Policy) (u : ℕ) (x : Others) (l : Line) (k lower upper own : ℕ
       )
 
   -- the only exclusion is the one
-  pub found_only : n ≡ 1 → leaves p u x l k lower upper [] ≡ true → leaves p u x l k lower upper p.exclusions ≡ false
-      → some (exclusion_of (get_or xs 0 [])) ≡ blocking (leaves p u x l k lower upper) [] (sorted p.exclusions)
-  unfolding exclusions_in
-  found_only q o e =
+  pub found_only : (y : Exclusion) → n ≡ 1 → leaves p u x l k lower upper [] ≡ true → leaves p u x l k lower upper p.exclusions ≡ false
+      → some (get_or xs 0 y) ≡ blocking (leaves p u x l k lower upper) [] (sorted p.exclusions)
+  found_only y q o e =
       let long : length p.exclusions ≡ 1 =
-      ap length g.exclusions_are ∙ length-take-le n (map exclusion_of xs) (omega (arith, length-map xs exclusion_of)) ∙ q in
-      (found_blocking 0 o e
+      ap length g.exclusions_are ∙ length-take-le n xs few ∙ q in
+      (found_blocking 0 y o e
       (λ a b. record { inside = omega arith; leaves = a; stops = subst (λ (i : ℕ). Finds (task i) 0 free false) q b })).1
       ∙ ap (blocking (leaves p u x l k lower upper) []) (sym (one-sorted p.exclusions long))

@@ -2,15 +2,16 @@
 -- Assumes nothing.
 use mathlib.Core.Path.{◌≡◌, refl, sym, ap, ◌∙◌}
 use mathlib.Core.Bool.{Bool, true, false, ◌&&◌, not}
-use mathlib.Core.List.{List, []}
+use mathlib.Core.List.{List}
 use mathlib.Core.Option.{some}
 use Prim.Native.Nat.{ℕ, ◌+◌, ◌*◌, ◌<◌, ◌≤◌}
 use lib.Bits.{bit_xor}
-use lib.ListN.{get_or, length, take, length-map}
+use lib.ListN.{get_or, length, take}
 use lib.Seq.{get_or-take}
 use native.Mathlib.Omega.{arith}
 use Rattle.std.proofs.lemmas.List.{get_or_default}
 use Rattle.model.specs.declared.Exclusion.{Exclusion}
+use Rattle.model.specs.declared.Exclusions.{Exclusions}
 use Rattle.model.specs.declared.Line.{Line}
 use Rattle.model.specs.Sets.{has, inter}
 use Rattle.model.specs.Policy.{kind_number}
@@ -19,8 +20,6 @@ use Rattle.model.specs.Obstacle.{blocks}
 use Rattle.model_laws.proofs.SetLaws.{has-inter}
 use Rattle.model_laws.proofs.AnyWidth.{same_sets}
 use Rattle.sets.proofs.Taken.{apart, has_xor, has-lacking}
-use Rattle.exclusion_rows.specs.Rows.{exclusion_of, exclusions_in}
-use Rattle.exclusion_rows.proofs.Packing.{row_at}
 use Rattle.query_reduced.specs.declared.reduced.ReducedExclusion.{ReducedExclusion}
 use Rattle.query_reduced.specs.Reduction.{reduced_for, Reduces}
 use Rattle.query_reduced.proofs.Reductions.{nothing, reduced_at}
@@ -40,22 +39,20 @@ counted_back members base =
     go true false = refl
     go false y = refl
 
-pub told_blocks : (row : List ℕ) (l : Line) (k mask : ℕ) (e : Exclusion) → e ≡ exclusion_of row
-    → mask ≡ mask_of (exclusion_of row).members (stays l k (exclusion_of row).kind)
-    → some (blocking_of (record { exclusion = e; counted = bit_xor e.members mask })) ≡ blocks l k (some (exclusion_of row))
+pub told_blocks : (x : Exclusion) (l : Line) (k mask : ℕ) → mask ≡ mask_of x.members (stays l k x.kind)
+    → some (blocking_of (record { exclusion = x; counted = bit_xor x.members mask })) ≡ blocks l k (some x)
 unfolding blocks
-told_blocks row l k mask e q h =
-    let f : bit_xor e.members mask ≡ inter e.members (stays l k e.kind) =
-    ap (bit_xor e.members) (h ∙ ap (λ (z : Exclusion). mask_of z.members (stays l k z.kind)) (sym q)) ∙ counted_back e.members (stays l k e.kind) in
-    (λ i. some (record { kind = 4; about = kind_number e.kind + 4 * e.n; first = f i; second = e.members })) ∙ ap (λ (z : Exclusion). blocks l k (some z)) q
+told_blocks x l k mask h =
+    let f : bit_xor x.members mask ≡ inter x.members (stays l k x.kind) =
+    ap (bit_xor x.members) h ∙ counted_back x.members (stays l k x.kind) in
+    λ i. some (record { kind = 4; about = kind_number x.kind + 4 * x.n; first = f i; second = x.members })
 
--- a row's exclusion, by the same one of the reduced, which are the first of all
-pub reduced_row : (rows : List (List ℕ)) (n : ℕ) (l : Line) (k : ℕ) (all : List ReducedExclusion) → Reduces (exclusions_in rows n) l k (take n all)
-    → (j : ℕ) (d : ReducedExclusion) → j < n → n ≤ length rows → n ≤ length all → ReducedBy (get_or rows j []) (get_or all j d) l k
-unfolding exclusions_in
-reduced_row rows n l k all r j d h few enough =
-    let e : get_or all j d ≡ reduced_for l k (exclusion_of (get_or rows j [])) =
-    get_or_default all j d nothing (omega arith) ∙ sym (get_or-take n all j nothing h)
-    ∙ reduced_at (exclusions_in rows n) l k (take n all) r (exclusion_of []) j h (omega (arith, length-map rows exclusion_of))
-    ∙ ap (reduced_for l k) (row_at rows j) in
+-- an exclusion of a table, by the same one of the reduced, which are the first of all
+pub reduced_one : (xs : Exclusions) (l : Line) (k : ℕ) (all : List ReducedExclusion) → Reduces xs l k (take xs.count all)
+    → (j : ℕ) (y : Exclusion) (d : ReducedExclusion) → j < xs.count → xs.count ≤ length xs.list → xs.count ≤ length all
+    → ReducedBy (get_or xs.list j y) (get_or all j d) l k
+reduced_one xs l k all r j y d h few enough =
+    let e : get_or all j d ≡ reduced_for l k (get_or xs.list j y) =
+    get_or_default all j d nothing (omega arith) ∙ sym (get_or-take xs.count all j nothing h)
+    ∙ reduced_at xs l k (take xs.count all) r y j h few in
     ap (λ (x : ReducedExclusion). x.members) e

@@ -7,8 +7,9 @@ ghost use Rattle.obstacles_blocks.specs.Firsts.{Finds};
 
 use model::Role;
 use query::carry::missing;
+use query_rank::Node;
 use query_reduced::met::reduced_met;
-use search_steps::{Node, Query};
+use search_steps::Query;
 
 // Some set of the chosen roles and some of the free ones carries the lower bound and meets the exclusions.
 // A permission that is asked for and not carried is taken up, and the roles that carry it are tried; one that was tried

@@ -5,13 +5,11 @@
 ghost use Rattle.std.specs.Prelude.{◌≡◌, true, false, [], ℕ, ◌^◌, ◌≤◌, ◌<◌, length, take};
 ghost use Rattle.std.proofs.Math.Option.{some};
 ghost use Rattle.model.specs.declared.Line.{Line};
-ghost use Rattle.model.specs.Line.{SESSIONS};
 ghost use Rattle.model.specs.Sets.{within};
 ghost use Rattle.model.specs.Policy.{Policy, sorted};
 ghost use Rattle.model.specs.Limits.{Others};
 ghost use Rattle.model.specs.Obstacle.{left, blocking, blocks};
 ghost use Rattle.sets.specs.Words.{value};
-ghost use Rattle.exclusion_rows.specs.Rows.{exclusion_of as exclusion_by_row};
 ghost use Rattle.exclusion_rows.specs.Table.{exclusions_of};
 ghost use Rattle.query.specs.Carry.{rows_of, Turned, Keeps};
 ghost use Rattle.asks.specs.Asks.{left_to, Asked};
@@ -23,17 +21,18 @@ pub mod first; // first.rt: a search that ends with the first set
 
 use crate::first::some_step;
 use asks_request::request::Wanted;
-use exclusion_rows::{ExclusionTable, exclusion_of};
-use model::Line;
+use exclusion_rows::ExclusionTable;
+use model::Exclusion;
 use obstacles_lacks::found::Blocking;
 use query::carriers::join_carriers;
 use query::carry::usable;
-use query_rank::Job;
 use query_rank::objective::Objective;
+use query_rank::{Job, Node};
 use query_reduced::exclusions::reduce;
+use query_reduced::line_session::LineSession;
 use query_reduced::met::reduced_met;
 use query_reduced::reduced::ReducedExclusion;
-use search_steps::{Node, Query};
+use search_steps::Query;
 use tidy_order::sort::sort;
 
 // What the searches share: the rows of the roles, the lower bound, the free roles, which fit the upper bound, and for
@@ -95,31 +94,30 @@ fn before_blocking(
     before_blocking(shared, exclusions, low, middle)
 }
 
-// What is told of the exclusion of a row, by the same one reduced: the members that stay counted whatever is put in for
-// session k.
-fn told_of(row: [u64; 2], reduced: ReducedExclusion) -> Blocking
-    ensures { (l : Line) (k : ℕ) → ReducedBy row reduced l k
-        → some (blocking_of result) ≡ blocks l k (some (exclusion_by_row row)) }
+// What is told of an exclusion, by the same one reduced: the members that stay counted whatever is put in for session
+// k.
+fn told_of(exclusion: Exclusion, reduced: ReducedExclusion) -> Blocking
+    ensures { (l : Line) (k : ℕ) → ReducedBy exclusion reduced l k
+        → some (blocking_of result) ≡ blocks l k (some exclusion) }
 {
-    let exclusion = exclusion_of(row);
     Blocking {
         exclusion,
         counted: exclusion.members ^ reduced.members,
     }
 }
 
-// The first exclusion with which no set is left, of rows in the order of the tidy image: where one is left without
+// The first exclusion with which no set is left, of some in the order of the tidy image: where one is left without
 // exclusions, and none with them all.
-fn first_blocking(shared: &Shared, xs: &ExclusionTable, l: Line, k: usize) -> Blocking
-    requires { k < SESSIONS }
+fn first_blocking(shared: &Shared, xs: &ExclusionTable, at: LineSession) -> Blocking
     ensures { (p : Policy) (u : ℕ) (x : Others) (upper own : ℕ) → own < 2 ^ 64
-        → Asked p u x l k own (exclusions_of xs.now) (rows_of shared.now.rows.now)
+        → Asked p u x at.line at.session own (exclusions_of xs.now) (rows_of shared.now.rows.now)
         → Keeps (λ i. within (rows_of shared.now.rows.now i) upper) own shared.now.free
-        → left (left_to p u x l k) l k (value shared.now.lower) upper [] ≡ true
-        → left (left_to p u x l k) l k (value shared.now.lower) upper p.exclusions ≡ false
-        → some (blocking_of result) ≡ blocks l k (blocking (left (left_to p u x l k) l k (value shared.now.lower) upper) [] p.exclusions) }
+        → left (left_to p u x at.line at.session) at.line at.session (value shared.now.lower) upper [] ≡ true
+        → left (left_to p u x at.line at.session) at.line at.session (value shared.now.lower) upper p.exclusions ≡ false
+        → some (blocking_of result)
+        ≡ blocks at.line at.session (blocking (left (left_to p u x at.line at.session) at.line at.session (value shared.now.lower) upper) [] p.exclusions) }
 {
-    let reduced = reduce(xs, l, k);
+    let reduced = reduce(xs, at);
     let list = reduced.list();
     let j = before_blocking(shared, list, 0, reduced.count);
     told_of(xs.rows[j], reduced.rows[j])
@@ -133,20 +131,20 @@ pub fn blocked(
     rows: &[[u64; 4]; 64],
     authorized: u64,
     xs: &ExclusionTable,
-    l: Line,
-    k: usize,
+    at: LineSession,
     wanted: Wanted,
 ) -> Option<Blocking>
-    requires { k < SESSIONS }
-    ensures { (p : Policy) (u : ℕ) (x : Others) → Asked p u x l k authorized (exclusions_of xs.now) (rows_of rows.now)
-        → left (left_to p u x l k) l k (value wanted.lower) (value wanted.upper) [] ≡ true
+    ensures { (p : Policy) (u : ℕ) (x : Others)
+        → Asked p u x at.line at.session authorized (exclusions_of xs.now) (rows_of rows.now)
+        → left (left_to p u x at.line at.session) at.line at.session (value wanted.bounds.lower) (value wanted.bounds.upper) [] ≡ true
         → blocked_of result
-        ≡ blocks l k (blocking (left (left_to p u x l k) l k (value wanted.lower) (value wanted.upper)) [] (sorted p.exclusions)) }
+        ≡ blocks at.line at.session (blocking (left (left_to p u x at.line at.session) at.line at.session (value wanted.bounds.lower)
+        (value wanted.bounds.upper)) [] (sorted p.exclusions)) }
 {
-    let lower = wanted.lower;
-    let reduced = reduce(xs, l, k);
+    let lower = wanted.bounds.lower;
+    let reduced = reduce(xs, at);
     let list = reduced.list();
-    let free = usable(rows, wanted.upper, authorized);
+    let free = usable(rows, wanted.bounds.upper, authorized);
     let mut turned = [0u64; 256];
     join_carriers(&mut turned, rows, free, lower);
     let shared = Shared {
@@ -162,5 +160,5 @@ pub fn blocked(
         return Some(told_of(xs.rows[0], reduced.rows[0]));
     }
     let ordered = sort(xs);
-    Some(first_blocking(&shared, &ordered, l, k))
+    Some(first_blocking(&shared, &ordered, at))
 }

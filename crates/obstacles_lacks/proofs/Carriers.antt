@@ -3,12 +3,10 @@
 use mathlib.Core.Path.{◌≡◌, refl, sym, ap, ap₂, ◌∙◌}
 use mathlib.Core.Bool.{Bool, true, false, ◌&&◌}
 use mathlib.Core.List.{List}
-use mathlib.Core.Option.{Option, none, some}
-use Prim.Native.Nat.{ℕ, ◌^◌, ◌≤◌, ◌<◌}
+use mathlib.Core.Option.{Option, some}
+use Prim.Native.Nat.{ℕ, ◌^◌, ◌<◌}
 use lib.Dec.{lit<}
 use lib.ListN.{get_or}
-use borrow.Author.Tests.{lt-ltb, le-ltb}
-use Rattle.model.specs.Tests.{if_below}
 use Rattle.model.specs.Sets.{has, inter, set_of, within}
 use Rattle.model.specs.Policy.{Policy, Meaning, below_table, meaning}
 use Rattle.model.specs.Obstacle.{carriers_of, fitting, lacks}
@@ -21,13 +19,12 @@ use Rattle.sets.specs.Words.{values}
 use Rattle.sets.proofs.Unions.{values_at}
 use Rattle.tables_rows.specs.Carried.{carried_rows}
 use Rattle.tables_rows.specs.Holding.{holders_of}
-use Rattle.query.specs.Carry.{rows_of, Carry, Keeps}
+use Rattle.query.specs.Carry.{rows_of, number_of, Carry, Keeps}
 use Rattle.query_reduced.proofs.MetLaws.{every_has, every}
 use Rattle.asks.proofs.Rows.{carry_rows}
-use native.Mathlib.Omega.{arith}
 use Rattle.std.specs.Prelude.{Option as Maybe, Some, None}
 use Rattle.model.specs.declared.Permission.{Permission}
-use Rattle.obstacles_lacks.specs.Founds.{number_of, lacks_of}
+use Rattle.obstacles_lacks.specs.Founds.{lacks_of}
 
 -- where a test holds, others that agree there give the same
 under : (a x y : Bool) → (a ≡ true → x ≡ y) → (a && x) ≡ (a && y)
@@ -95,21 +92,6 @@ module _ (m : Meaning) (p : ℕ) where
       (λ e. let w = set_of-has carrier 64 r e in has-set_of in_every 64 r w.1 (both (has every r) (carrier r) (every_has r w.1) w.0)))
 
 -- ---- what is told
-
-pub below_none : (p : ℕ) → 256 ≤ p → if_below 256 p ≡ none
-unfolding if_below
-below_none p h = rw (le-ltb p 256 h, if_below)
-
-below_some : (p : ℕ) → p < 256 → if_below 256 p ≡ some p
-unfolding if_below
-below_some p h = rw (lt-ltb p 256 h, if_below)
-
--- a number below 256 as a permission, and one that is not
-pub lowest_some : (n p : ℕ) → p ≡ n → p < 256 → some p ≡ if_below 256 n
-lowest_some n p e h = ap some e ∙ sym (below_some n (rw e at h))
-
-pub lowest-nothing : (n : ℕ) → 256 ≡ n → none ≡ if_below 256 n
-lowest-nothing n e = sym (below_none n (omega (arith, e)))
 
 -- where nothing is lacking, nothing is told
 pub told-nothing : (kind : ℕ) (roles : ℕ → ℕ) (r : Maybe Permission) (o : Option ℕ) → r ≡ None → number_of r ≡ o → lacks_of kind None ≡ lacks kind roles o

@@ -16,11 +16,11 @@ use Rattle.model_laws.proofs.SetLaws.{within_has}
 use Rattle.model_laws.proofs.AnyWidth.{within_iff}
 use Rattle.model_laws.proofs.Barred.{left_own}
 use Rattle.model_laws.proofs.ObstacleLaws.{upper_none, own_none}
-use Rattle.query.specs.Carry.{rows_of, Carry, Keeps}
+use Rattle.query.specs.Carry.{rows_of, number_of, Carry, Keeps}
 use Rattle.std.specs.Prelude.{Option as Maybe, Some, None}
 use Rattle.model.specs.declared.Permission.{Permission}
 use Rattle.obstacles_lacks.specs.declared.found.Lack.{Lack}
-use Rattle.obstacles_lacks.specs.Founds.{number_of, found_of, lack_of, lacks_of, own_lacks, upper_lacks, limit_lacks}
+use Rattle.obstacles_lacks.specs.Founds.{found_of, lack_of, lacks_of, own_lacks, upper_lacks, limit_lacks}
 use Rattle.obstacles_lacks.proofs.Carriers.{carry_less, fitting_is}
 
 -- ---- one kind before the others

@@ -3,7 +3,6 @@
 use Rattle.std.specs.Prelude.{true, ◌+◌, ◌*◌, ℕ, Option, Some, None}
 use Rattle.std.proofs.Math.Option.{Option as Chosen, none, some}
 use Rattle.model.specs.declared.Line.{Line}
-use Rattle.model.specs.declared.Permission.{Permission}
 use Rattle.model.specs.Sets.{has}
 use Rattle.model.specs.Policy.{Meaning, kind_number}
 use Rattle.model.specs.Limits.{Others, unbarred}
@@ -12,11 +11,6 @@ use Rattle.obstacles_lacks.specs.declared.found.Lack.{Lack}
 use Rattle.obstacles_lacks.specs.declared.found.Blocking.{Blocking}
 use Rattle.obstacles_lacks.specs.declared.found.Obstacle.{Obstacle}
 use Rattle.obstacles_lacks.specs.declared.found.Obstacle.TheVariants.{Own, Upper, Limits, Exclusion}
-
--- a permission, by its number
-abbrev pub number_of : Option Permission → Chosen ℕ
-number_of None = none
-number_of (Some p) = some p.0
 
 -- ---- what stands in the way, as the model has it
 

@@ -14,6 +14,7 @@ ghost use Rattle.obstacles_lacks.specs.Founds.{found_of, lacks_of, own_lacks, up
 use crate::found::{Lack, Obstacle};
 use crate::lacking::lacking;
 use model::Permission;
+use policy_tables::grants::Grants;
 use query::carry::usable;
 use tables_rows::carried::carried;
 use tables_rows::holding::holders;
@@ -36,20 +37,14 @@ fn lacked(rows: &[[u64; 4]; 64], all: u64, some: u64, lower: [u64; 4]) -> Option
 }
 
 // The lowest permission of the lower bound that the user's roles lack, told with all roles that carry it.
-fn lacked_by_own(
-    rows: &[[u64; 4]; 64],
-    own: u64,
-    lower: [u64; 4],
-    granted: &[[u64; 4]; 64],
-    below: &[u64; 64],
-) -> Option<Lack>
-    ensures { (p : Policy) (u : ℕ) → values granted.now ≡ p.granted → below.now ≡ below_table p
+fn lacked_by_own(rows: &[[u64; 4]; 64], own: u64, lower: [u64; 4], grants: &Grants) -> Option<Lack>
+    ensures { (p : Policy) (u : ℕ) → values grants.now.granted.now ≡ p.granted → grants.now.below.now ≡ below_table p
         → Carry (meaning p u) own (rows_of rows.now)
         → lacks_of 1 result ≡ lacks 1 (carriers_of (meaning p u) (λ r. true)) (lacking_of (meaning p u) (value lower) own) }
 {
     let permission = lacking(rows, own, lower)?;
     let every = 18446744073709551615u64;
-    let table = carried(granted, below, every);
+    let table = carried(grants, every);
     let roles = carriers_in(&table, every, permission);
     Some(Lack { permission, roles })
 }
@@ -85,18 +80,17 @@ pub fn lacked_by_any(
     free: u64,
     lower: [u64; 4],
     upper: [u64; 4],
-    granted: &[[u64; 4]; 64],
-    below: &[u64; 64],
+    grants: &Grants,
 ) -> Option<Obstacle>
     ensures { (own < 2 ^ 64) × (value lower < 2 ^ 256) × ((p : Policy) (u : ℕ) (x : Others) (l : Line) (k : ℕ)
-        → values granted.now ≡ p.granted → below.now ≡ below_table p → (meaning p u).authorized ≡ own
+        → values grants.now.granted.now ≡ p.granted → grants.now.below.now ≡ below_table p → (meaning p u).authorized ≡ own
         → (unbarred (meaning p u) x l k).authorized ≡ free → Carry (meaning p u) own (rows_of rows.now)
         → found_of result ≡ or_else (own_lacks (meaning p u) (value lower))
         (or_else (upper_lacks (meaning p u) (value lower) (value upper)) (limit_lacks (meaning p u) x l k (value lower) (value upper)))) }
 {
     let least = usable(rows, upper, free);
     lacking(rows, least, lower)?;
-    match lacked_by_own(rows, own, lower, granted, below) {
+    match lacked_by_own(rows, own, lower, grants) {
         Some(lack) => Some(Obstacle::Own(lack)),
         None => lacked_within(rows, own, free, lower, upper),
     }

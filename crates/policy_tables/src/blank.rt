@@ -11,11 +11,7 @@ impl PolicyTables {
         ensures { Blank result }
     {
         PolicyTables {
-            head: Head {
-                users: 0,
-                roles: 0,
-                permissions: 0,
-            },
+            head: Head::default(),
             authorized: [0; 64],
             granted: [[0; 4]; 64],
             below: [0; 64],

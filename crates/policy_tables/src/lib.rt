@@ -2,6 +2,7 @@
 #![tactic(auto)]
 
 pub mod blank; // blank.rt: tables of zeros
+pub mod grants; // grants.rt: what is granted to roles, and who is below whom
 
 ghost use Rattle.std.specs.Prelude.{◌≤◌};
 

@@ -1,6 +1,8 @@
 -- What roles carry, and sets of roles and of permissions by their members.
 -- Assumes nothing.
-use Rattle.std.specs.Prelude.{◌≡◌, Bool, true, false, ◌&&◌, List, [], ℕ, ◌+◌, ◌*◌, ◌≤◌, ◌<◌, length, get_or}
+use Rattle.std.specs.Prelude.{◌≡◌, Bool, true, false, ◌&&◌, List, [], ℕ, ◌+◌, ◌*◌, ◌≤◌, ◌<◌, length, get_or, Option, Some, None}
+use Rattle.std.proofs.Math.Option.{Option as Chosen, none, some}
+use Rattle.model.specs.declared.Permission.{Permission}
 use Rattle.model.specs.Tests.{pick, is_some}
 use Rattle.model.specs.Sets.{has, with}
 use Rattle.model.specs.Policy.{Policy, Meaning, granter}
@@ -43,6 +45,11 @@ Keeps test s r = (i : ℕ) → has r i ≡ (has s i && test i)
 pub record Missing (a b p : ℕ) : Type 0 where
   pub wanted : has a p ≡ true
   pub lacking : has b p ≡ false
+
+-- a permission, by its number
+abbrev pub number_of : Option Permission → Chosen ℕ
+number_of None = none
+number_of (Some p) = some p.0
 
 -- ---- what free roles carry
 

@@ -27,6 +27,7 @@ fn mark_row(table: &mut [u64; 256], row: [u64; 4], wanted: [u64; 4], r: Role)
     ensures { Marked (λ q k. ltb q 4 && (has (value row) (q * 64 + k) && has (value wanted) (q * 64 + k))) r.0 table.old
         table.new }
 {
+    // The place goes on to the call, and both sets are read there: a zip would need it besides.
     for place in 0..4usize {
         let word = sets::inter(row[place], wanted[place]);
         mark_word(table, place, word, r);
@@ -46,7 +47,7 @@ pub fn join_carriers(table: &mut [u64; 256], rows: &[[u64; 4]; 64], set: u64, wa
     }
 }
 
-// The same as a table by value.
+// The same as a table by value. A search fills its own: it copies 2 KB less.
 pub fn carriers(rows: &[[u64; 4]; 64], set: u64, wanted: [u64; 4]) -> [u64; 256]
     ensures { (Turned (rows_of rows.now) result (value wanted) set)
         × ((p : Policy) (u : ℕ) → InRange p → Carry (meaning p u) set (rows_of rows.now) → Named p result (value wanted) set) }

@@ -1,11 +1,11 @@
 // What roles carry: the roles within a bound, the permissions of a role set.
-ghost use Rattle.std.specs.Prelude.{◌≡◌, true, MatchOption};
-ghost use Rattle.model.specs.Tests.{pick};
-ghost use Rattle.model.specs.Sets.{union, within};
+ghost use Rattle.std.specs.Prelude.{◌≡◌, ◌&&◌, not, true, MatchOption};
+ghost use Rattle.model.specs.Tests.{pick, lowest, if_below};
+ghost use Rattle.model.specs.Sets.{has, union, within};
 ghost use Rattle.model.specs.Policy.{Meaning};
 ghost use Rattle.model.specs.Choice.{carried_by as carried_by_of};
 ghost use Rattle.sets.specs.Words.{value};
-ghost use Rattle.query.specs.Carry.{rows_of, Carry, Keeps, Missing, Reaches};
+ghost use Rattle.query.specs.Carry.{rows_of, number_of, Carry, Keeps, Missing, Reaches};
 
 use model::{Permission, Role};
 use sets_split::permission_at;
@@ -45,6 +45,7 @@ pub fn reach(rows: &[[u64; 4]; 64], set: u64) -> [[u64; 4]; 64]
 {
     let mut out = [[0u64; 4]; 64];
     let mut all = [0u64; 4];
+    // The number is a role, whose row is read and whose row of the table is filled: a zip would need it besides.
     for k in (0..64usize).rev() {
         let on = sets::has(set, Role(k as u8));
         let next = added(all, rows[k], on);
@@ -54,10 +55,12 @@ pub fn reach(rows: &[[u64; 4]; 64], set: u64) -> [[u64; 4]; 64]
     out
 }
 
-// A permission of a that b lacks, where there is one.
+// The lowest permission of a that b lacks, where there is one.
 pub fn missing(a: [u64; 4], b: [u64; 4]) -> Option<Permission>
-    ensures { MatchOption result (within (value a) (value b) ≡ true) (λ p. Missing (value a) (value b) p.0) }
+    ensures found { MatchOption result (within (value a) (value b) ≡ true) (λ p. Missing (value a) (value b) p.0) }
+    ensures least { number_of result ≡ if_below 256 (lowest (λ q. has (value a) q && not (has (value b) q)) 0 256) }
 {
+    // The place goes into the answer, and both sets are read there: a zip would need it besides.
     for i in 0..4usize {
         let x = a[i] ^ (a[i] & b[i]);
         if x != 0 {

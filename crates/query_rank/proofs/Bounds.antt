@@ -1,10 +1,10 @@
 -- Bounds of a search: the least that an objective makes of the sets between two, and that no set within these bounds is
 -- better.
 -- Assumes nothing.
-use mathlib.Core.Path.{◌≡◌, sym, ◌∙◌}
+use mathlib.Core.Path.{◌≡◌, refl, sym, ◌∙◌}
 use mathlib.Core.Bool.{Bool, true, false}
 use mathlib.Core.Logic.{◌⊎◌, inl, inr}
-use Prim.Native.Nat.{ℕ, ◌+◌, ◌-◌, ◌*◌, ◌≤◌}
+use Prim.Native.Nat.{ℕ, ◌+◌, ◌*◌, ◌≤◌, zero-le}
 use native.Mathlib.Omega.{arith}
 use lib.Dec.{leb}
 use borrow.Author.Tests.{leb-true}
@@ -17,8 +17,10 @@ use Rattle.query.specs.Carry.{Sub}
 use Rattle.query.proofs.Members.{sub_within, within_sub, sub-le, sub_count, left_sub, right_sub}
 use Rattle.query_rank.specs.declared.Best.{Best}
 use Rattle.query_rank.specs.declared.Job.{Job}
+use Rattle.query_rank.specs.declared.objective.Objective.{Objective}
+use Rattle.query_rank.specs.declared.objective.Objective.TheVariants.{Any, Fewest, Most}
 use Rattle.query_rank.specs.Objectives.{number_of}
-use Rattle.query_rank.specs.Ranks.{key_by, rank, rank_at, Between, LeastCost, LeastKey, Settled}
+use Rattle.query_rank.specs.Ranks.{least_of, key_by, rank, rank_at, Between, LeastCost, LeastKey, Settled}
 
 between_sub : (chosen free s : ℕ) → Between chosen free s → Sub s (union chosen free)
 between_sub chosen free s b i m = go (b.most i m)
@@ -28,14 +30,12 @@ between_sub chosen free s b i m = go (b.most i m)
     go (inr h) = right_sub chosen free i h
 
 -- ---- the least that an objective makes of a count: of the fewest members where it is the fewest, else of the most
-module _ (d objective a b n : ℕ) where
-  pub least_few : objective ≡ 1 → d ≤ 256 → n ≡ count d a → LeastCost d objective a b n
-  unfolding cost
-  least_few e l en = record { small = omega (arith, en, count-le d a); least = λ s lo hi. rw (e, en) (sub_count d a s lo) }
-
-  pub least_many : objective ≡ 2 → n ≡ count d b → LeastCost d objective a b (256 - n)
-  unfolding cost
-  least_many e en = record { small = omega arith; least = λ s lo hi. rw e (omega (arith, en, sub_count d s b hi)) }
+pub least_cost : (o : Objective) (d a b few : ℕ) → d ≤ 256 → (o ≡ Fewest → few ≡ count d a)
+    → LeastCost d (number_of o) a b (least_of o few (count d b))
+unfolding cost
+least_cost Any d a b few l f = record { small = zero-le; least = λ _ _ _. zero-le }
+least_cost Fewest d a b few l f = record { small = omega (arith, f refl, count-le d a, l); least = λ s lo hi. rw (f refl) (sub_count d a s lo) }
+least_cost Most d a b few l f = record { small = omega arith; least = λ s lo hi. omega (arith, sub_count d s b hi) }
 
 -- ---- no set within the bounds is better
 module _ (job : Job) (chosen free carried top : ℕ) where

@@ -1,13 +1,21 @@
 -- How role sets rank, and what no set between two can better.
 -- Assumes nothing.
-use Rattle.std.specs.Prelude.{◌≡◌, true, ◌⊎◌, ℕ, ◌+◌, ◌*◌, ◌^◌, ◌≤◌}
+use Rattle.std.specs.Prelude.{◌≡◌, true, ◌⊎◌, ℕ, ◌+◌, ◌-◌, ◌*◌, ◌^◌, ◌≤◌}
 use Rattle.model.specs.Sets.{has, within, count}
 use Rattle.model.specs.Choice.{cost}
 use Rattle.sets.specs.Words.{value}
 use Rattle.query_rank.specs.declared.Best.{Best}
 use Rattle.query_rank.specs.declared.Job.{Job}
 use Rattle.query.specs.Carry.{Sub}
+use Rattle.query_rank.specs.declared.objective.Objective.{Objective}
+use Rattle.query_rank.specs.declared.objective.Objective.TheVariants.{Any, Fewest, Most}
 use Rattle.query_rank.specs.Objectives.{number_of}
+
+-- what an objective makes at least of counts from `few` to `many`
+abbrev pub least_of : Objective → ℕ → ℕ → ℕ
+least_of Any few many = 0
+least_of Fewest few many = few
+least_of Most few many = 256 - many
 
 -- r is what an objective makes of a count of at most 256
 pub record Costs (objective n r : ℕ) : Type 0 where

@@ -1,31 +1,20 @@
--- Tests of every number below n, and the reduced exclusions: what a set meets a smaller one meets.
+-- The reduced exclusions: what a set meets a smaller one meets.
 -- Assumes nothing.
-use mathlib.Core.Path.{◌≡◌, refl, sym, ap, ◌∙◌}
-use mathlib.Core.Bool.{Bool, true, false, ◌&&◌}
-use mathlib.Core.Logic.{◌⊎◌, inl, inr}
+use mathlib.Core.Path.{◌≡◌, refl, sym, ◌∙◌}
+use mathlib.Core.Bool.{true, ◌&&◌}
 use mathlib.Core.List.{List, [], ◌∷◌}
-use Prim.Native.Nat.{ℕ, zero, suc, ◌<◌}
+use Prim.Native.Nat.{ℕ, ◌<◌}
 use native.Mathlib.Nat.{lt_of_le_of_lt}
-use native.Mathlib.Omega.{arith}
-use lib.Dec.{ltb}
-use borrow.Author.Tests.{ltb-true, ltb-false, lt-ltb}
+use borrow.Author.Tests.{ltb-true, lt-ltb}
+use Rattle.model.specs.Tests.{all_below}
 use Rattle.model.specs.Sets.{has, inter, count}
 use Rattle.model_laws.proofs.Bools.{and_l, and_r, both}
+use Rattle.model_laws.proofs.Every.{at_below}
 use Rattle.model_laws.proofs.SetLaws.{has-inter}
 use Rattle.query_reduced.specs.declared.reduced.ReducedExclusion.{ReducedExclusion}
-use Rattle.query_reduced.specs.Met.{fits, all_below, reduced_met}
+use Rattle.query_reduced.specs.Met.{fits, reduced_met}
 use Rattle.query.specs.Carry.{Sub}
-use Rattle.query.proofs.Members.{either, sub_count}
-
-module _ (f : ℕ → Bool) where
-  pub below_at : (n k : ℕ) → all_below n f ≡ true → k < n → f k ≡ true
-  unfolding all_below
-  below_at zero k h l = absurd (omega arith)
-  below_at (suc n) k h l = go (either (ltb k n)) (λ m. below_at n k (and_l (all_below n f) (f n) h) m)
-    where
-      go : (ltb k n ≡ true) ⊎ (ltb k n ≡ false) → (k < n → f k ≡ true) → f k ≡ true
-      go (inl m) ih = ih (ltb-true k n m)
-      go (inr m) ih = let e : k ≡ n = omega (arith, ltb-false k n m) in ap f e ∙ and_r (all_below n f) (f n) h
+use Rattle.query.proofs.Members.{sub_count}
 
 module _ (mask n : ℕ) where
   pub fits_less : (a b : ℕ) → Sub a b → fits mask n b ≡ true → fits mask n a ≡ true
@@ -53,4 +42,4 @@ every = 18446744073709551615
 
 pub every_has : (r : ℕ) → r < 64 → has every r ≡ true
 unfolding all_below has
-every_has r h = below_at (has every) 64 r refl h
+every_has r h = at_below (has every) 64 refl r h

@@ -4,15 +4,15 @@
 use mathlib.Core.Path.{◌≡◌, refl, sym, ap, ap₂, ◌∙◌}
 use mathlib.Core.Bool.{Bool, true, false, ◌&&◌, ◌||◌, not}
 use mathlib.Core.Logic.{◌↔◌}
-use mathlib.Core.List.{List, [], ◌∷◌, ◌++◌, map}
+use mathlib.Core.List.{List, [], ◌∷◌, ◌++◌, map, map-append}
 use Prim.Native.Nat.{ℕ, zero, suc, ◌+◌, ◌-◌, ◌≤◌, ◌<◌}
+use native.Mathlib.Numerals.{add-one}
 use native.Mathlib.Omega.{arith}
 use lib.Dec.{ltb}
 use lib.Bits.{or_zero_l}
-use lib.ListN.{length, get_or, set, take, drop, length-take, length-set, length-map, get_or-map}
-use lib.Seq.{set_split, get_or-take, get_or-set_same, get_or-set_other}
-use Rattle.std.proofs.Common.{below_more}
-use Rattle.std.proofs.lemmas.List.{ext_get_or, get_or_default}
+use lib.ListN.{length, get_or, set, take, drop, length-take, length-map, get_or-map}
+use lib.Seq.{set_split, get_or-take, take-suc, take-suc-set}
+use Rattle.std.proofs.lemmas.List.{get_or_default}
 use borrow.Author.Tests.{ltb-true, ltb-false, lt-ltb, le-ltb}
 use Rattle.model.specs.declared.Exclusion.{Exclusion}
 use Rattle.model.specs.declared.Exclusions.{Exclusions}
@@ -127,37 +127,18 @@ module _ (p : Policy) (u : ℕ) (l : Line) (k : ℕ) (inside : k < length l.sess
       go [] = refl
       go (y ∷ ys) = ap (λ (b : Bool). met_then l k s y && b) (go ys)
 
--- no exclusion, reduced
-abbrev pub nothing : ReducedExclusion
-nothing = record { members = 0; n = 0 }
+-- ---- the walk that reduces them: the first i are done
+abbrev pub Filled : (Exclusion → ReducedExclusion) → List Exclusion → List ReducedExclusion → ℕ → Type 0
+Filled f xs rows i = take i rows ≡ map f (take i xs)
 
--- ---- the walk that reduces them: the first n are done
-pub record Filled (f : Exclusion → ReducedExclusion) (xs : List Exclusion) (d : Exclusion) (rows : List ReducedExclusion) (n : ℕ) : Type 0 where
-  pub long : length rows ≡ 32
-  pub done : (i : ℕ) → i < n → get_or rows i nothing ≡ f (get_or xs i d)
-
-module _ (f : Exclusion → ReducedExclusion) (xs : List Exclusion) (d : Exclusion) where
-  pub filled_none : (rows : List ReducedExclusion) → length rows ≡ 32 → Filled f xs d rows 0
-  filled_none rows e = record { long = e; done = λ i q. absurd (omega arith) }
-
-  pub filled_next : (rows : List ReducedExclusion) (n : ℕ) (v : ReducedExclusion) → n < 32 → Filled f xs d rows n → v ≡ f (get_or xs n d)
-      → Filled f xs d (set rows n v) (n + 1)
-  filled_next rows n v q w e =
-      record {
-        long = simp length-set w.long;
-        done = below_more _ _ (λ i h. let ne : i ≡ n → ⊥ = λ z. omega arith in get_or-set_other rows n i v nothing ne ∙ w.done i h)
-            (get_or-set_same rows n v nothing (omega (arith, w.long)) ∙ e);
-      }
-
-  -- all done, they are the list's first, reduced
-  pub filled_all : (rows : List ReducedExclusion) (n m : ℕ) → n ≤ 32 → n ≤ m → n ≤ length xs → Filled f xs d rows m → take n rows ≡ map f (take n xs)
-  filled_all rows n m h hm hx w =
-      ext_get_or nothing (take n rows) (map f (take n xs)) (simp (length-map, length-take) (omega (arith, w.long)))
-      (λ i q.
-      let l : i < n = omega (arith, simp length-take at q) in
-      let k : i < length (map f (take n xs)) = simp (length-map, length-take) (omega arith) in
-      get_or-take n rows i nothing l ∙ w.done i (omega arith) ∙ ap f (sym (get_or-take n xs i d l)) ∙ sym (get_or-map f (take n xs) i d)
-      ∙ get_or_default (map f (take n xs)) i (f d) nothing k)
+pub filled_next : (f : Exclusion → ReducedExclusion) (xs : List Exclusion) (d : Exclusion) (rows : List ReducedExclusion) (i : ℕ) (v : ReducedExclusion)
+    → Filled f xs rows i → i < length rows → i < length xs → v ≡ f (get_or xs i d) → Filled f xs (set rows i v) (i + 1)
+filled_next f xs d rows i v w hr hx e =
+    ap (λ (n : ℕ). take n (set rows i v)) (add-one i)
+    ∙ take-suc-set rows i v hr
+    ∙ ap₂ (λ (ys : List ReducedExclusion) (y : ReducedExclusion). ys ++ (y ∷ [])) w e
+    ∙ sym (map-append f (take i xs) (get_or xs i d ∷ []))
+    ∙ ap (map f) (sym (ap (λ (n : ℕ). take n xs) (add-one i) ∙ take-suc xs i d hx))
 
 -- reduced for the line and session k
 pub reduces : (x : Exclusions) (l : Line) (k elsewhere session : ℕ) (rows : List ReducedExclusion) → k < length l.sessions
@@ -168,6 +149,10 @@ reduces x l k elsewhere session rows hk ee es er =
     let e : rows ≡ map (reduced_for l k) (take x.count x.list) =
     er ∙ ap₂ (λ (a b : ℕ). map (λ (y : Exclusion). reduced_by y.members y.n (stay y.kind a b l.history)) (take x.count x.list)) ee es in
     record { same = λ p u ex met s own. reduced_same p u l k hk met s own x.list x.count rows ex e; each = e }
+
+-- no exclusion, reduced
+abbrev pub nothing : ReducedExclusion
+nothing = record { members = 0; n = 0 }
 
 -- each of the reduced exclusions
 pub reduced_at : (x : Exclusions) (l : Line) (k : ℕ) (rows : List ReducedExclusion) → Reduces x l k rows → (d : Exclusion) (i : ℕ) → i < x.count

@@ -1,6 +1,6 @@
 -- Whether roles to be put in meet the reduced exclusions (the model's specs/Reduced.antt).
 -- Assumes nothing.
-use Rattle.std.specs.Prelude.{Bool, true, ◌&&◌, List, map, ℕ, zero, suc, ltb}
+use Rattle.std.specs.Prelude.{Bool, List, map, ℕ, ltb}
 use Rattle.std.specs.List.{list_all}
 use Rattle.model.specs.Sets.{inter, count}
 use Rattle.query_reduced.specs.declared.reduced.ReducedExclusion.{ReducedExclusion}
@@ -8,11 +8,6 @@ use Rattle.query_reduced.specs.declared.reduced.ReducedExclusion.{ReducedExclusi
 -- fewer than n members of the mask are in s
 unfoldable pub fits : ℕ → ℕ → ℕ → Bool
 fits mask n s = ltb (count 64 (inter mask s)) n
-
--- every number below n passes the test
-unfoldable pub all_below : ℕ → (ℕ → Bool) → Bool
-all_below zero f = true
-all_below (suc n) f = all_below n f && f n
 
 -- each of the exclusions, by its members and its own n, is met by the roles s
 unfoldable pub reduced_met : List ReducedExclusion → ℕ → Bool

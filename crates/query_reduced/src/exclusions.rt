@@ -5,10 +5,11 @@ ghost use Rattle.model.specs.Reduced.{stay, mask_of, reduced_n as reduced_n_of};
 ghost use Rattle.exclusion_rows.specs.Table.{exclusions_of};
 ghost use Rattle.query_reduced.specs.Reduction.{reduced_by, listed, Reduces};
 
+use crate::line_session::LineSession;
 use crate::reduced::{Reduced, ReducedExclusion};
-use exclusion_rows::{ExclusionTable, exclusion_of};
+use exclusion_rows::ExclusionTable;
 use ledger::sound::active_in;
-use model::{Kind, Line, SESSIONS, Session};
+use model::{Kind, SESSIONS, Session};
 
 impl Reduced {
     // The reduced exclusions as a slice.
@@ -74,20 +75,20 @@ fn reduced_by(members: u64, n: u8, base: u64) -> ReducedExclusion
     }
 }
 
-// The exclusions, for roles to be put in for session k of the line.
-pub fn reduce(xs: &ExclusionTable, line: Line, k: usize) -> Reduced
-    requires { k < SESSIONS }
-    ensures { (result.count ≡ xs.now.count) × (Reduces (exclusions_of xs.now) line k (listed result)) }
+// The exclusions, for roles to be put in for a session of a line.
+pub fn reduce(xs: &ExclusionTable, at: LineSession) -> Reduced
+    ensures { (result.count ≡ xs.now.count) × (Reduces (exclusions_of xs.now) at.line at.session (listed result)) }
 {
-    let sessions = line.sessions;
-    let elsewhere = active_elsewhere(sessions, k);
-    let own = sessions[k].history;
+    let elsewhere = active_elsewhere(at.line.sessions, at.session);
+    let own = at.line.sessions[at.session].history;
     let mut rows = [ReducedExclusion { members: 0, n: 0 }; 32];
-    let count = xs.count;
-    for i in 0..count {
-        let x = exclusion_of(xs.rows[i]);
-        let base = staying(x.kind, elsewhere, own, line.history);
+    // The rows go by number: of rows that are lent to a zip no proof knows what was written.
+    for (i, x) in xs.listed().iter().enumerate() {
+        let base = staying(x.kind, elsewhere, own, at.line.history);
         rows[i] = reduced_by(x.members, x.n, base);
     }
-    Reduced { rows, count }
+    Reduced {
+        rows,
+        count: xs.count,
+    }
 }

@@ -9,7 +9,8 @@ pub struct ReducedExclusion {
     pub n: u32,
 }
 
-// The reduced exclusions: the first `count` rows.
+// The reduced exclusions: the first `count` rows. One generic table for these and for `ExclusionTable` is no plainer:
+// no derive copies it, so that Clone and Copy would be written by hand, for a method of one line.
 #[derive(Clone, Copy)]
 pub struct Reduced {
     pub rows: [ReducedExclusion; 32],

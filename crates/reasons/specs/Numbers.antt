@@ -39,14 +39,21 @@ number_of UpperSessions = 24
 abbrev pub plainly : Reason → Refusal → Type 0
 plainly r x = x ≡ record { reason = r; extra = 0 }
 
+-- a refusal as a number: that of its reason plus 256 times what it names
+abbrev pub code_of : Refusal → ℕ
+code_of r = number_of r.reason + 256 * r.extra
+
+-- what the conversions to a number give
+abbrev pub numbered : Reason → ℕ → Type 0
+numbered r n = n ≡ number_of r
+
+abbrev pub coded : Refusal → ℕ → Type 0
+coded r n = n ≡ code_of r
+
 -- the number of the reason, 0 where there is none
 abbrev pub fault_of : {A : Type 0} → Result A Reason → ℕ
 fault_of (Ok _) = 0
 fault_of (Err r) = number_of r
-
--- a refusal as a number: that of its reason plus 256 times what it names
-abbrev pub code_of : Refusal → ℕ
-code_of r = number_of r.reason + 256 * r.extra
 
 -- a number as 64 bits hold it
 abbrev pub in_64_bits : ℕ → ℕ

@@ -3,7 +3,7 @@
 #![tactic(auto)]
 
 ghost use Rattle.std.specs.Prelude.{◌≡◌};
-ghost use Rattle.reasons.specs.Numbers.{number_of, plainly, code_of, returned_by, refusal_of};
+ghost use Rattle.reasons.specs.Numbers.{numbered, coded, number_of, plainly, code_of, returned_by, refusal_of};
 
 // A reason, by its number.
 #[derive(Clone, Copy, PartialEq, Eq)]
@@ -40,10 +40,12 @@ pub enum Reason {
 }
 
 // The number of a reason.
-pub fn number(reason: Reason) -> u64
-    ensures { result ≡ number_of reason }
-{
-    reason as u64
+impl From<Reason> for u64 {
+    ghost from_gives = { numbered };
+
+    fn from(reason: Reason) -> u64 {
+        reason as u64
+    }
 }
 
 // A refusal: its reason, and the number of what it names (a place, a role or a user), 0 where it names nothing.
@@ -63,10 +65,12 @@ impl From<Reason> for Refusal {
 }
 
 // A refusal as the number that a host gets: that of its reason plus 256 times what it names.
-fn code(refusal: Refusal) -> u64
-    ensures { result ≡ code_of refusal }
-{
-    number(refusal.reason) + 256 * (refusal.extra as u64)
+impl From<Refusal> for u64 {
+    ghost from_gives = { coded };
+
+    fn from(refusal: Refusal) -> u64 {
+        u64::from(refusal.reason) + 256 * (refusal.extra as u64)
+    }
 }
 
 // What a call returns to a host for what it comes to: 256 times the extra where it is done, else the refusal's number.
@@ -75,7 +79,7 @@ pub fn returned(outcome: Result<u64, Refusal>) -> u64
 {
     match outcome {
         Ok(extra) => extra.wrapping_mul(256),
-        Err(refusal) => code(refusal),
+        Err(refusal) => u64::from(refusal),
     }
 }
 
@@ -85,6 +89,6 @@ pub fn refused<T: Copy>(outcome: Result<T, Refusal>) -> u64
 {
     match outcome {
         Ok(_) => 0,
-        Err(refusal) => code(refusal),
+        Err(refusal) => u64::from(refusal),
     }
 }

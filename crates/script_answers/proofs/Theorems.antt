@@ -4,7 +4,7 @@
 use mathlib.Core.Path.{◌≡◌}
 use mathlib.Core.List.{List, [], ◌++◌}
 use Prim.Native.Nat.{ℕ}
-use lib.ListN.{take, drop}
+use lib.ListN.{drop}
 use Rattle.model_script.specs.Script.{transcript}
 use Rattle.script_input.specs.Kept.{lines_from}
 use Rattle.script_input.specs.Joined.{joined, TakesAll}
@@ -13,10 +13,10 @@ use Rattle.script_answers.specs.Buffers.{outcome, AnswersLines, Standing, Begins
 use Rattle.script_answers.proofs.Transcript
 
 -- the text that a chunk's lines fill in may be written out before the next ones are answered
-pub lines-printed : (image chunk line ledger out : List ℕ) (p : Place) (line' ledger' out' : List ℕ) (r : Place) → p.filled ≡ 0
-    → AnswersLines image chunk line ledger out p line' ledger' out' r → (text more : List ℕ)
-    → outcome image ledger p.calls text (lines_from (take p.kept line) (drop p.next chunk ++ more))
-    ≡ outcome image ledger' r.calls (text ++ take r.filled out') (lines_from (take r.kept line') (drop r.next chunk ++ more))
+pub lines-printed : (image chunk line ledger : List ℕ) (p : Place) (line' ledger' filled : List ℕ) (r : Place)
+    → AnswersLines image chunk line ledger [] p line' ledger' filled r → (text more : List ℕ)
+    → outcome image ledger p.calls text (lines_from line (drop p.next chunk ++ more))
+    ≡ outcome image ledger' r.calls (text ++ filled) (lines_from line' (drop r.next chunk ++ more))
 lines-printed = Transcript.lines-printed
 
 -- in whatever chunks the script comes, what is printed in the end is the transcript of the chunks joined

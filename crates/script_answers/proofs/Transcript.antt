@@ -4,7 +4,7 @@
 use mathlib.Core.Path.{◌≡◌, refl, sym, ap, ◌∙◌}
 use mathlib.Core.List.{List, [], ◌∷◌, ◌++◌, append-nil, append_assoc}
 use Prim.Native.Nat.{ℕ, ◌+◌}
-use lib.ListN.{take, drop}
+use lib.ListN.{drop}
 use Rattle.model.specs.Judgement.{judge}
 use Rattle.model.specs.Run.{Event}
 use Rattle.model_script.specs.Script.{lines_of, answer_to, printed, printed_for, first_ledger, transcript}
@@ -36,19 +36,18 @@ pub text_apart : (image ledger : List ℕ) (calls : ℕ) (before text : List ℕ
 unfolding outcome
 text_apart image ledger calls before text ls = append_assoc before text (printed_for image ledger (calls + 1) ls)
 
--- What `answer_lines` promises, with the text that was printed before: the buffer is empty before it, and its text is
+-- What `answer_lines` promises, with the text that was printed before: nothing is written before it, and its text is
 -- printed behind the other.
-pub lines-printed : (image chunk line ledger out : List ℕ) (p : Place) (line' ledger' out' : List ℕ) (r : Place) → p.filled ≡ 0
-    → AnswersLines image chunk line ledger out p line' ledger' out' r → (text more : List ℕ)
-    → outcome image ledger p.calls text (lines_from (take p.kept line) (drop p.next chunk ++ more))
-    ≡ outcome image ledger' r.calls (text ++ take r.filled out') (lines_from (take r.kept line') (drop r.next chunk ++ more))
-lines-printed image chunk line ledger out p line' ledger' out' r e a text more =
-    let left = lines_from (take p.kept line) (drop p.next chunk ++ more) in
-    let empty : take p.filled out ≡ [] = ap (λ n. take n out) e in
+pub lines-printed : (image chunk line ledger : List ℕ) (p : Place) (line' ledger' filled : List ℕ) (r : Place)
+    → AnswersLines image chunk line ledger [] p line' ledger' filled r → (text more : List ℕ)
+    → outcome image ledger p.calls text (lines_from line (drop p.next chunk ++ more))
+    ≡ outcome image ledger' r.calls (text ++ filled) (lines_from line' (drop r.next chunk ++ more))
+lines-printed image chunk line ledger p line' ledger' filled r a text more =
+    let left = lines_from line (drop p.next chunk ++ more) in
     ap (λ x. outcome image ledger p.calls x left) (sym (append-nil text))
     ∙ text_apart image ledger p.calls text [] left
-    ∙ ap (λ x. text ++ x) (ap (λ x. outcome image ledger p.calls x left) (sym empty) ∙ a.same more)
-    ∙ sym (text_apart image ledger' r.calls text (take r.filled out') (lines_from (take r.kept line') (drop r.next chunk ++ more)))
+    ∙ ap (λ x. text ++ x) (a.same more)
+    ∙ sym (text_apart image ledger' r.calls text filled (lines_from line' (drop r.next chunk ++ more)))
 
 begins_as : (image input : List ℕ) (a : Standing) → Begins image a
     → prints_from image a input ≡ outcome image (first_ledger (judge image)) 0 [] (lines_from [] input)

@@ -17,12 +17,6 @@ use Rattle.model_laws.proofs.Judgements.{accepted-head, accepted_in_range}
 use Rattle.model_script.specs.Script.{first_ledger}
 use Rattle.script_input.specs.Kept.{keeping, last_line, lines_from}
 
--- ---- the first bytes of a buffer
-
--- k bytes are k
-pub counts : (k : ℕ) (l : List ℕ) → k ≤ length l → k ≡ length (take k l)
-counts k l h = sym (length-take-le k l h)
-
 -- ---- a byte kept
 
 -- a line of fewer than 174 bytes gets it, a longer one stays as it is
@@ -61,12 +55,12 @@ at_byte : (chunk : List ℕ) (i : ℕ) (more : List ℕ) → i < length chunk �
 at_byte chunk i more h = rw (add-one i, drop-cons chunk i 0 h)
 
 -- a byte that is no newline is kept
-pub goes_on : (chunk : List ℕ) (i : ℕ) (l : List ℕ) (k : ℕ) (m : List ℕ) (j : ℕ) → i < length chunk → (get_or chunk i 0 ≡ 10 → ⊥)
-    → take j m ≡ keeping (take k l) (get_or chunk i 0) → (more : List ℕ)
-    → lines_from (take k l) (drop i chunk ++ more) ≡ lines_from (take j m) (drop (i + 1) chunk ++ more)
-goes_on chunk i l k m j h d e more =
-    ap (lines_from (take k l)) (at_byte chunk i more h)
-    ∙ by_other (take k l) (get_or chunk i 0) (drop (i + 1) chunk ++ more) d
+pub goes_on : (chunk : List ℕ) (i : ℕ) (line longer : List ℕ) → i < length chunk → (get_or chunk i 0 ≡ 10 → ⊥)
+    → longer ≡ keeping line (get_or chunk i 0) → (more : List ℕ)
+    → lines_from line (drop i chunk ++ more) ≡ lines_from longer (drop (i + 1) chunk ++ more)
+goes_on chunk i line longer h d e more =
+    ap (lines_from line) (at_byte chunk i more h)
+    ∙ by_other line (get_or chunk i 0) (drop (i + 1) chunk ++ more) d
     ∙ ap (λ x. lines_from x (drop (i + 1) chunk ++ more)) (sym e)
 
 -- a newline of a chunk ends the line
@@ -76,17 +70,15 @@ ends chunk i line more h e =
     ap (lines_from line) (at_byte chunk i more h) ∙ by_newline line (get_or chunk i 0) (drop (i + 1) chunk ++ more) e
 
 -- at the end of the input a line that is begun has a byte
-pub last_none : (l : List ℕ) (k : ℕ) → k < 1 → last_line (take k l) ≡ []
+pub last_none : (line : List ℕ) → length line < 1 → last_line line ≡ []
 unfolding last_line
-last_none l k h = let z : k ≡ 0 = omega arith in rw z
+last_none [] h = refl
+last_none (c ∷ cs) h = absurd (omega arith)
 
-last_one : (line : List ℕ) → 0 < length line → last_line line ≡ line ∷ []
+pub last_some : (line : List ℕ) → 0 < length line → last_line line ≡ line ∷ []
 unfolding last_line
-last_one [] h = absurd (omega arith)
-last_one (c ∷ cs) h = refl
-
-pub last_some : (l : List ℕ) (k : ℕ) → length l ≡ 174 → k ≤ 174 → 0 < k → last_line (take k l) ≡ take k l ∷ []
-last_some l k e m h = last_one (take k l) (omega (arith, length-take-le k l (omega arith)))
+last_some [] h = absurd (omega arith)
+last_some (c ∷ cs) h = refl
 
 -- ---- the first ledger
 

@@ -1,14 +1,12 @@
--- What the functions over a chunk of the input do to the buffer of the line.
+-- What the functions over a chunk of the input do to the line that is begun.
 -- Assumes nothing.
-use Rattle.std.specs.Prelude.{◌≡◌, List, ◌++◌, ℕ, ◌≤◌, ◌<◌, length, get_or, take, drop}
-use Rattle.script_input.specs.declared.lines.Begun.{Begun}
+use Rattle.std.specs.Prelude.{◌≡◌, List, ◌++◌, ℕ, ◌≤◌, ◌<◌, length, get_or, drop}
 use Rattle.script_input.specs.Kept.{lines_from}
 
--- the bytes of a chunk from `next` on are kept, up to a newline or to the chunk's end: whatever comes behind the chunk,
--- the lines are the same
-pub record Gathers (chunk : List ℕ) (next : ℕ) (before : List ℕ) (kept : ℕ) (behind : List ℕ) (r : Begun) : Type 0 where
-  pub few : r.kept ≤ 174
-  pub onward : next ≤ r.next
-  pub inside : r.next ≤ length chunk
-  pub newline : r.next < length chunk → get_or chunk r.next 0 ≡ 10
-  pub same : (more : List ℕ) → lines_from (take kept before) (drop next chunk ++ more) ≡ lines_from (take r.kept behind) (drop r.next chunk ++ more)
+-- the bytes of a chunk from `next` on are kept, up to place r, which is that of a newline or the chunk's end: whatever
+-- comes behind the chunk, the lines are the same
+pub record Gathers (chunk : List ℕ) (next : ℕ) (before behind : List ℕ) (r : ℕ) : Type 0 where
+  pub onward : next ≤ r
+  pub inside : r ≤ length chunk
+  pub newline : r < length chunk → get_or chunk r 0 ≡ 10
+  pub same : (more : List ℕ) → lines_from before (drop next chunk ++ more) ≡ lines_from behind (drop r chunk ++ more)

@@ -89,6 +89,7 @@ pub fn bound_bytes(w: &[u8]) -> [u8; 32]
     ensures { result ≡ bytes_of 32 (value 16 w.now) }
 {
     let mut bytes = [0; 32];
+    // A turn takes two figures from the end, or the one that is left.
     for j in 0..w.len().div_ceil(2) {
         bytes[j] = last_pair(w, w.len() - 2 * j);
     }

@@ -14,8 +14,9 @@ use Rattle.script_parse.specs.declared.Call as parsed
 use Rattle.model_script.specs.Script.{parse, line_of, printed, answer_by, answer_to}
 use Rattle.script_parse.specs.Reading.{call_in}
 use Rattle.model_script.proofs.ReplyLaws.{step_small, number-returned, extra_returned}
-use Rattle.script_text.specs.Writing.{Stores}
-use Rattle.script_text.proofs.TextLaws.{puts_as}
+use Rattle.script_text.specs.declared.Writer.{Writer}
+use Rattle.script_text.specs.Writing.{Writes}
+use Rattle.script_text.proofs.TextLaws.{writes_as}
 use Rattle.asks.specs.Asks.{Answers}
 
 -- ---- what fills the answer buffer
@@ -73,7 +74,7 @@ module _ (image ledger line : List ℕ) (p : code.Option parsed.Call) (n sent : 
       let e = ap (λ (x : Event). printed n x.reply) event_is in
       rw (a.number, a.buffer, k.number_is, k.extra_is, roles_filled r.filled, permissions_filled r.filled) e
 
-  pub line-written : (before out : List ℕ) (at next : ℕ)
-      → Stores before at (line_of n (sent % 256) (sent / 256) (number (take 8 answer)) (number (drop 8 answer))) out next
-      → Stores before at (printed n (answer_to image ledger line).reply) out next
-  line-written before out at next w = puts_as line-is w
+  pub line-written : (old new : Writer)
+      → Writes old new (line_of n (sent % 256) (sent / 256) (number (take 8 answer)) (number (drop 8 answer)))
+      → Writes old new (printed n (answer_to image ledger line).reply)
+  line-written old new w = writes_as line-is w

@@ -4,7 +4,9 @@
 
 ghost use Rattle.std.specs.Prelude.{◌≡◌, ◌+◌, ◌≤◌, ◌<◌, length};
 ghost use Rattle.model_script.specs.Script.{answer_to, printed};
-ghost use Rattle.script_text.specs.Writing.{Stores};
+ghost use Rattle.script_text.specs.Writing.{Writes};
+
+use script_text::Writer;
 
 // Answers a line of a script: makes its call, and returns the number of the answer.
 pub fn answer(image: &[u8], ledger: &mut [u8], line: &[u8]) -> u64
@@ -18,23 +20,15 @@ pub fn answer(image: &[u8], ledger: &mut [u8], line: &[u8]) -> u64
     code % 256
 }
 
-// Answers line n of a script: makes its call, and writes the output line from `at` on. Returns the place behind it.
-pub fn respond(
-    image: &[u8],
-    ledger: &mut [u8],
-    line: &[u8],
-    n: u64,
-    out: &mut [u8],
-    at: usize,
-) -> usize
-    requires { at + 160 ≤ length out.old }
-    ensures { (Stores out.old at
-        (printed n (answer_to image.now ledger.old line.now).reply) out.new result)
-        × (result ≤ at + 160)
+// Answers line n of a script: makes its call, and writes the output line.
+pub fn respond(image: &[u8], ledger: &mut [u8], line: &[u8], n: u64, text: &mut Writer)
+    requires { text.old.at + 160 ≤ length text.old.out.now }
+    ensures { (Writes text.old text.new (printed n (answer_to image.now ledger.old line.now).reply))
+        × (text.new.at ≤ text.old.at + 160)
         × (ledger.new ≡ (answer_to image.now ledger.old line.now).ledger) }
 {
     let parsed = script_parse::parse::parse(line);
     let mut answer = [0u8; 40];
     let code = script_calls::call(image, ledger, parsed, &mut answer);
-    script_output::put_returned(out, at, n, code, &answer)
+    script_output::put_returned(text, n, code, &answer);
 }

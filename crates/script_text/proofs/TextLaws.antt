@@ -12,7 +12,8 @@ use lib.Seq.{sets, sets-eq, take_at, length-take-le}
 use borrow.Author.Tests.{lt-ltb, le-ltb, ltb-true, ltb-false}
 use Rattle.model.specs.Tests.{pick}
 use Rattle.model_script.specs.Script.{glyph, digits_of, numeral}
-use Rattle.script_text.specs.Writing.{Stores, pair_of}
+use Rattle.script_text.specs.declared.Writer.{Writer}
+use Rattle.script_text.specs.Writing.{Stores, Writes, pair_of, written}
 
 -- ---- texts one behind the other
 
@@ -20,10 +21,10 @@ sets_joined : (l xs ys : List ℕ) (at : ℕ) → sets l at (xs ++ ys) ≡ sets 
 sets_joined l [] ys at = rw (add-zero at)
 sets_joined l (x ∷ xs) ys at = sets_joined (set l at x) xs ys (suc at) ∙ rw (suc-add at (length xs), add-suc at (length xs))
 
-pub put_nothing : (l : List ℕ) (at : ℕ) → Stores l at [] l at
+put_nothing : (l : List ℕ) (at : ℕ) → Stores l at [] l at
 put_nothing l at = record { next-is = sym (add-zero at); after_is = refl }
 
-pub puts-joined :
+puts-joined :
     {l m a xs ys : List ℕ} {at n r : ℕ} → Stores l at xs m n → Stores m n ys a r → Stores l at (xs ++ ys) a r
 puts-joined {l} {m} {a} {xs} {ys} {at} {n} {r} p q =
     record {
@@ -31,15 +32,33 @@ puts-joined {l} {m} {a} {xs} {ys} {at} {n} {r} p q =
       after_is = q.after_is ∙ rw (p.after_is, p.next-is) (sym (sets_joined l xs ys at));
     }
 
--- the same, where the text is known by another name
-pub puts_as : {l a xs ys : List ℕ} {at r : ℕ} → xs ≡ ys → Stores l at xs a r → Stores l at ys a r
-puts_as {l} {a} {xs} {ys} {at} {r} e p = subst (λ t. Stores l at t a r) e p
-
 -- the text in the first bytes of a buffer, with the text that is stored behind it
-pub text_put : {out behind text : List ℕ} {at r : ℕ} → at ≤ length out → r ≤ length out → Stores out at text behind r → take r behind ≡ take at out ++ text
+text_put : {out behind text : List ℕ} {at r : ℕ} → at ≤ length out → r ≤ length out → Stores out at text behind r → take r behind ≡ take at out ++ text
 text_put {out} {behind} {text} {at} {r} h k p =
     let n : length (take at out ++ text) ≡ r = length-append (take at out) text ∙ omega (arith, length-take-le at out h, p.next-is) in
     rw (p.after_is, sets-eq text out at (omega (arith, p.next-is))) (take_at (take at out ++ text) (drop (at + length text) out) r n)
+
+-- ---- texts written one behind the other
+
+pub writes-nothing : (w : Writer) → Writes w w []
+writes-nothing w = record { same_buffer = refl; size = refl; stores = put_nothing w.out.now w.at }
+
+pub writes-joined : {u v w : Writer} {xs ys : List ℕ} → Writes u v xs → Writes v w ys → Writes u w (xs ++ ys)
+writes-joined p q =
+    record {
+      same_buffer = q.same_buffer ∙ p.same_buffer;
+      size = q.size ∙ p.size;
+      stores = puts-joined p.stores q.stores;
+    }
+
+-- the same, where the text is known by another name
+pub writes_as : {u w : Writer} {xs ys : List ℕ} → xs ≡ ys → Writes u w xs → Writes u w ys
+writes_as {u} {w} e p = subst (λ t. Writes u w t) e p
+
+-- the text so far is the one before and what is written behind it
+pub written-more : {u w : Writer} {xs : List ℕ} → u.at ≤ length u.out.now → w.at ≤ length u.out.now → Writes u w xs
+    → written w ≡ written u ++ xs
+written-more h k p = text_put h k p.stores
 
 -- ---- digits
 

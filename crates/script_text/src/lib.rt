@@ -1,11 +1,9 @@
-// Bytes and hexadecimal digits, written into a buffer from a place on. Each function returns the place behind its text.
+// Bytes and hexadecimal digits, written one behind another into a buffer.
 #![tactic(auto)]
-
-// The place is passed beside its buffer and the next one returned, so that a line's parts show where each ends.
 
 ghost use Rattle.std.specs.Prelude.{◌≡◌, [], ◌∷◌, ◌+◌, ◌≤◌, ◌<◌, length};
 ghost use Rattle.model_script.specs.Script.{glyph as glyph_of, numeral};
-ghost use Rattle.script_text.specs.Writing.{Stores, pair_of};
+ghost use Rattle.script_text.specs.Writing.{Writes, pair_of, written};
 
 // The ASCII code of a digit below 16, in small letters.
 pub fn glyph(d: u8) -> u8
@@ -18,34 +16,52 @@ pub fn glyph(d: u8) -> u8
     }
 }
 
-// Writes one byte.
-pub fn put(out: &mut [u8], at: usize, b: u8) -> usize
-    requires { at < length out.old }
-    ensures { Stores out.old at (b ∷ []) out.new result }
-{
-    out[at] = b;
-    at + 1
+// A buffer that a text is written into, and the place of the text's next byte.
+#[derive(Drop)]
+pub struct Writer<'a> {
+    pub out: &'a mut [u8],
+    pub at: usize,
 }
 
-// Writes both hexadecimal digits of a byte.
-pub fn put_pair(out: &mut [u8], at: usize, b: u8) -> usize
-    requires { at + 2 ≤ length out.old }
-    ensures { Stores out.old at (pair_of b) out.new result }
-{
-    let high = glyph(b / 16);
-    let low = glyph(b % 16);
-    let next = put(out, at, high);
-    put(out, next, low)
-}
-
-// Writes a byte in hexadecimal, without a leading zero.
-pub fn put_byte(out: &mut [u8], at: usize, b: u8) -> usize
-    requires { at + 2 ≤ length out.old }
-    ensures { Stores out.old at (numeral 16 b) out.new result }
-{
-    if b < 16 {
-        let d = glyph(b);
-        return put(out, at, d);
+impl<'a> Writer<'a> {
+    // The text that is written so far.
+    pub fn written(&self) -> &[u8]
+        requires { self.now.at ≤ length self.now.out.now }
+        ensures { result.now ≡ written self.now }
+    {
+        &self.out[..self.at]
     }
-    put_pair(out, at, b)
+
+    // Writes one byte.
+    pub fn put(&mut self, b: u8)
+        requires { self.old.at < length self.old.out.now }
+        ensures { Writes self.old self.new (b ∷ []) }
+    {
+        self.out[self.at] = b;
+        self.at += 1;
+    }
+
+    // Writes both hexadecimal digits of a byte.
+    pub fn put_pair(&mut self, b: u8)
+        requires { self.old.at + 2 ≤ length self.old.out.now }
+        ensures { Writes self.old self.new (pair_of b) }
+    {
+        let high = glyph(b / 16);
+        let low = glyph(b % 16);
+        self.put(high);
+        self.put(low);
+    }
+
+    // Writes a byte in hexadecimal, without a leading zero.
+    pub fn put_byte(&mut self, b: u8)
+        requires { self.old.at + 2 ≤ length self.old.out.now }
+        ensures { Writes self.old self.new (numeral 16 b) }
+    {
+        if b < 16 {
+            let d = glyph(b);
+            self.put(d);
+            return;
+        }
+        self.put_pair(b);
+    }
 }

@@ -18,8 +18,9 @@ use lib.Seq.{drop-cons, drop-length, take_all}
 use Rattle.model.specs.Tests.{pick}
 use Rattle.model.specs.Bytes.{number}
 use Rattle.model_script.specs.Script.{glyph, numeral, line_of}
-use Rattle.script_text.specs.Writing.{Stores, pair_of}
-use Rattle.script_text.proofs.TextLaws.{puts-joined, puts_as, numeral-one, numeral_more, numeral-length, two≤10, two≤16}
+use Rattle.script_text.specs.declared.Writer.{Writer}
+use Rattle.script_text.specs.Writing.{Writes, pair_of}
+use Rattle.script_text.proofs.TextLaws.{writes-joined, writes_as, numeral-one, numeral_more, numeral-length, two≤10, two≤16}
 use Rattle.script_text_lines.specs.Pairs.{pairs_of, HighestAt}
 
 -- ---- hexadecimal numerals by bytes
@@ -164,23 +165,23 @@ decimal-length n h = numeral-length 10 two≤10 19 n (omega arith)
 pub decimal-room : (at n size : ℕ) → n < 2 ^ 64 → at + 20 ≤ size → at + length (numeral 10 n) ≤ size
 decimal-room at n size h k = omega (arith, decimal-length n h)
 
-pub decimal_end : (n : ℕ) {l a : List ℕ} {at r : ℕ} → n < 2 ^ 64 → Stores l at (numeral 10 n) a r → r ≤ at + 20
-decimal_end n h p = omega (arith, p.next-is, decimal-length n h)
+pub decimal_end : (n : ℕ) {u v : Writer} → n < 2 ^ 64 → Writes u v (numeral 10 n) → v.at ≤ u.at + 20
+decimal_end n h p = omega (arith, p.stores.next-is, decimal-length n h)
 
 pub permissions_part : (l : List ℕ) → length l ≡ 40 → take 32 (drop 8 l) ≡ drop 8 l
 permissions_part l h = take_all 32 (drop 8 l) (rw (length-drop 8 l) (omega arith))
 
 -- a blank in front
-pub blank_put : {l m a ys : List ℕ} {at k r : ℕ} → Stores l at (32 ∷ []) m k → Stores m k ys a r → Stores l at (32 ∷ ys) a r
-blank_put p q = puts-joined p q
+pub blank_put : {u v w : Writer} {ys : List ℕ} → Writes u v (32 ∷ []) → Writes v w ys → Writes u w (32 ∷ ys)
+blank_put p q = writes-joined p q
 
 -- the parts of a line, one behind the other
 pub line_put :
-    (n a x : ℕ) (answer : List ℕ) {l₀ l₁ l₂ l₃ l₄ l₅ l₆ roles permissions : List ℕ} {at r₁ r₂ r₃ r₄ r₅ r₆ : ℕ} → roles ≡ take 8 answer
-    → permissions ≡ drop 8 answer → Stores l₀ at (numeral 10 n) l₁ r₁ → Stores l₁ r₁ (32 ∷ numeral 10 a) l₂ r₂
-    → Stores l₂ r₂ (32 ∷ numeral 10 x) l₃ r₃ → Stores l₃ r₃ (32 ∷ numeral 16 (number roles)) l₄ r₄
-    → Stores l₄ r₄ (32 ∷ numeral 16 (number permissions)) l₅ r₅ → Stores l₅ r₅ (10 ∷ []) l₆ r₆
-    → Stores l₀ at (line_of n a x (number (take 8 answer)) (number (drop 8 answer))) l₆ r₆
+    (n a x : ℕ) (answer : List ℕ) {w₀ w₁ w₂ w₃ w₄ w₅ w₆ : Writer} {roles permissions : List ℕ} → roles ≡ take 8 answer
+    → permissions ≡ drop 8 answer → Writes w₀ w₁ (numeral 10 n) → Writes w₁ w₂ (32 ∷ numeral 10 a)
+    → Writes w₂ w₃ (32 ∷ numeral 10 x) → Writes w₃ w₄ (32 ∷ numeral 16 (number roles))
+    → Writes w₄ w₅ (32 ∷ numeral 16 (number permissions)) → Writes w₅ w₆ (10 ∷ [])
+    → Writes w₀ w₆ (line_of n a x (number (take 8 answer)) (number (drop 8 answer)))
 unfolding line_of
 line_put n a x answer e f p q s u v z =
-    puts_as (rw (e, f)) (puts-joined (puts-joined (puts-joined (puts-joined (puts-joined p q) s) u) v) z)
+    writes_as (rw (e, f)) (writes-joined (writes-joined (writes-joined (writes-joined (writes-joined p q) s) u) v) z)

@@ -1,40 +1,37 @@
-// The text of an output line, written into a buffer from a place on. Each function returns the place behind its text.
+// The text of an output line, written into a buffer.
 #![tactic(auto)]
 
 ghost use Rattle.std.specs.Prelude.{◌≡◌, ◌∷◌, ◌+◌, ◌*◌, ◌/◌, ◌%◌, ◌≤◌, ◌<◌, length, take, drop};
 ghost use Rattle.model.specs.Bytes.{number as number_of};
 ghost use Rattle.model_script.specs.Script.{numeral, line_of};
-ghost use Rattle.script_text.specs.Writing.{Stores};
+ghost use Rattle.script_text.specs.Writing.{Writes};
 ghost use Rattle.script_text_lines.specs.Pairs.{pairs_of, Highest};
 
-use script_text::{glyph, put, put_byte, put_pair};
+use script_text::{Writer, glyph};
 
-// The place goes beside its buffer, as in script_text.
-
-// Writes a number in decimal.
-pub fn put_decimal(out: &mut [u8], at: usize, n: u64) -> usize
-    requires { at + length (numeral 10 n) ≤ length out.old }
-    ensures { Stores out.old at (numeral 10 n) out.new result }
+// Writes a number in decimal. The decimal of a clause text counts on past its buffer's end (docs/DECISIONS.md, 118).
+pub fn put_decimal(text: &mut Writer, n: u64)
+    requires { text.old.at + length (numeral 10 n) ≤ length text.old.out.now }
+    ensures { Writes text.old text.new (numeral 10 n) }
 {
     if n < 10 {
         let d = glyph(n as u8);
-        return put(out, at, d);
+        text.put(d);
+        return;
     }
-    let next = put_decimal(out, at, n / 10);
+    put_decimal(text, n / 10);
     let d = glyph((n % 10) as u8);
-    put(out, next, d)
+    text.put(d);
 }
 
 // Writes both digits of each byte, the highest first.
-fn put_pairs(out: &mut [u8], at: usize, bytes: &[u8]) -> usize
-    requires { at + 2 * length bytes.now ≤ length out.old }
-    ensures { Stores out.old at (pairs_of (length bytes.now) bytes.now) out.new result }
+fn put_pairs(text: &mut Writer, bytes: &[u8])
+    requires { text.old.at + 2 * length bytes.now ≤ length text.old.out.now }
+    ensures { Writes text.old text.new (pairs_of (length bytes.now) bytes.now) }
 {
-    let mut next = at;
     for b in bytes.iter().rev() {
-        next = put_pair(out, next, *b);
+        text.put_pair(*b);
     }
-    next
 }
 
 // The place of the last byte that is not zero.
@@ -46,43 +43,44 @@ fn highest(bytes: &[u8]) -> Option<usize>
 }
 
 // Writes the number that bytes make, the lowest first, in hexadecimal without leading zeros.
-pub fn put_hexadecimal(out: &mut [u8], at: usize, bytes: &[u8]) -> usize
-    requires { at + 2 * length bytes.now + 1 ≤ length out.old }
-    ensures { (Stores out.old at (numeral 16 (number_of bytes.now)) out.new result)
-        × (result ≤ at + 2 * length bytes.now + 1) }
+pub fn put_hexadecimal(text: &mut Writer, bytes: &[u8])
+    requires { text.old.at + 2 * length bytes.now + 1 ≤ length text.old.out.now }
+    ensures { (Writes text.old text.new (numeral 16 (number_of bytes.now)))
+        × (text.new.at ≤ text.old.at + 2 * length bytes.now + 1) }
 {
     let Some(highest) = highest(bytes) else {
-        return put(out, at, b'0');
+        text.put(b'0');
+        return;
     };
-    let next = put_byte(out, at, bytes[highest]);
-    put_pairs(out, next, &bytes[..highest])
+    text.put_byte(bytes[highest]);
+    put_pairs(text, &bytes[..highest]);
 }
 
 // Writes the first figure of a line.
-pub fn put_first(out: &mut [u8], at: usize, n: u64) -> usize
-    requires { at + 20 ≤ length out.old }
-    ensures { (Stores out.old at (numeral 10 n) out.new result) × (result ≤ at + 20) }
+pub fn put_first(text: &mut Writer, n: u64)
+    requires { text.old.at + 20 ≤ length text.old.out.now }
+    ensures { (Writes text.old text.new (numeral 10 n)) × (text.new.at ≤ text.old.at + 20) }
 {
-    put_decimal(out, at, n)
+    put_decimal(text, n);
 }
 
 // Writes a blank and a number in decimal.
-pub fn put_number(out: &mut [u8], at: usize, n: u64) -> usize
-    requires { at + 21 ≤ length out.old }
-    ensures { (Stores out.old at (32 ∷ numeral 10 n) out.new result) × (result ≤ at + 21) }
+pub fn put_number(text: &mut Writer, n: u64)
+    requires { text.old.at + 21 ≤ length text.old.out.now }
+    ensures { (Writes text.old text.new (32 ∷ numeral 10 n)) × (text.new.at ≤ text.old.at + 21) }
 {
-    let next = put(out, at, b' ');
-    put_first(out, next, n)
+    text.put(b' ');
+    put_first(text, n);
 }
 
 // Writes a blank and the set that bytes make in hexadecimal.
-fn put_set(out: &mut [u8], at: usize, bytes: &[u8]) -> usize
-    requires { at + 2 * length bytes.now + 2 ≤ length out.old }
-    ensures { (Stores out.old at (32 ∷ numeral 16 (number_of bytes.now)) out.new result)
-        × (result ≤ at + 2 * length bytes.now + 2) }
+fn put_set(text: &mut Writer, bytes: &[u8])
+    requires { text.old.at + 2 * length bytes.now + 2 ≤ length text.old.out.now }
+    ensures { (Writes text.old text.new (32 ∷ numeral 16 (number_of bytes.now)))
+        × (text.new.at ≤ text.old.at + 2 * length bytes.now + 2) }
 {
-    let next = put(out, at, b' ');
-    put_hexadecimal(out, next, bytes)
+    text.put(b' ');
+    put_hexadecimal(text, bytes);
 }
 
 // The roles of an answer, and the permissions.
@@ -99,23 +97,16 @@ fn permissions_of(answer: &[u8; 40]) -> &[u8]
 }
 
 // Writes the line of call n for an answer: its number, its extra, and the 40 bytes of roles and permissions.
-pub fn put_line(
-    out: &mut [u8],
-    at: usize,
-    n: u64,
-    number: u64,
-    extra: u64,
-    answer: &[u8; 40],
-) -> usize
-    requires { at + 160 ≤ length out.old }
-    ensures { (Stores out.old at
-        (line_of n number extra (number_of (take 8 answer.now)) (number_of (drop 8 answer.now))) out.new result)
-        × (result ≤ at + 160) }
+pub fn put_line(text: &mut Writer, n: u64, number: u64, extra: u64, answer: &[u8; 40])
+    requires { text.old.at + 160 ≤ length text.old.out.now }
+    ensures { (Writes text.old text.new
+        (line_of n number extra (number_of (take 8 answer.now)) (number_of (drop 8 answer.now))))
+        × (text.new.at ≤ text.old.at + 160) }
 {
-    let behind_call = put_first(out, at, n);
-    let behind_number = put_number(out, behind_call, number);
-    let behind_extra = put_number(out, behind_number, extra);
-    let behind_roles = put_set(out, behind_extra, roles_of(answer));
-    let behind_all = put_set(out, behind_roles, permissions_of(answer));
-    put(out, behind_all, b'\n')
+    put_first(text, n);
+    put_number(text, number);
+    put_number(text, extra);
+    put_set(text, roles_of(answer));
+    put_set(text, permissions_of(answer));
+    text.put(b'\n');
 }

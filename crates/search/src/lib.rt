@@ -15,9 +15,9 @@ ghost use Rattle.search.specs.Answer.{answered, answer_of, no_best, Given};
 use query::carriers::join_carriers;
 use query::carry::{reach, usable};
 use query_rank::objective::Objective;
-use query_rank::{Best, NONE};
+use query_rank::{Best, NONE, Node};
 use query_reduced::met::reduced_met;
-use search_steps::{Node, Query, first_step, subset_step};
+use search_steps::{Query, first_step, subset_step};
 
 // The roles of the best set, where there is one.
 fn answer(best: Best) -> Option<u64>

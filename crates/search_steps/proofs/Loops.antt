@@ -1,6 +1,6 @@
 -- The loops of the searches: where a loop through roles stands, what a turn makes of it, and what it hands back.
 -- Assumes nothing.
-use mathlib.Core.Path.{◌≡◌, sym, ap, ◌∙◌}
+use mathlib.Core.Path.{◌≡◌, refl, sym, ap, ◌∙◌}
 use mathlib.Core.Bool.{Bool, true, false}
 use Prim.Native.Nat.{ℕ, ◌^◌, ◌<◌}
 use native.Mathlib.Nat.{lt_of_le_of_lt}
@@ -8,6 +8,7 @@ use native.Mathlib.Omega.{arith}
 use Rattle.model.specs.Sets.{has, with, count}
 use Rattle.sets.specs.Members.{without}
 use Rattle.query_rank.specs.declared.Best.{Best}
+use Rattle.query_rank.specs.declared.Node.{Node}
 use Rattle.query.specs.Carry.{Sub, Reaches}
 use Rattle.query.proofs.Members.{sub-le, sub_count, fewer_sub}
 use Rattle.search_steps.specs.Search.{Task, Found, Tried}
@@ -24,15 +25,10 @@ pub reaches_sub : (row reach : ℕ → ℕ) (free left : ℕ) → Sub left free 
 reaches_sub row reach free left h g = record { rows = λ r i le l m. g.rows r i le l (h i m) }
 
 -- of roles below 64, one that is left fewer
-pub fewer-left : (free left role less : ℕ) → free < 2 ^ 64 → Sub left free → role < 64 → has left role ≡ true → less ≡ without left role
-    → count 64 less < count 64 left
-fewer-left free left role less small h l m e =
-    let g = roles_less left role less (lt_of_le_of_lt (sub-le left free h) small) l m e in omega arith
-
 pub fewer_free : (free left role less : ℕ) → free < 2 ^ 64 → Sub left free → role < 64 → has left role ≡ true → less ≡ without left role
     → count 64 less < count 64 free
 fewer_free free left role less small h l m e =
-    let g = fewer-left free left role less small h l m e in
+    let g = roles_less left role less (lt_of_le_of_lt (sub-le left free h) small) l m e in
     let k = sub_count 64 left free h in
     omega arith
 
@@ -49,7 +45,8 @@ pub trying_end : (t : Task) (tries chosen free : ℕ) (a : Best) (left still : �
     → Tried t tries chosen free a b
 trying_end t tries chosen free a left still b w e = w.rest b (runs_out t left chosen still b e)
 
-module _ (t : Task) (falls : Falls t) (tries chosen free : ℕ) (a : Best) (left still : ℕ) (c : Best) (w : Trying t tries chosen free a left still c)
+module _ (t : Task) (falls : Falls t) (tries chosen free : ℕ) (a : Best) (left still : ℕ) (c : Best)
+    (w : Trying t tries chosen free a left still c)
     (role rest less more : ℕ) (b : Bool) (m : has left role ≡ true) (er : rest ≡ without left role) (el : less ≡ without still role)
     (em : more ≡ with chosen role) (eb : b ≡ t.met more) where
   on : has still role ≡ true
@@ -97,3 +94,8 @@ module _ (t : Task) (falls : Falls t) (chosen free : ℕ) (a : Best) (left : ℕ
 
   pub walking_on : (next : Best) → Found t more less c next → Walking t chosen free a less next
   walking_on next g = record { inside = lower; rest = λ r f. w.rest r (takes_both t falls chosen left role less more b m el em eb c next r g f) }
+
+-- the node of which some roles are left, with one fewer
+pub rest_less : (node rest : Node) (left role fewer less : ℕ) → rest ≡ record node { free = left } → fewer ≡ without rest.free role
+    → less ≡ without left role → record rest { free = fewer } ≡ record node { free = less }
+rest_less node rest left role fewer less e f g = rw (f, e, g) refl

@@ -17,33 +17,33 @@ use Rattle.sets.specs.Members.{without, Lowest}
 use Rattle.sets.proofs.Taken.{count-without}
 use Rattle.query_rank.specs.declared.Best.{Best}
 use Rattle.query.specs.Carry.{rows_of, Turned, Sub, Keeps, Missing, Reaches}
-use Rattle.query_rank.specs.Ranks.{key_by, rank, rank_at, Judged, Settled}
+use Rattle.query_rank.specs.Ranks.{key_by, rank_at, Judged, Settled}
 use Rattle.query.proofs.Members.{sub_count}
 use Rattle.query.proofs.Turned.{inter_keeps, keeps_turned}
 use Rattle.search_steps.specs.declared.Query.{Query}
 use Rattle.search_steps.specs.Search.{Task, task_of, carries, serves, rank_of, Ready, Modest, Found, Tried}
 use Rattle.search_steps.proofs.Between.{fewer-within}
 use Rattle.search_steps.proofs.Carried.{carried_sub, carried-with, Carried-none, top-bound}
-use Rattle.search_steps.proofs.Returns.{given_up, reached, taken_up, tried_none, tried_on, tried_off, both_ways, one_way, none_better, leaf}
+use Rattle.search_steps.proofs.Returns.{best_at, given_up, reached, taken_up, tried_none, tried_on, tried_off, both_ways, one_way, none_better, leaf}
 
 -- that the exclusions are met passes to smaller sets
 abbrev pub Falls : Task → Type 0
 Falls t = (x y : ℕ) → Sub x y → t.met y ≡ true → t.met x ≡ true
 
--- ---- the chosen roles judged: their key, and whether the best so far is no worse
-module _ (t : Task) (chosen carried key : ℕ) (a : Best) (b : Bool) (ready : Ready t chosen carried)
-    (keyed : key ≡ key_by t.first t.second carried chosen) (judged : b ≡ leb (rank_at a) (rank key chosen)) where
-  same_rank : rank key chosen ≡ rank_of t chosen
-  same_rank = ap (λ (k : ℕ). rank k chosen) (keyed ∙ ap (λ (c : ℕ). key_by t.first t.second c chosen) ready.carry)
+-- ---- the chosen roles ranked, and whether the best so far is no worse
+module _ (t : Task) (chosen carried : ℕ) (a next : Best) (b : Bool) (ready : Ready t chosen carried)
+    (ranked : next ≡ record { key = key_by t.first t.second carried chosen; roles = chosen }) (judged : b ≡ leb (rank_at a) (rank_at next)) where
+  same : next ≡ best_at t chosen
+  same = ranked ∙ ap (λ (c : ℕ). record { key = key_by t.first t.second c chosen; roles = chosen }) ready.carry
 
-  same_key : key ≡ key_by t.first t.second (carries t chosen) chosen
-  same_key = keyed ∙ ap (λ (c : ℕ). key_by t.first t.second c chosen) ready.carry
+  same_rank : rank_at next ≡ rank_of t chosen
+  same_rank = ap rank_at same
 
   worse : b ≡ true → rank_at a ≤ rank_of t chosen
-  worse e = subst (λ (x : ℕ). rank_at a ≤ x) same_rank (leb-true (rank_at a) (rank key chosen) (sym judged ∙ e))
+  worse e = subst (λ (x : ℕ). rank_at a ≤ x) same_rank (leb-true (rank_at a) (rank_at next) (sym judged ∙ e))
 
   better : b ≡ false → rank_of t chosen ≤ rank_at a
-  better e = subst (λ (x : ℕ). x ≤ rank_at a) same_rank (le_of_lt (leb-false (rank_at a) (rank key chosen) (sym judged ∙ e)))
+  better e = subst (λ (x : ℕ). x ≤ rank_at a) same_rank (le_of_lt (leb-false (rank_at a) (rank_at next) (sym judged ∙ e)))
 
   in-bound : (w : Bool) → w ≡ within t.lower carried → w ≡ true → within t.lower (carries t chosen) ≡ true
   in-bound w e f = ap (within t.lower) (sym ready.carry) ∙ sym e ∙ f
@@ -52,9 +52,9 @@ module _ (t : Task) (chosen carried key : ℕ) (a : Best) (b : Bool) (ready : Re
     pub gives_up : b ≡ true → Found t chosen free a a
     gives_up e = given_up t chosen free a modest.permissions modest.roles (worse e)
 
-    pub reaches : b ≡ false → (w : Bool) → w ≡ within t.lower carried → w ≡ true → Found t chosen free a (record { key = key; roles = chosen })
+    pub reaches : b ≡ false → (w : Bool) → w ≡ within t.lower carried → w ≡ true → Found t chosen free a next
     reaches e w l m =
-        subst (λ (k : ℕ). Found t chosen free a (record { key = k; roles = chosen })) (sym same_key)
+        subst (Found t chosen free a) (sym same)
         (reached t chosen free a modest.permissions modest.roles (better e) (in-bound w l m) ready.met)
 
 -- the roles that carry a missing permission, by the turned table, were tried

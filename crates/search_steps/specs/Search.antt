@@ -9,7 +9,7 @@ use Rattle.query.specs.Carry.{rows_of, Turned}
 use Rattle.query_rank.specs.Objectives.{number_of}
 use Rattle.query_rank.specs.Ranks.{key_by, rank, rank_at, Between}
 use Rattle.search_steps.specs.declared.Query.{Query}
-use Rattle.search_steps.specs.declared.Node.{Node}
+use Rattle.query_rank.specs.declared.Node.{Node}
 
 -- ---- the task
 

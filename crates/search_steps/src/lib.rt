@@ -10,7 +10,7 @@ ghost use Rattle.search_steps.specs.Search.{task_of, Ready, Steps, Found, Tried}
 
 use model::Role;
 use query::carry::missing;
-use query_rank::{Best, Job, fewest, judged, key_of, no_worse, settled};
+use query_rank::{Best, Job, Node, fewest, judged, no_worse, rank_of, settled};
 use query_reduced::met::reduced_met;
 use query_reduced::reduced::ReducedExclusion;
 
@@ -20,14 +20,6 @@ pub struct Query<'a> {
     pub rows: &'a [[u64; 4]; 64],
     pub exclusions: &'a [ReducedExclusion],
     pub job: Job,
-}
-
-// A node of a search: the roles still free, the roles chosen so far, and the permissions that these carry.
-#[derive(Clone, Copy)]
-pub struct Node {
-    pub free: u64,
-    pub chosen: u64,
-    pub carried: [u64; 4],
 }
 
 // 003's Procedure 3: a permission that is asked for and not carried is taken up, and the roles that carry it are tried.
@@ -63,12 +55,12 @@ pub fn role_step(query: &Query, tries: u64, node: Node, best: Best, turned: &[u6
             continue;
         }
         let sum = sets::perm_union(node.carried, query.rows[k as usize]);
-        let key = key_of(query.job, more, sum);
-        if no_worse(found, key, more) {
+        let better = rank_of(query.job, more, sum);
+        if no_worse(found, better) {
             continue;
         }
         if sets::perm_within(query.job.lower, sum) {
-            found = Best { key, roles: more };
+            found = better;
             continue;
         }
         let below = Node {
@@ -76,8 +68,7 @@ pub fn role_step(query: &Query, tries: u64, node: Node, best: Best, turned: &[u6
             chosen: more,
             carried: sum,
         };
-        let next = permission_step(query, below, found, turned);
-        found = next;
+        found = permission_step(query, below, found, turned);
     }
     found
 }
@@ -87,15 +78,12 @@ pub fn first_step(query: &Query, node: Node, best: Best, turned: &[u64; 256]) ->
     requires { Steps (task_of query.now) turned.now node }
     ensures { Found (task_of query.now) node.chosen node.free best result }
 {
-    let key = key_of(query.job, node.chosen, node.carried);
-    if no_worse(best, key, node.chosen) {
+    let better = rank_of(query.job, node.chosen, node.carried);
+    if no_worse(best, better) {
         return best;
     }
     if sets::perm_within(query.job.lower, node.carried) {
-        return Best {
-            key,
-            roles: node.chosen,
-        };
+        return better;
     }
     permission_step(query, node, best, turned)
 }
@@ -110,29 +98,26 @@ pub fn subset_step(query: &Query, reach: &[[u64; 4]; 64], node: Node, best: Best
 {
     let permissions = fewest(query.job.first, node.carried);
     let roles = fewest(query.job.second, node.chosen);
-    let mut left = node.free;
+    // The node with the roles that may still join.
+    let mut rest = node;
     let mut found = best;
-    // The roles left to walk are also those that may still join: an iterator would hold them a second time.
-    while left != 0 {
-        let role = sets::lowest(left);
-        let i = role.0 as usize;
-        let top = sets::perm_union(node.carried, reach[i]);
-        if settled(query.job, left, node.chosen, permissions, roles, top, found) {
+    for k in sets::members(node.free) {
+        let role = Role(k);
+        let top = sets::perm_union(node.carried, reach[k as usize]);
+        if settled(query.job, rest, permissions, roles, top, found) {
             return found;
         }
-        let less = sets::without(left, role);
+        rest.free = sets::without(rest.free, role);
         let wider = sets::with(node.chosen, role);
-        left = less;
         if !reduced_met(query.exclusions, wider) {
             continue;
         }
         let below = Node {
-            free: less,
+            free: rest.free,
             chosen: wider,
-            carried: sets::perm_union(node.carried, query.rows[i]),
+            carried: sets::perm_union(node.carried, query.rows[k as usize]),
         };
-        let next = subset_step(query, reach, below, found);
-        found = next;
+        found = subset_step(query, reach, below, found);
     }
-    judged(query.job, node.chosen, node.carried, found)
+    judged(query.job, node, found)
 }

@@ -9,12 +9,18 @@ use Rattle.model.specs.Tests.{pick}
 use Rattle.model.specs.Policy.{Policy, authorized, meaning}
 use Rattle.model.specs.Line.{line_size, is_open, sound}
 use Rattle.model.specs.Run.{line_of, Event, returned, answered}
+use Rattle.exclusion_rows.specs.Table.{exclusions_of}
+use Rattle.policy_tables.specs.declared.PolicyTables.{PolicyTables}
 
 -- the head, the roles that each user may activate, a word a user, and the exclusions are those of the policy
 pub record Known (head : Head) (own : List ℕ) (xs : Exclusions) (p : Policy) : Type 0 where
   pub head_is : p.head ≡ head
   pub own_is : (u : ℕ) → u < p.head.users → get_or own u 0 < 2 ^ 64 → get_or own u 0 ≡ authorized p u
   pub exclusions_are : take xs.count xs.list ≡ p.exclusions
+
+-- what the tables of a policy hold so
+abbrev pub KnownBy : PolicyTables → Policy → Type 0
+KnownBy t p = Known t.head t.authorized (exclusions_of t.exclusions) p
 
 -- a policy that has these parts: the roles assigned, and no senior word
 unfoldable pub policy_by : Head → List ℕ → Exclusions → Policy

@@ -3,9 +3,8 @@
 ghost use Rattle.std.specs.Prelude.{◌≡◌, ◌^◌, ◌<◌, get_or};
 ghost use Rattle.model.specs.Line.{SESSIONS};
 ghost use Rattle.model.specs.Policy.{Policy};
-ghost use Rattle.exclusion_rows.specs.Table.{exclusions_of};
 ghost use Rattle.reasons.specs.Numbers.{fault_of};
-ghost use Rattle.sessions.specs.Calls.{Known, first_refusal as first_refusal_of, session_refusal as session_refusal_of};
+ghost use Rattle.sessions.specs.Calls.{KnownBy, first_refusal as first_refusal_of, session_refusal as session_refusal_of};
 
 use ledger::bytes::LINE;
 use ledger::plainly::sound_at;
@@ -24,7 +23,7 @@ pub fn roles_of(authorized: &[u64; 64], u: usize) -> u64
 
 // The ledger does not fit, the user has no line, or the line is not sound.
 pub fn first_refusal(ledger: &[u8], tables: &PolicyTables, user: u64) -> Result<(), Reason>
-    ensures { (p : Policy) → Known tables.now.head tables.now.authorized (exclusions_of tables.now.exclusions) p
+    ensures { (p : Policy) → KnownBy tables.now p
         → fault_of result ≡ first_refusal_of SESSIONS p ledger.now user }
 {
     let users = tables.head.users as usize;

@@ -2,9 +2,8 @@
 ghost use Rattle.model.specs.Line.{SESSIONS};
 ghost use Rattle.model.specs.Policy.{Policy};
 ghost use Rattle.model.specs.Run.{step_on, close_by};
-ghost use Rattle.exclusion_rows.specs.Table.{exclusions_of};
 ghost use Rattle.reasons.specs.Numbers.{refusal_of};
-ghost use Rattle.sessions.specs.Calls.{Known, Gives};
+ghost use Rattle.sessions.specs.Calls.{KnownBy, Gives};
 
 use ledger::bytes::{line_of, put_line};
 use ledger_change::closed;
@@ -19,7 +18,7 @@ pub fn close_session(
     tables: &PolicyTables,
     who: UserSession,
 ) -> Result<(), Refusal>
-    ensures { (p : Policy) → Known tables.now.head tables.now.authorized (exclusions_of tables.now.exclusions) p
+    ensures { (p : Policy) → KnownBy tables.now p
         → Gives (step_on SESSIONS p ledger.old (close_by who.user who.session)) (refusal_of result) ledger.new }
 {
     let session = who.session;

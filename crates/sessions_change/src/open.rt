@@ -2,9 +2,8 @@
 ghost use Rattle.model.specs.Line.{SESSIONS};
 ghost use Rattle.model.specs.Policy.{Policy};
 ghost use Rattle.model.specs.Run.{step_on, open_by};
-ghost use Rattle.exclusion_rows.specs.Table.{exclusions_of};
 ghost use Rattle.reasons.specs.Numbers.{returned_by};
-ghost use Rattle.sessions.specs.Calls.{Known, Gives};
+ghost use Rattle.sessions.specs.Calls.{KnownBy, Gives};
 
 use ledger::bytes::{line_of, put_line};
 use ledger_change::{lowest_closed, opened};
@@ -14,7 +13,7 @@ use sessions::first::first_refusal;
 
 // The user's lowest closed session is opened, and returned.
 pub fn open_session(ledger: &mut [u8], tables: &PolicyTables, user: u64) -> Result<u64, Refusal>
-    ensures { (p : Policy) → Known tables.now.head tables.now.authorized (exclusions_of tables.now.exclusions) p
+    ensures { (p : Policy) → KnownBy tables.now p
         → Gives (step_on SESSIONS p ledger.old (open_by user)) (returned_by result) ledger.new }
 {
     first_refusal(ledger, tables, user)?;

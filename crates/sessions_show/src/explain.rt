@@ -4,9 +4,8 @@ ghost use Rattle.model.specs.Line.{SESSIONS};
 ghost use Rattle.model.specs.Policy.{Policy, below_table};
 ghost use Rattle.model.specs.Run.{step_on, explain_by, returned};
 ghost use Rattle.sets.specs.Words.{values};
-ghost use Rattle.exclusion_rows.specs.Table.{exclusions_of};
 ghost use Rattle.reasons.specs.Numbers.{returned_by};
-ghost use Rattle.sessions.specs.Calls.{Known};
+ghost use Rattle.sessions.specs.Calls.{KnownBy};
 
 use ledger::bytes::line_of;
 use model::Permission;
@@ -25,7 +24,7 @@ pub fn explain_session(
     permission: u64,
 ) -> Result<u64, Refusal>
     requires { tables.now.head.permissions ≤ 256 }
-    ensures { (p : Policy) → Known tables.now.head tables.now.authorized (exclusions_of tables.now.exclusions) p
+    ensures { (p : Policy) → KnownBy tables.now p
         → values tables.now.granted ≡ p.granted
         → tables.now.below ≡ below_table p
         → returned_by result ≡ returned (step_on SESSIONS p ledger.now (explain_by who.user who.session permission)).reply }
@@ -38,11 +37,6 @@ pub fn explain_session(
         return Err(Refusal::from(Reason::Permission));
     }
     let active = l.sessions[session as usize].active;
-    let explained = explain(
-        &tables.granted,
-        &tables.below,
-        active,
-        Permission(permission as u8),
-    );
+    let explained = explain(&tables.grants(), active, Permission(permission as u8));
     explained.ok_or(Refusal::from(Reason::NoRoles))
 }

@@ -4,9 +4,8 @@ ghost use Rattle.model.specs.Line.{SESSIONS};
 ghost use Rattle.model.specs.Policy.{Policy, below_table};
 ghost use Rattle.model.specs.Run.{step_on, show_by};
 ghost use Rattle.sets.specs.Words.{values};
-ghost use Rattle.exclusion_rows.specs.Table.{exclusions_of};
 ghost use Rattle.reasons.specs.Numbers.{refusal_of};
-ghost use Rattle.sessions.specs.Calls.{Known, Shows};
+ghost use Rattle.sessions.specs.Calls.{KnownBy, Shows};
 
 use ledger::bytes::line_of;
 use policy_tables::PolicyTables;
@@ -23,7 +22,7 @@ pub fn show_session(
     who: UserSession,
     answer: &mut [u8],
 ) -> Result<(), Refusal>
-    ensures { (p : Policy) → Known tables.now.head tables.now.authorized (exclusions_of tables.now.exclusions) p
+    ensures { (p : Policy) → KnownBy tables.now p
         → values tables.now.granted ≡ p.granted
         → tables.now.below ≡ below_table p
         → Shows (step_on SESSIONS p ledger.now (show_by who.user who.session (length answer.old))) (refusal_of result) answer.old
@@ -37,7 +36,7 @@ pub fn show_session(
         return Err(Refusal::from(Reason::Room));
     }
     let active = l.sessions[session as usize].active;
-    let permissions = carried_by(&tables.granted, &tables.below, active);
+    let permissions = carried_by(&tables.grants(), active);
     fill(answer, active, permissions);
     Ok(())
 }

@@ -2,12 +2,12 @@
 // the model's definition of the same name says of the sets that the words hold.
 #![tactic(auto)]
 
-pub mod counted; // counted.rt: sets of either kind, counted
+pub mod counted; // counted.rt: sets of either kind, counted and bounded
 
-ghost use Rattle.std.specs.Prelude.{◌≡◌, ◌<◌, ltb, get_or, set};
+ghost use Rattle.std.specs.Prelude.{◌≡◌, Bool, ℕ, ◌≤◌, ◌<◌, ltb, get_or, set};
 ghost use Rattle.std.specs.Iterator.{at_most};
 ghost use Rattle.model.specs.Tests.{pick};
-ghost use Rattle.model.specs.Sets.{has as has_of, union as union_of, inter as inter_of, with as with_of, within as within_of, count, union_at};
+ghost use Rattle.model.specs.Sets.{has as has_of, union as union_of, inter as inter_of, with as with_of, within as within_of, count, set_of as chosen, union_at};
 ghost use Rattle.sets.specs.Members.{without as without_of, Lowest};
 ghost use Rattle.sets.specs.Walks.{TakesLowest};
 ghost use Rattle.sets.specs.Words.{value, values, FourWords};
@@ -23,6 +23,14 @@ pub fn lowest_bit(word: u64) -> u8
     ensures { Lowest word result }
 {
     word.trailing_zeros() as u8
+}
+
+// The word has bit k.
+pub fn has_bit(word: u64, k: usize) -> bool
+    requires { k < 64 }
+    ensures { result ≡ has_of word k }
+{
+    (word >> k) % 2 == 1
 }
 
 // The word without its bit k.
@@ -63,15 +71,31 @@ pub fn members(set: u64) -> Bits
     Bits { left: set }
 }
 
+// The set of the numbers below n that pass a test.
+pub fn set_of<F: Fn(usize) -> bool>(n: usize, test: F) -> u64
+    requires few { n ≤ 64 }
+    requires callable { (k : ℕ) → k < n → F.pre test k }
+    ensures { (p : ℕ → Bool) → ((k : ℕ) (b : Bool) → k < n → F.post test k b → b ≡ p k) → result ≡ chosen p n }
+{
+    let mut found = 0u64;
+    // The number is what is tested.
+    for k in 0..n {
+        if test(k) {
+            found |= 1 << k;
+        }
+    }
+    found
+}
+
 // ---- role sets
 
-// The functions on role sets and those on permission sets have two names each, so that a call says which it is about.
+// Role sets and permission sets have names each of their own: docs/ACCEPTANCE.md names `perm_union` and `perm_within`.
 
 pub fn has(set: u64, r: Role) -> bool
     requires { r.0 < 64 }
     ensures { result ≡ has_of set r.0 }
 {
-    (set >> r.0) % 2 == 1
+    has_bit(set, r.0 as usize)
 }
 
 // The set and the role r.
@@ -158,18 +182,9 @@ fn four_words(row: [u64; 4])
     ensures { FourWords row }
 {}
 
-// A role's number in 32 bits, as a pass over the words of an image has it.
-#[derive(Clone, Copy)]
-pub struct WideRole(pub u32);
-
-// A permission's number in 32 bits.
-#[derive(Clone, Copy)]
-pub struct WidePermission(pub u32);
-
 // The row takes in the permission p: of its four words the one that has p is stored, and no other is read. A shift
 // finds the place, and a subtraction the bit: a pass over grants in any order guesses wrong at comparisons.
-fn row_put(row: &mut [u64; 4], p: WidePermission)
-    requires { p.0 < 256 }
+fn row_put(row: &mut [u64; 4], p: Permission)
     ensures { value row.new ≡ with_of (value row.old) p.0 }
 {
     four_words(*row);
@@ -180,19 +195,11 @@ fn row_put(row: &mut [u64; 4], p: WidePermission)
 }
 
 // Row r takes in the permission p.
-pub fn wide_put(rows: &mut [[u64; 4]; 64], r: WideRole, p: WidePermission)
-    requires { (r.0 < 64) × (p.0 < 256) }
-    ensures { values rows.new ≡ set (values rows.old) r.0 (with_of (get_or (values rows.old) r.0 0) p.0) }
-{
-    row_put(&mut rows[r.0 as usize], p);
-}
-
-// The same of a role and a permission in 8 bits.
 pub fn perm_put(rows: &mut [[u64; 4]; 64], r: Role, p: Permission)
     requires { r.0 < 64 }
     ensures { values rows.new ≡ set (values rows.old) r.0 (with_of (get_or (values rows.old) r.0 0) p.0) }
 {
-    wide_put(rows, WideRole(r.0 as u32), WidePermission(p.0 as u32));
+    row_put(&mut rows[r.0 as usize], p);
 }
 
 pub fn perm_union(a: [u64; 4], b: [u64; 4]) -> [u64; 4]

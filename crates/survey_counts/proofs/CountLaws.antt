@@ -5,7 +5,7 @@ use mathlib.Core.List.{List, [], ◌++◌}
 use Prim.Native.Nat.{ℕ, ◌+◌, ◌≤◌, ◌<◌}
 use native.Mathlib.Omega.{arith}
 use lib.Dec.{eqb}
-use lib.ListN.{length, get_or, set, take, drop, replicate, length-set}
+use lib.ListN.{length, get_or, set, drop, replicate, length-set}
 use lib.Seq.{get_or-set_same, get_or-set_other, drop-length}
 use borrow.Table.Steps.{cases}
 use borrow.Author.Tests.{eqb-true, eqb-false}
@@ -35,27 +35,33 @@ noted_size counts n a h = length-set counts n a ∙ h
 -- ---- a chunk
 
 -- a newline has the line answered and counted
-pub is_counted : (image chunk : List ℕ) (i : ℕ) (l : List ℕ) (k : ℕ) (ledger counts ledger' counts' : List ℕ) → i < length chunk → get_or chunk i 0 ≡ 10
-    → counts' ≡ noted counts (answer_to image ledger (take k l)).reply → ledger' ≡ (answer_to image ledger (take k l)).ledger → (more : List ℕ)
-    → tally image ledger counts (lines_from (take k l) (drop i chunk ++ more))
-    ≡ tally image ledger' counts' (lines_from (take 0 l) (drop (i + 1) chunk ++ more))
+pub is_counted : (image chunk : List ℕ) (i : ℕ) (line bytes line' ledger counts ledger' counts' : List ℕ) → i < length chunk → get_or chunk i 0 ≡ 10
+    → bytes ≡ line → line' ≡ [] → counts' ≡ noted counts (answer_to image ledger bytes).reply → ledger' ≡ (answer_to image ledger bytes).ledger
+    → (more : List ℕ)
+    → tally image ledger counts (lines_from line (drop i chunk ++ more))
+    ≡ tally image ledger' counts' (lines_from line' (drop (i + 1) chunk ++ more))
 unfolding tally
-is_counted image chunk i l k ledger counts ledger' counts' h e p q more =
-    ap (tally image ledger counts) (ends chunk i (take k l) more h e) ∙ rw (p, q)
+is_counted image chunk i line bytes line' ledger counts ledger' counts' h e b z p q more =
+    ap (λ x. tally image ledger counts (lines_from x (drop i chunk ++ more))) (sym b)
+    ∙ ap (tally image ledger counts) (ends chunk i bytes more h e)
+    ∙ rw (p, q, z)
 
 -- behind a chunk
 pub behind_chunk : (chunk : List ℕ) (n : ℕ) (more : List ℕ) → length chunk ≤ n → n ≤ length chunk → drop n chunk ++ more ≡ more
 behind_chunk chunk n more h k = let e : n ≡ length chunk = omega arith in rw (e, drop-length chunk)
 
 -- the end of the input
-pub last_nothing : (image ledger counts l : List ℕ) (k : ℕ) → k < 1 → counts ≡ tally image ledger counts (lines_from (take k l) [])
+pub last_nothing : (image ledger counts line : List ℕ) → length line < 1 → counts ≡ tally image ledger counts (lines_from line [])
 unfolding lines_from tally
-last_nothing image ledger counts l k h = sym (ap (tally image ledger counts) (last_none l k h))
+last_nothing image ledger counts line h = sym (ap (tally image ledger counts) (last_none line h))
 
-pub last_counted : (image ledger counts l : List ℕ) (k : ℕ) (counts' : List ℕ) → length l ≡ 174 → k ≤ 174 → 0 < k
-    → counts' ≡ noted counts (answer_to image ledger (take k l)).reply → counts' ≡ tally image ledger counts (lines_from (take k l) [])
+pub last_counted : (image ledger counts line bytes counts' : List ℕ) → bytes ≡ line → 0 < length bytes
+    → counts' ≡ noted counts (answer_to image ledger bytes).reply → counts' ≡ tally image ledger counts (lines_from line [])
 unfolding lines_from tally
-last_counted image ledger counts l k counts' e m h p = p ∙ sym (ap (tally image ledger counts) (last_some l k e m h))
+last_counted image ledger counts line bytes counts' b h p =
+    p
+    ∙ sym (ap (tally image ledger counts) (last_some bytes h))
+    ∙ ap (λ x. tally image ledger counts (lines_from x [])) b
 
 -- ---- the counts at the start
 

@@ -1,27 +1,28 @@
 -- The lines of the counts, one behind the other.
 -- Assumes nothing.
 use mathlib.Core.Path.{◌≡◌, refl, sym, ap}
-use mathlib.Core.List.{List, ◌++◌}
+use mathlib.Core.List.{◌++◌}
 use Prim.Native.Nat.{ℕ, zero, suc, ◌+◌, ◌≤◌, ◌<◌}
 use native.Mathlib.Numerals.{add-one}
 use native.Mathlib.Omega.{arith}
-use Rattle.script_text.specs.Writing.{Stores}
-use Rattle.script_text.proofs.TextLaws.{put_nothing}
+use Rattle.script_text.specs.declared.Writer.{Writer}
+use Rattle.script_text.specs.Writing.{Writes}
+use Rattle.script_text.proofs.TextLaws.{writes-nothing}
 use Rattle.model_survey.specs.Survey.{two_figures, count_line, count_lines}
 
-pub count_none : (l : List ℕ) (at n c : ℕ) → c < 1 → Stores l at (count_line n c) l at
+pub count_none : (w : Writer) (n c : ℕ) → c < 1 → Writes w w (count_line n c)
 unfolding count_line
-count_none l at n zero h = put_nothing l at
-count_none l at n (suc c) h = absurd (omega arith)
+count_none w n zero h = writes-nothing w
+count_none w n (suc c) h = absurd (omega arith)
 
 pub count_some_lem : (n c : ℕ) → 1 ≤ c → two_figures n c ≡ count_line n c
 unfolding count_line
 count_some_lem n zero h = absurd (omega arith)
 count_some_lem n (suc c) h = refl
 
-pub counts_begin : (f : ℕ → ℕ) (l : List ℕ) (at : ℕ) → Stores l at (count_lines f 0) l at
+pub counts_begin : (f : ℕ → ℕ) (w : Writer) → Writes w w (count_lines f 0)
 unfolding count_lines
-counts_begin f l at = put_nothing l at
+counts_begin f w = writes-nothing w
 
 pub counts-next : (f : ℕ → ℕ) (n : ℕ) → count_lines f n ++ count_line n (f n) ≡ count_lines f (n + 1)
 unfolding count_lines

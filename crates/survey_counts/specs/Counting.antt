@@ -5,7 +5,6 @@ use Rattle.model.specs.Judgement.{judge}
 use Rattle.model.specs.Session.{Reply}
 use Rattle.model_script.specs.Script.{answer_to, first_ledger}
 use Rattle.script_input.specs.Kept.{lines_from}
-use Rattle.script_input.specs.declared.lines.Run.{Run}
 
 -- the table with an answer counted
 unfoldable pub noted : List ℕ → Reply → List ℕ
@@ -22,16 +21,14 @@ Most counts n = (k : ℕ) → get_or counts k 0 ≤ n
 
 -- the lines that end in a chunk are answered and counted: whatever comes behind the chunk, the counts in the end are
 -- the same
-pub record CountsChunk (image chunk line : List ℕ) (kept : ℕ) (ledger counts : List ℕ) (calls : ℕ) (line' ledger' counts' : List ℕ) (r : Run) : Type 0 where
-  pub few : r.kept ≤ 174
-  pub counted : r.calls ≤ calls + length chunk
-  pub most : Most counts' r.calls
+pub record CountsChunk (image chunk line ledger counts : List ℕ) (calls : ℕ) (line' ledger' counts' : List ℕ) (calls' : ℕ) : Type 0 where
+  pub counted : calls' ≤ calls + length chunk
+  pub most : Most counts' calls'
   pub size : length counts' ≡ 256
-  pub same : (more : List ℕ) → tally image ledger counts (lines_from (take kept line) (chunk ++ more))
-      ≡ tally image ledger' counts' (lines_from (take r.kept line') more)
+  pub same : (more : List ℕ) → tally image ledger counts (lines_from line (chunk ++ more)) ≡ tally image ledger' counts' (lines_from line' more)
 
--- where the counting stands between two chunks: the buffer of the line and how many of its bytes are kept, the ledger
--- and the counts
+-- where the counting stands between two chunks: a buffer and how many of its bytes are the line that is begun, the
+-- ledger and the counts
 pub record Standing : Type 0 where
   pub line : List ℕ
   pub kept : ℕ

@@ -24,12 +24,13 @@ use Rattle.model.specs.Ranges.{Each}
 use Rattle.image_reader.specs.Places.{exclusion_after, entries_behind, exclusion_by as walked_by}
 use Rattle.image_reader.proofs.Walk.{Visits, visits_next, visits_some, visits_start}
 use Rattle.tables_exclusions.specs.Exclusions.{exclusion_by as read_by, exclusion_at}
-use Rattle.script_text.specs.Writing.{Stores}
-use Rattle.script_text.proofs.TextLaws.{put_nothing, puts-joined, puts_as, text_put}
+use Rattle.script_text.specs.declared.Writer.{Writer}
+use Rattle.script_text.specs.Writing.{Writes}
+use Rattle.script_text.proofs.TextLaws.{writes-nothing, writes-joined, writes_as}
 use Rattle.model_binomials.specs.Binomial.{binomial, sum_below}
 use Rattle.model_survey.specs.Survey.{two_figures, four_figures, allowed, exclusion_line, exclusion_lines}
 use Rattle.model_survey.specs.Parts.{opening_of, is_accepted}
-use Rattle.survey_exclusions.specs.Writing.{Fitting, Opens}
+use Rattle.survey_exclusions.specs.Writing.{Fitting}
 
 -- the line of an exclusion by its figures
 pub exclusion_is : (x : Exclusion) (k m s : ℕ) → k ≡ kind_number x.kind → m ≡ count 64 x.members → s ≡ sum_below (binomial m) x.n
@@ -77,23 +78,23 @@ module _ (s : List ℕ) where
   all = (policy_of s).exclusions
 
   -- so many lines are written, and the exclusions behind the place are the others
-  pub record Walked (before : List ℕ) (place i : ℕ) (out : List ℕ) (next : ℕ) : Type 0 where
+  pub record Walked (before : Writer) (place i : ℕ) (after : Writer) : Type 0 where
     pub behind : drop i all ≡ exclusions_of (entries_behind s place)
-    pub lines : Stores before 0 (exclusion_lines (take i all)) out next
+    pub lines : Writes before after (exclusion_lines (take i all))
 
-  pub walk_none : (out : List ℕ) → Walked out 0 0 out 0
+  pub walk_none : (w : Writer) → Walked w 0 0 w
   unfolding exclusion_lines policy_of
-  walk_none out = record { behind = sym (visits_start s); lines = put_nothing out 0 }
+  walk_none w = record { behind = sym (visits_start s); lines = writes-nothing w }
 
   -- where the walk goes on there is another
-  pub walk_more : {before : List ℕ} {place i : ℕ} {out : List ℕ} {next : ℕ} → Walked before place i out next → 0 < exclusion_after s place → i < length all
+  pub walk_more : {before : Writer} {place i : ℕ} {after : Writer} → Walked before place i after → 0 < exclusion_after s place → i < length all
   walk_more {before} {place} {i} w h =
       elim (dec_lt i (length all)) [
         | yes q ↦ q
         | no q ↦ absurd (visits_some s place h (sym w.behind ∙ drop_all i all (omega arith)))
       ]
 
-  module _ {before : List ℕ} {place i : ℕ} {out : List ℕ} {next : ℕ} (w : Walked before place i out next) (h : i < length all) where
+  module _ {before : Writer} {place i : ℕ} {after : Writer} (w : Walked before place i after) (h : i < length all) where
     visit : Visits s place (get_or all i other) (drop (i + 1) all)
     visit =
         visits_next s place (get_or all i other) (drop (i + 1) all)
@@ -116,34 +117,33 @@ module _ (s : List ℕ) where
         pub fits_here : Each Fitting all → Fitting x
         fits_here f = subst (λ y. Fitting y) (sym here) (each_at all i f h)
 
-        pub walk-next : {out' : List ℕ} {next' : ℕ} → Stores out next (exclusion_line x) out' next' → Walked before q (i + 1) out' next'
+        pub walk-next : {after' : Writer} → Writes after after' (exclusion_line x) → Walked before q (i + 1) after'
         walk-next p =
             record {
               behind = sym (subst (λ (y : ℕ). exclusions_of (entries_behind s y) ≡ drop (i + 1) all) (sym e) visit.rest);
-              lines = puts_as
+              lines = writes_as
                   (ap (λ (y : Exclusion). exclusion_lines (take i all) ++ exclusion_line y) here ∙ sym (lines_suc all i h)
                   ∙ ap (λ (m : ℕ). exclusion_lines (take m all)) (sym (add-one i)))
-                  (puts-joined w.lines p);
+                  (writes-joined w.lines p);
             }
 
   -- and where it ends there is none
-  pub walk_over : {before : List ℕ} {place i : ℕ} {out : List ℕ} {next : ℕ} → Walked before place i out next → 0 ≡ exclusion_after s place → length all ≤ i
+  pub walk_over : {before : Writer} {place i : ℕ} {after : Writer} → Walked before place i after → 0 ≡ exclusion_after s place → length all ≤ i
   walk_over {before} {place} {i} w e =
       elim (dec_lt i (length all)) [ yes q ↦ let v = visit w q in absurd (omega (arith, v.before, e)) | no q ↦ omega arith ]
 
-  pub walk_all : {before : List ℕ} {place i : ℕ} {out : List ℕ} {next : ℕ} → Walked before place i out next → length all ≤ i
-      → Stores before 0 (exclusion_lines all) out next
-  walk_all {before} {place} {i} w h = puts_as (ap (λ (l : List Exclusion). exclusion_lines l) (take_all i all h)) w.lines
+  pub walk_all : {before : Writer} {place i : ℕ} {after : Writer} → Walked before place i after → length all ≤ i
+      → Writes before after (exclusion_lines all)
+  walk_all {before} {place} {i} w h = writes_as (ap (λ (l : List Exclusion). exclusion_lines l) (take_all i all h)) w.lines
 
 -- ---- what is printed before the script is read
 
-pub opens_accepted : (s : List ℕ) (h : Head) (out out' : List ℕ) (r : ℕ) → judge s ≡ Accepted h → 2688 ≤ length out
-    → Stores out 0 (exclusion_lines (policy_of s).exclusions) out' r → r ≤ 2688 → Opens s out' (record { filled = r; accepted = true })
+pub opens_accepted : (s : List ℕ) (h : Head) → judge s ≡ Accepted h
+    → (exclusion_lines (policy_of s).exclusions ≡ opening_of (judge s) s) × (true ≡ is_accepted (judge s))
 unfolding opening_of is_accepted
-opens_accepted s h out out' r j k p m = record { room = m; text = text_put (omega arith) (omega arith) p ∙ rw j; accepted = rw j }
+opens_accepted s h j = (rw j, rw j)
 
-pub opens-refused : (s : List ℕ) (n place : ℕ) (out out' : List ℕ) (r : ℕ) → judge s ≡ Refused n place → 2688 ≤ length out
-    → Stores out 0 (two_figures n place) out' r → r ≤ 42 → Opens s out' (record { filled = r; accepted = false })
+pub opens-refused : (s : List ℕ) (n place : ℕ) → judge s ≡ Refused n place
+    → (two_figures n place ≡ opening_of (judge s) s) × (false ≡ is_accepted (judge s))
 unfolding opening_of is_accepted
-opens-refused s n place out out' r j k p m =
-    record { room = omega arith; text = text_put (omega arith) (omega arith) p ∙ rw j; accepted = rw j }
+opens-refused s n place j = (rw j, rw j)

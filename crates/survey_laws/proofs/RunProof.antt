@@ -7,7 +7,7 @@ use mathlib.Core.List.{List, [], ◌∷◌, ◌++◌, append-nil}
 use Prim.Native.Nat.{ℕ, zero, suc, ◌+◌, ◌<◌}
 use native.Mathlib.Omega.{arith}
 use lib.Dec.{eqb}
-use lib.ListN.{length, get_or, set, replicate, length-set}
+use lib.ListN.{length, get_or, set, take, replicate, length-set}
 use lib.Seq.{get_or-set_same, get_or-set_other}
 use borrow.Author.Tests.{eqb-true, eqb-false}
 use Rattle.model.specs.declared.Checked.{Checked}
@@ -26,7 +26,6 @@ use Rattle.script_input.proofs.KeptLines.{cut, kept_answer, kept_lines}
 use Rattle.model_survey.specs.Survey.{answers_for, answers_of, count_of, two_figures, exclusion_lines, count_lines, survey_by, survey}
 use Rattle.model_survey.specs.Parts.{opening_of, closing_of}
 use Rattle.model_survey.proofs.Answers.{answer_small}
-use Rattle.script_input.specs.declared.lines.Run.{Run}
 use Rattle.survey_counts.specs.Counting.{noted, tally, CountsChunk, Standing, Begins, counts_from}
 
 -- ---- the whole
@@ -98,12 +97,12 @@ unfolding survey
 run_prints image input = by_judgement (judge image) image input _ (run-counts image input)
 
 -- A chunk that is counted as `count_chunk` promises takes one standing to the other.
-pub chunk_taken : {image chunk line : List ℕ} {kept : ℕ} {ledger counts : List ℕ} {calls : ℕ} {line' ledger' counts' : List ℕ} {r : Run}
-    → CountsChunk image chunk line kept ledger counts calls line' ledger' counts' r
+pub chunk_taken : (line : List ℕ) (kept : ℕ) (line' : List ℕ) (kept' : ℕ) {image chunk ledger counts : List ℕ} {calls : ℕ} {ledger' counts' : List ℕ}
+    {calls' : ℕ} → CountsChunk image chunk (take kept line) ledger counts calls (take kept' line') ledger' counts' calls'
     → Takes Standing (List ℕ) (counts_from image) chunk (record { line = line; kept = kept; ledger = ledger; counts = counts })
-    (record { line = line'; kept = r.kept; ledger = ledger'; counts = counts' })
+    (record { line = line'; kept = kept'; ledger = ledger'; counts = counts' })
 unfolding counts_from
-chunk_taken h = h.same
+chunk_taken line kept line' kept' h = h.same
 
 begins_as : (image input : List ℕ) (a : Standing) → Begins image a
     → counts_from image a input ≡ tally image (first_ledger (judge image)) (replicate 256 0) (lines_from [] input)

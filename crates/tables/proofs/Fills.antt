@@ -1,19 +1,18 @@
 -- The turns of the pass that fills the tables: each table is the fold of its step over the entries.
 -- Assumes nothing.
-use Rattle.std.proofs.Common.{◌≡◌, ℕ, ◌-◌, ◌/◌, ◌^◌, ◌<◌, ◌≤◌, List, [], ◌∷◌, map, take, length, get_or, Result, Ok, Err, sym, refl, ap, ◌∙◌, subst}
+use Rattle.std.proofs.Common.{◌≡◌, ℕ, ◌-◌, ◌/◌, ◌^◌, ◌<◌, ◌≤◌, List, [], ◌∷◌, length, get_or, Result, Ok, Err, sym, refl, ap, ◌∙◌, subst}
 use Rattle.model.specs.declared.Entry.{Entry}
 use Rattle.model.specs.declared.Head.{Head}
 use Rattle.model.specs.declared.Checked.TheVariants.{Accepted, Refused}
 use Rattle.reasons.specs.declared.Refusal.{Refusal}
 use Rattle.reasons.specs.Numbers.{number_of, checked_of}
 use Rattle.sets.specs.Words.{value, joined, values}
-use Rattle.exclusion_rows.specs.declared.ExclusionTable.{ExclusionTable}
-use Rattle.exclusion_rows.specs.Rows.{exclusion_of}
+use Rattle.exclusion_rows.specs.Table.{exclusion_list}
 use Rattle.policy_tables.specs.declared.PolicyTables.{PolicyTables}
 use Rattle.policy_tables.specs.Held.{Blank, Holds}
 use Rattle.model.specs.Image.{behind_head, assigning, empty_rows, judge_words}
 use Rattle.model.specs.Sets.{count}
-use Rattle.model.specs.Policy.{Policy, entries_from, entries_of, fold, granting, ordering, limiting, policy_of}
+use Rattle.model.specs.Policy.{Policy, authorized, entries_from, entries_of, fold, granting, ordering, limiting, policy_of}
 use Rattle.model.specs.Judgement.{judge_meaning, judge}
 use Rattle.model_laws.proofs.Accepted.{words_head, words_in_range}
 use Rattle.model_laws.proofs.Judgements.{words_pass}
@@ -136,6 +135,13 @@ module _ (s : List ℕ) (c : Result Head Refusal) (ec : checked_of c ≡ judge_w
       pub tables_accepted : judge s ≡ Accepted t.head
       tables_accepted = sym is_judged ∙ ap checked_of e ∙ ap Accepted (sym (words_head s h passes) ∙ direct_read.head_is)
 
+      -- the roles that each user may activate are its policy's
+      pub tables_own : (u : ℕ) → u < (policy_of s).head.users → get_or own u 0 ≡ authorized (policy_of s) u
+      tables_own u l =
+          let w = judged (policy_of s)
+          (λ k q. record { head_is = words_head s k (sym ec ∙ ap checked_of q); assigned_is = (had k q).0; juniors_is = (had k q).1 }) in
+          w.own_is h e u l
+
       -- and those that follow from them its policy
       pub tables_hold : (t' : PolicyTables) → t'.head ≡ t.head → t'.authorized ≡ own → t'.below ≡ below → t'.granted ≡ t.granted
           → t'.limits ≡ t.limits → t'.exclusions ≡ t.exclusions → Holds t' (policy_of s)
@@ -148,5 +154,5 @@ module _ (s : List ℕ) (c : Result Head Refusal) (ec : checked_of c ≡ judge_w
             granted_is = ap values eg ∙ direct_read.granted_is;
             below_is = eb ∙ w.below_is h e;
             limits_is = el ∙ direct_read.limits_is;
-            exclusions_are = ap (λ (x : ExclusionTable). take x.count (map exclusion_of x.rows)) ex ∙ direct_read.exclusions_are;
+            exclusions_are = ap exclusion_list ex ∙ direct_read.exclusions_are;
           }

@@ -1,10 +1,10 @@
 -- The tables that a pass over an image fills, and what they hold.
 -- Assumes nothing.
-use Rattle.std.specs.Prelude.{◌≡◌, ℕ, List, map, take}
+use Rattle.std.specs.Prelude.{◌≡◌, ℕ, List}
 use Rattle.model.specs.Image.{assigning, empty_rows}
 use Rattle.model.specs.Policy.{Policy, entries_from, fold, granting, ordering, limiting, exclusions_of}
 use Rattle.sets.specs.Words.{values}
-use Rattle.exclusion_rows.specs.Rows.{exclusion_of}
+use Rattle.exclusion_rows.specs.Table.{exclusion_list}
 use Rattle.policy_tables.specs.declared.PolicyTables.{PolicyTables}
 
 -- the tables t after n words from place 1, which were t₀ before, and the exclusions among those words
@@ -13,7 +13,7 @@ pub record Gathered (s : List ℕ) (n : ℕ) (t₀ t : PolicyTables) : Type 0 wh
   pub granted_is : values t.granted ≡ fold granting (values t₀.granted) (entries_from s n 1)
   pub juniors_is : t.below ≡ fold ordering t₀.below (entries_from s n 1)
   pub limits_is : t.limits ≡ fold limiting t₀.limits (entries_from s n 1)
-  pub exclusions_are : take t.exclusions.count (map exclusion_of t.exclusions.rows) ≡ exclusions_of (entries_from s n 1)
+  pub exclusions_are : exclusion_list t.exclusions ≡ exclusions_of (entries_from s n 1)
 
 -- tables before any word
 pub record Fresh (t : PolicyTables) : Type 0 where
@@ -30,4 +30,4 @@ pub record Read (p : Policy) (t : PolicyTables) : Type 0 where
   pub granted_is : values t.granted ≡ p.granted
   pub juniors_is : t.below ≡ p.juniors
   pub limits_is : t.limits ≡ p.limits
-  pub exclusions_are : take t.exclusions.count (map exclusion_of t.exclusions.rows) ≡ p.exclusions
+  pub exclusions_are : exclusion_list t.exclusions ≡ p.exclusions

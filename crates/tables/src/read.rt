@@ -1,26 +1,25 @@
 // One pass over an image that judges it and fills the tables of its policy on the way.
-ghost use Rattle.std.specs.Prelude.{◌≡◌, ◌-◌, ◌≤◌, IfOk, IfErr, Ok};
+ghost use Rattle.std.specs.Prelude.{◌≡◌, ℕ, ◌-◌, ◌≤◌, ◌<◌, get_or, IfOk, IfErr, Ok};
 ghost use Rattle.model.specs.declared.Head.{Head as HeadOf};
 ghost use Rattle.model.specs.Image.{scan, start, judge_words};
 ghost use Rattle.model.specs.Judgement.{judge};
-ghost use Rattle.model.specs.Policy.{policy_of};
+ghost use Rattle.model.specs.Policy.{policy_of, authorized};
 ghost use Rattle.reasons.specs.Numbers.{number_of, checked_of};
 ghost use Rattle.policy_tables.specs.Held.{Holds};
 ghost use Rattle.tables.specs.Tables.{Fresh, Gathered, Read};
 
 use hierarchy_judged::loops::{judged, settled};
-use image::check::{fresh, next};
+use image::check::next;
 use image::ending::closing;
 use image::front::words_of;
 use image_faults::fault::at_place;
-use image_usual::usual::members;
-use image_words::word::{decode, head_of};
+use image_usual::usual::{members, pass};
+use image_words::word::decode;
 use image_words::words::{ImageWords, Run};
-use model::{Checked, Head};
+use model::{Checked, Head, Scan};
 use policy_tables::PolicyTables;
 use reasons::Refusal;
 use tables_exclusions::exclusions::exclusions_at;
-use tables_usual::usual::pass;
 use tables_words::take::{Placed, step};
 
 // Judges the words behind a right head, and fills the tables; `first` is the head's word.
@@ -36,7 +35,7 @@ fn read_words(
 {
     let end = image.last();
     let mut places = [0usize; 32];
-    let mut t = fresh();
+    let mut t = Scan::default();
     let mut at = Run {
         place: 1,
         sum: first,
@@ -76,8 +75,7 @@ fn read_words(
             placed,
         );
         at_place(taken, here.place)?;
-        let e = word.entry;
-        t = next(t, e);
+        t = next(t, word.entry);
         at = here.past(w);
     }
     let head = closing(image, h, t.due, at.sum)?;
@@ -97,9 +95,9 @@ fn gather(image: &[u8], tables: &mut PolicyTables) -> Result<Head, Refusal>
     ensures { (checked_of result ≡ judge_words image.now)
         × ((g : HeadOf) → result ≡ Ok g → Read (policy_of image.now) tables.new) }
 {
-    let words = words_of(image)?;
-    let w = words.word(0);
-    let head = read_words(&words, head_of(w), w, tables)?;
+    let front = words_of(image)?;
+    let words = front.words;
+    let head = read_words(&words, front.head, words.word(0), tables)?;
     tables.head = head;
     Ok(head)
 }
@@ -111,6 +109,8 @@ fn gather(image: &[u8], tables: &mut PolicyTables) -> Result<Head, Refusal>
 pub fn read(image: &[u8], tables: &mut PolicyTables) -> Result<(), Refusal>
     requires { Fresh tables.old }
     ensures accepted { IfOk result (λ _. (judge image.now ≡ Checked.Accepted tables.new.head) × Holds tables.new (policy_of image.now)) }
+    ensures own { IfOk result (λ _. (u : ℕ) → u < (policy_of image.now).head.users
+        → get_or tables.new.authorized u 0 ≡ authorized (policy_of image.now) u) }
     ensures refused { IfErr result (λ r. judge image.now ≡ Checked.Refused (number_of r.reason) r.extra) }
 {
     let words = gather(image, tables);
@@ -123,7 +123,8 @@ pub fn read(image: &[u8], tables: &mut PolicyTables) -> Result<(), Refusal>
 }
 
 // Judges an image and, where it is accepted, leaves in the tables what its words say: the roles assigned to each user,
-// the permissions granted to each role, the direct juniors of each role, the limit of each role and the exclusions.
+// the permissions granted to each role, the direct juniors of each role, the limit of each role and the exclusions. The
+// tables are not closed here, as they are by `read` (docs/DECISIONS.md, 28).
 pub fn read_direct(image: &[u8], tables: &mut PolicyTables) -> Result<(), Refusal>
     requires { Fresh tables.old }
     ensures accepted { IfOk result (λ _. (judge image.now ≡ Checked.Accepted tables.new.head) × Read (policy_of image.now) tables.new) }

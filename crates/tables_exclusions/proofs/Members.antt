@@ -1,12 +1,12 @@
--- The members of an exclusion: named by the m words behind its word, or by those up to the last; and the rows of the
--- exclusions read.
+-- The members of an exclusion: named by the m words behind its word, or by those up to the last; and the exclusions
+-- read.
 -- Assumes nothing.
 use mathlib.Core.Path.{◌≡◌, refl, sym, ap, ap₂, ◌∙◌}
 use mathlib.Core.List.{List, [], ◌∷◌, ◌++◌, map, map-append}
 use Prim.Native.Nat.{ℕ, zero, suc, ◌+◌, ◌-◌, ◌≤◌, ◌<◌}
 use native.Mathlib.Omega.{arith}
 use native.Mathlib.Numerals.{add-one}
-use lib.ListN.{length, get_or, set, take, length-map}
+use lib.ListN.{length, get_or, set, take}
 use lib.Seq.{take-suc, take-suc-set}
 use Rattle.model.specs.declared.Exclusion.{Exclusion}
 use Rattle.model.specs.declared.Entry.{Entry}
@@ -14,9 +14,7 @@ use Rattle.model.specs.declared.Entry.TheVariants.{Exclude}
 use Rattle.model.specs.declared.Word.{Word}
 use Rattle.model.specs.Image.{word_at, decode}
 use Rattle.model.specs.Policy.{entry_at, entries_from, fold, joining, with_members}
-use Rattle.exclusion_rows.specs.Rows.{exclusion_of}
 use Rattle.image_words.proofs.Others.{Among, not_exclude, no_exclusion}
-use Rattle.sets.proofs.Unions.{map-set}
 use Rattle.tables_exclusions.specs.Exclusions.{nothing, exclusion_by, exclusion_at}
 
 pub take_entries : (s : List ℕ) (m n k p : ℕ) → k ≤ n → k ≤ m → (k < m → k ≡ n) → take m (entries_from s n p) ≡ entries_from s k p
@@ -51,14 +49,12 @@ members-of s words place to m x set lt le ge lm all e =
     let k = take_entries s m (words - (place + 1)) (to - (place + 1)) (place + 1) (omega arith) (omega arith) (λ l. let z = all (omega arith) in omega arith) in
     rw (e, k)
 
--- ---- a turn of the loop that reads the exclusions at the places, a row each
-module _ (f : ℕ → Exclusion) (places : List ℕ) (rows : List (List ℕ)) (i : ℕ) (e : take i (map exclusion_of rows) ≡ map f (take i places)) where
-  pub one_read : (row : List ℕ) → i < length rows → i < length places → exclusion_of row ≡ f (get_or places i 0)
-      → take (i + 1) (map exclusion_of (set rows i row)) ≡ map f (take (i + 1) places)
-  one_read row hl hp ex =
-      let h : i < length (map exclusion_of rows) = rw length-map hl in
-      ap₂ (λ (n : ℕ) (xs : List Exclusion). take n xs) (add-one i) (map-set exclusion_of rows i row)
-      ∙ take-suc-set (map exclusion_of rows) i (exclusion_of row) h
-      ∙ ap₂ (λ (ys : List Exclusion) (y : Exclusion). ys ++ (y ∷ [])) e ex
-      ∙ sym (map-append f (take i places) (get_or places i 0 ∷ []))
-      ∙ ap (map f) (sym (ap (λ (n : ℕ). take n places) (add-one i) ∙ take-suc places i 0 hp))
+-- ---- a turn of the loop that reads the exclusions at the places
+pub one_read : (f : ℕ → Exclusion) (places : List ℕ) (xs : List Exclusion) (i : ℕ) (x : Exclusion) → take i xs ≡ map f (take i places)
+    → i < length xs → i < length places → x ≡ f (get_or places i 0) → take (i + 1) (set xs i x) ≡ map f (take (i + 1) places)
+one_read f places xs i x e hl hp ex =
+    ap (λ (n : ℕ). take n (set xs i x)) (add-one i)
+    ∙ take-suc-set xs i x hl
+    ∙ ap₂ (λ (ys : List Exclusion) (y : Exclusion). ys ++ (y ∷ [])) e ex
+    ∙ sym (map-append f (take i places) (get_or places i 0 ∷ []))
+    ∙ ap (map f) (sym (ap (λ (n : ℕ). take n places) (add-one i) ∙ take-suc places i 0 hp))

@@ -1,25 +1,14 @@
 // The exclusions of an image, read at the places of their words.
-ghost use Rattle.std.specs.Prelude.{◌≡◌, map, ◌+◌, ◌-◌, ◌*◌, ◌^◌, ◌≤◌, ◌<◌, length, take, All};
+ghost use Rattle.std.specs.Prelude.{◌≡◌, map, ◌+◌, ◌-◌, ◌*◌, ◌^◌, ◌≤◌, ◌<◌, length, All};
 ghost use Rattle.model.specs.Policy.{fold, joining, entries_from};
 ghost use Rattle.image_words.specs.Bounds.{Small};
-ghost use Rattle.exclusion_rows.specs.Rows.{exclusion_of};
-ghost use Rattle.tables_exclusions.specs.Exclusions.{nothing as nothing_of, exclusion_at as exclusion_at_of};
+ghost use Rattle.exclusion_rows.specs.Table.{exclusion_list};
+ghost use Rattle.tables_exclusions.specs.Exclusions.{exclusion_at as exclusion_at_of};
 
-use exclusion_rows::{ExclusionTable, row_of};
+use exclusion_rows::ExclusionTable;
 use image_words::word::decode;
 use image_words::words::ImageWords;
-use model::{Entry, Exclusion, Kind};
-
-// No exclusion.
-pub fn nothing() -> Exclusion
-    ensures { result ≡ nothing_of }
-{
-    Exclusion {
-        kind: Kind::SsDmer,
-        n: 0,
-        members: 0,
-    }
-}
+use model::{Entry, Exclusion};
 
 // The members, with the role that a member word names.
 fn joined(members: u64, e: Entry) -> u64
@@ -38,10 +27,9 @@ fn members_in(image: &[u8], from: usize, to: usize, members: u64) -> u64
     ensures { result ≡ fold joining members (entries_from image.now (to - from) from) }
 {
     let mut set = members;
+    // The number is the place of a word in bytes: there is no slice of words to walk.
     for place in from..to {
-        let word = decode(octets::word_at(image, place));
-        let e = word.entry;
-        set = joined(set, e);
+        set = joined(set, decode(octets::word_at(image, place)).entry);
     }
     set
 }
@@ -54,27 +42,24 @@ pub fn exclusion_at(image: &[u8], words: usize, place: usize) -> Exclusion
     ensures { result ≡ exclusion_at_of image.now words place }
 {
     let word = decode(octets::word_at(image, place));
-    let e = word.entry;
-    let Entry::Exclude(x, m) = e else {
-        return nothing();
+    let Entry::Exclude(x, m) = word.entry else {
+        return Exclusion::default();
     };
     let to = (place + 1 + m as usize).min(words);
-    let k = x.kind;
     Exclusion {
-        kind: k,
+        kind: x.kind,
         n: x.n,
         members: members_in(image, place + 1, to, x.members),
     }
 }
 
-// The exclusions at the places, a row each.
+// The exclusions at the places.
 pub fn exclusions_at(image: &ImageWords, places: &[usize], table: &mut ExclusionTable)
     requires { (length places.now ≤ 32) × All (λ p. p < image.now.count) places.now }
-    ensures { take table.new.count (map exclusion_of table.new.rows)
-        ≡ map (exclusion_at_of image.now.bytes.now image.now.count) places.now }
+    ensures { exclusion_list table.new ≡ map (exclusion_at_of image.now.bytes.now image.now.count) places.now }
 {
     for (i, place) in places.iter().enumerate() {
-        table.rows[i] = row_of(exclusion_at(image.bytes, image.count, *place));
+        table.rows[i] = exclusion_at(image.bytes, image.count, *place);
     }
     table.count = places.len();
 }

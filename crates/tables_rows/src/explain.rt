@@ -9,6 +9,7 @@ ghost use Rattle.hierarchy.specs.Names.{found_of};
 use crate::holding::holders;
 use hierarchy::reach::granter;
 use model::{Permission, Role};
+use policy_tables::grants::Grants;
 
 // The lowest role of a set that carries a permission and its granting role, by the closed table and the roles that hold
 // its grant: 64 times the one plus the other.
@@ -26,9 +27,9 @@ fn first_carrier(below: &[u64; 64], holding: u64, set: u64) -> Option<u64>
 
 // Through which roles a set carries the permission p, by the closed table: 64 times the lowest that carries it plus its
 // granting role; none where none carries it.
-pub fn explain(granted: &[[u64; 4]; 64], below: &[u64; 64], set: u64, p: Permission) -> Option<u64>
-    ensures { (found_of result ≡ explanation (granter_by (with_selves below.now) (λ g. has (get_or (values granted.now) g 0) p.0)) set)
+pub fn explain(grants: &Grants, set: u64, p: Permission) -> Option<u64>
+    ensures { (found_of result ≡ explanation (granter_by (with_selves grants.now.below.now) (λ g. has (get_or (values grants.now.granted.now) g 0) p.0)) set)
         × IfSome result (λ e. e < 4096) }
 {
-    first_carrier(below, holders(granted, p), set)
+    first_carrier(grants.below, holders(grants.granted, p), set)
 }

@@ -9,7 +9,7 @@ ghost use Rattle.tables_words.specs.Step.{noting, Step};
 
 use image::check::{take_assignment, take_senior};
 use image_faults::fault::{
-    exclusion_fault, grant_fault, limit_fault, member_fault, spared, wrong_kind,
+    exclusion_fault, grant_fault, kind_fault, limit_fault, member_fault, spared,
 };
 use model::{Entry, Exclusion, Head, Permission, Role, Scan, Word};
 use reasons::Reason;
@@ -81,8 +81,9 @@ pub struct Placed {
     pub place: usize,
 }
 
-// A word before the last. One match a word: each arm judges and stores.
-// The tables are lent one by one: an arm stores in one of them, and its contract speaks of that one alone.
+// A word before the last. One match a word: each arm judges and stores; image::check::taken says why it stands beside.
+// The tables are lent one by one: the places are no field of PolicyTables, and lent as a whole it would owe two facts
+// more, that its head and its exclusions stay.
 pub fn step(
     h: Head,
     assigned: &mut [u64; 64],
@@ -99,12 +100,9 @@ pub fn step(
         assigned.new (values granted.new) juniors.new limits.new places.new }
 {
     let w = at.word;
-    let e = w.entry;
     let spare = w.spare;
-    if wrong_kind(false, t.due, e) {
-        return Err(Reason::Kind);
-    }
-    match e {
+    kind_fault(false, t.due, w.entry)?;
+    match w.entry {
         Entry::Assignment(u, r) => take_assignment(h, assigned, spare, u, r),
         Entry::Grant(r, p) => take_grant(h, granted, spare, r, p),
         Entry::Senior(a, b) => take_senior(h, juniors, spare, a, b),

@@ -11,8 +11,6 @@ use Rattle.model.specs.Words.{exclusion_word, member_word}
 use Rattle.model.specs.Policy.{kind_number}
 use Rattle.model_laws.proofs.Ranks.{count_most}
 use Rattle.model_laws.proofs.SortedLaws.{kind_below}
-use Rattle.exclusion_rows.specs.Rows.{exclusion_of}
-use Rattle.exclusion_rows.proofs.Packing.{row_at}
 use Rattle.model_tidy.specs.Groups.{spread}
 use Rattle.model_tidy.specs.Tidy.{members_to, table_groups, exclusion_group}
 use Rattle.model_tidy_laws.proofs.TidyLists.{members-length, row_words_lem}
@@ -111,50 +109,31 @@ exclusion-words x k m ek e =
 pub number_small : (n : ℕ) (k : Kind) → n ≡ kind_number k → n < 4
 number_small n k e = let c = kind_below k in omega arith
 
--- the exclusion of a row that is read among the first
-pub row_is : {x : Exclusion} (rows items : List (List ℕ)) (n i : ℕ) → x ≡ exclusion_of (get_or items i []) → items ≡ take n rows
-    → get_or (take n rows) i [] ≡ get_or rows i [] → x ≡ exclusion_of (get_or rows i [])
-row_is rows items n i e f g = e ∙ ap (λ (l : List (List ℕ)). exclusion_of (get_or l i [])) f ∙ ap exclusion_of g
+-- the words of exclusions from exclusion i on
+abbrev pub listed : List Exclusion → ℕ → List ℕ
+listed xs i = spread (map exclusion_group (drop i xs))
 
--- the first n exclusions of a table, those from exclusion i on
-abbrev pub listed : List (List ℕ) → ℕ → ℕ → List ℕ
-listed rows n i = spread (map exclusion_group (drop i (take n (map exclusion_of rows))))
-
-module _ (rows : List (List ℕ)) (n i : ℕ) where
-  taken_length : length (take n (map exclusion_of rows)) ≡ length (take n rows)
-  taken_length =
-      let l = length-take n rows in
-      let m = length-take n (map exclusion_of rows) in
-      omega (arith, length-map rows exclusion_of)
-
-  -- exclusion i, and those behind it
-  pub listed_next : i < length (take n rows) → (x : Exclusion) → x ≡ exclusion_of (get_or rows i [])
-      → Begins (listed rows n i) (exclusion_words x) (listed rows n (i + 1))
+-- exclusion i, and those behind it
+module _ (xs : List Exclusion) (i : ℕ) (h : i < length xs) (d : Exclusion) where
+  pub listed_next : Begins (listed xs i) (exclusion_words (get_or xs i d)) (listed xs (i + 1))
   unfolding spread exclusion_words
-  listed_next h x e =
-      let t = taken_length in
-      let l = length-take n rows in
-      let k : i < n = omega arith in
-      let y : get_or (take n (map exclusion_of rows)) i (exclusion_of []) ≡ x
-      = get_or-take n (map exclusion_of rows) i (exclusion_of []) k ∙ row_at rows i ∙ sym e in
+  listed_next =
       record {
-        is = ap (λ (l : List Exclusion). spread (map exclusion_group l)) (drop-cons (take n (map exclusion_of rows)) i (exclusion_of []) (omega arith))
-            ∙ (λ j. exclusion_words (y j) ++ listed rows n (sym (add-one i) j));
+        is = ap (λ (l : List Exclusion). spread (map exclusion_group l)) (drop-cons xs i d h)
+            ∙ (λ j. exclusion_words (get_or xs i d) ++ listed xs (sym (add-one i) j));
       }
 
-  pub listed_end : length (take n rows) ≤ i → listed rows n i ≡ []
-  unfolding spread
-  listed_end h =
-      let t = taken_length in
-      let q : length (take n (map exclusion_of rows)) ≤ i = omega arith in
-      ap (λ (l : List Exclusion). spread (map exclusion_group l)) (drop_of_length-le (take n (map exclusion_of rows)) q)
-
-  pub listed_count : i < length (take n rows) → (x : Exclusion) → x ≡ exclusion_of (get_or rows i [])
-      → length (listed rows n i) ≡ 1 + count 64 x.members + length (listed rows n (i + 1))
+  pub listed_count : (m : ℕ) → m ≡ count 64 (get_or xs i d).members → length (listed xs i) ≡ 1 + m + length (listed xs (i + 1))
   unfolding exclusion_words exclusion_group
-  listed_count h x e =
-      let a = ap length (listed_next h x e).is in
-      let b = length-append (exclusion_words x) (listed rows n (i + 1)) in
+  listed_count m e =
+      let x = get_or xs i d in
+      let a = ap length listed_next.is in
+      let b = length-append (exclusion_words x) (listed xs (i + 1)) in
       let c = length-map (members_to 64 x.members) member_word in
-      let d = members-length 64 x.members in
+      let n = members-length 64 x.members in
       omega arith
+
+-- behind the last none
+pub listed_end : (xs : List Exclusion) (i : ℕ) → length xs ≤ i → listed xs i ≡ []
+unfolding spread
+listed_end xs i h = ap (λ (l : List Exclusion). spread (map exclusion_group l)) (drop_of_length-le xs h)

@@ -6,7 +6,7 @@ ghost use Rattle.model_tidy.specs.Tidy.{exclusion_group};
 ghost use Rattle.exclusion_rows.specs.Table.{exclusion_list};
 ghost use Rattle.tidy_words.specs.Tables.{table_words, Table, limit_words, Limited};
 
-use exclusion_rows::{ExclusionTable, exclusion_of};
+use exclusion_rows::ExclusionTable;
 use sets::counted::Counted;
 
 // The words of a table of sets, of which only the first n rows have members: one for each member.
@@ -27,8 +27,7 @@ pub fn count_exclusions(xs: &ExclusionTable) -> usize
     ensures { (result < 2 ^ 40) × (result ≡ length (spread (map exclusion_group (exclusion_list xs.now)))) }
 {
     let mut m: usize = 0;
-    for row in xs.listed() {
-        let x = exclusion_of(*row);
+    for x in xs.listed() {
         m += 1 + sets::size(x.members) as usize;
     }
     m

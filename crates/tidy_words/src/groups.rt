@@ -8,7 +8,7 @@ ghost use Rattle.tidy_words.specs.Buffers.{written, Puts, Room, set_words};
 ghost use Rattle.tidy_words.specs.Tables.{word_by, table_words, Table, exclusion_words, limit_row, limit_words, Limited};
 
 use crate::words::Writer;
-use exclusion_rows::{ExclusionTable, exclusion_of, number_of};
+use exclusion_rows::{ExclusionTable, number_of};
 use model::{Exclusion, Role, layout};
 use sets::counted::Counted;
 
@@ -40,7 +40,7 @@ impl<'a> Writer<'a> {
 
     // The words of the first n rows of a table, of which no other has members: row i, then its members.
     pub fn put_table<S: Row>(&mut self, first: u32, unit: u32, rows: &[S], n: usize)
-        requires { (n ≤ 64) × (first + 63 * 4194304 + S.top * unit < 2 ^ 32) × Table n (map S.as_set rows.now)
+        requires { (n ≤ 64) × (first + 63 * 4194304 < 2 ^ 32) × (first + 63 * 4194304 + S.top * unit ≤ 2 ^ 32) × Table n (map S.as_set rows.now)
             × Room (written self.old) (table_words (word_by first unit) S.top (map S.as_set rows.now) 0) }
         ensures { Puts self.old self.new (table_words (word_by first unit) S.top (map S.as_set rows.now) 0) }
     {
@@ -74,8 +74,8 @@ impl<'a> Writer<'a> {
         requires { Room (written self.old) (spread (map exclusion_group (exclusion_list xs.now))) }
         ensures { Puts self.old self.new (spread (map exclusion_group (exclusion_list xs.now))) }
     {
-        for row in xs.listed() {
-            self.put_exclusion(exclusion_of(*row));
+        for x in xs.listed() {
+            self.put_exclusion(*x);
         }
     }
 

@@ -1,22 +1,18 @@
 -- `asks_obstacle::ask_obstacle` meets its contract: refused as an ask is, or what is found told.
 -- Assumes nothing.
-use mathlib.Core.Path.{◌≡◌, refl, sym, ap, ◌∙◌}
+use mathlib.Core.Path.{refl, sym, ap, ◌∙◌}
 use native.Mathlib.Omega.{arith}
 use lib.ListN.{length}
 use borrow.Author.Rules.{rules}
 use Rattle.std.proofs.lemmas.Result.{err_from_is_err_and}
-use Rattle.model.specs.Policy.{Policy}
 use Rattle.model.specs.Line.{SESSIONS}
 use Rattle.model.specs.Session.{is_ask}
-use Rattle.model.specs.Run.{told}
+use Rattle.model.specs.Run.{told, line_of}
 use Rattle.reasons.specs.Numbers.{refusal_of}
-use Rattle.exclusion_rows.specs.Table.{exclusions_of}
-use Rattle.sessions.specs.Calls.{Known}
-use Rattle.asks_request.specs.Refusals.{sized_of, lower_of, upper_of, limited_refusal}
-use Rattle.asks_request.proofs.Requests.{limited-of, coded, Passed, passed as passes}
+use Rattle.asks_request.proofs.Requests.{limited-of, coded}
 use Rattle.asks.proofs.Rows.{known_of, searched_of}
-use Rattle.asks_obstacle.proofs.Tellings.{own_of}
-use Rattle.asks_obstacle.proofs.ObstacleCalls.{call, obstacle_refused, obstacle_room, shows-told}
+use Rattle.asks_obstacle.proofs.Tellings.{own_of, found_on}
+use Rattle.asks_obstacle.proofs.ObstacleCalls.{call, passed_unaimed, obstacle_refused, obstacle_room, shows-told}
 use Rattle.asks_obstacle.proofs.ask_obstacle.Goals as goal
 
 pub returns-in_err-wanted : goal.returns-in_err-wanted
@@ -31,13 +27,7 @@ pub returns-then-roles-ne16 : goal.returns-then-roles-ne16
 unfolding is_ask
 returns-then-roles-ne16 c p lower upper h e =
     let t = c.args.tables.now in
-    let unaimed : (p : Policy) → Known t.head t.authorized (exclusions_of t.exclusions) p → p.limits ≡ t.limits
-    → refusal_of c.limited_refusal.result ≡ limited_refusal SESSIONS p c.args.ledger.now c.args.request.who.user c.args.request.who.session
-    (sized_of c.args.request.bounds) (lower_of c.args.request.bounds) (upper_of c.args.request.bounds) 0 0 40 =
-    (λ p h l. rw (c.requires.0, c.requires.1) at (c.limited_refusal.ensures.refused p h l)) in
-    let w : Passed SESSIONS t.head t.authorized (exclusions_of t.exclusions) t.limits c.args.ledger.now c.args.request.who.user c.args.request.who.session
-    (sized_of c.args.request.bounds) (lower_of c.args.request.bounds) (upper_of c.args.request.bounds) 0 0 40 =
-    passes _ _ _ _ _ _ _ _ _ _ _ _ _ _ _ unaimed (ap refusal_of c.in_ok-wanted.was) in
+    let w = passed_unaimed c.limited_refusal.ensures.refused c.requires.0 c.requires.1 (ap refusal_of c.in_ok-wanted.was) in
     let known = known_of t p h in
     let limits = sym h.limits_is in
     let k = call SESSIONS p c.args.ledger.now c.args.request.who.user c.args.request.who.session lower upper (length c.args.roles.now) in
@@ -46,51 +36,29 @@ returns-then-roles-ne16 c p lower upper h e =
 
 pub roles_left-free-requires : goal.roles_left-free-requires
 roles_left-free-requires c =
-    let t = c.args.tables.now in
-    let unaimed : (p : Policy) → Known t.head t.authorized (exclusions_of t.exclusions) p → p.limits ≡ t.limits
-    → refusal_of c.limited_refusal.result ≡ limited_refusal SESSIONS p c.args.ledger.now c.args.request.who.user c.args.request.who.session
-    (sized_of c.args.request.bounds) (lower_of c.args.request.bounds) (upper_of c.args.request.bounds) 0 0 40 =
-    (λ p h l. rw (c.requires.0, c.requires.1) at (c.limited_refusal.ensures.refused p h l)) in
-    let w : Passed SESSIONS t.head t.authorized (exclusions_of t.exclusions) t.limits c.args.ledger.now c.args.request.who.user c.args.request.who.session
-    (sized_of c.args.request.bounds) (lower_of c.args.request.bounds) (upper_of c.args.request.bounds) 0 0 40 =
-    passes _ _ _ _ _ _ _ _ _ _ _ _ _ _ _ unaimed (ap refusal_of c.in_ok-wanted.was) in
+    let w = passed_unaimed c.limited_refusal.ensures.refused c.requires.0 c.requires.1 (ap refusal_of c.in_ok-wanted.was) in
     search rules
 
 pub roles_of-own-requires : goal.roles_of-own-requires
 roles_of-own-requires c =
-    let t = c.args.tables.now in
-    let unaimed : (p : Policy) → Known t.head t.authorized (exclusions_of t.exclusions) p → p.limits ≡ t.limits
-    → refusal_of c.limited_refusal.result ≡ limited_refusal SESSIONS p c.args.ledger.now c.args.request.who.user c.args.request.who.session
-    (sized_of c.args.request.bounds) (lower_of c.args.request.bounds) (upper_of c.args.request.bounds) 0 0 40 =
-    (λ p h l. rw (c.requires.0, c.requires.1) at (c.limited_refusal.ensures.refused p h l)) in
-    let w : Passed SESSIONS t.head t.authorized (exclusions_of t.exclusions) t.limits c.args.ledger.now c.args.request.who.user c.args.request.who.session
-    (sized_of c.args.request.bounds) (lower_of c.args.request.bounds) (upper_of c.args.request.bounds) 0 0 40 =
-    passes _ _ _ _ _ _ _ _ _ _ _ _ _ _ _ unaimed (ap refusal_of c.in_ok-wanted.was) in
+    let w = passed_unaimed c.limited_refusal.ensures.refused c.requires.0 c.requires.1 (ap refusal_of c.in_ok-wanted.was) in
+    search rules
+
+pub line_of-l-requires : goal.line_of-l-requires
+line_of-l-requires c =
+    let w = passed_unaimed c.limited_refusal.ensures.refused c.requires.0 c.requires.1 (ap refusal_of c.in_ok-wanted.was) in
     search rules
 
 pub found_for-requires : goal.found_for-requires
 found_for-requires c =
-    let t = c.args.tables.now in
-    let unaimed : (p : Policy) → Known t.head t.authorized (exclusions_of t.exclusions) p → p.limits ≡ t.limits
-    → refusal_of c.limited_refusal.result ≡ limited_refusal SESSIONS p c.args.ledger.now c.args.request.who.user c.args.request.who.session
-    (sized_of c.args.request.bounds) (lower_of c.args.request.bounds) (upper_of c.args.request.bounds) 0 0 40 =
-    (λ p h l. rw (c.requires.0, c.requires.1) at (c.limited_refusal.ensures.refused p h l)) in
-    let w : Passed SESSIONS t.head t.authorized (exclusions_of t.exclusions) t.limits c.args.ledger.now c.args.request.who.user c.args.request.who.session
-    (sized_of c.args.request.bounds) (lower_of c.args.request.bounds) (upper_of c.args.request.bounds) 0 0 40 =
-    passes _ _ _ _ _ _ _ _ _ _ _ _ _ _ _ unaimed (ap refusal_of c.in_ok-wanted.was) in
+    let w = passed_unaimed c.limited_refusal.ensures.refused c.requires.0 c.requires.1 (ap refusal_of c.in_ok-wanted.was) in
     search rules
 
 pub returns : goal.returns
-unfolding is_ask
+unfolding is_ask line_of
 returns c p lower upper h e =
     let t = c.args.tables.now in
-    let unaimed : (p : Policy) → Known t.head t.authorized (exclusions_of t.exclusions) p → p.limits ≡ t.limits
-    → refusal_of c.limited_refusal.result ≡ limited_refusal SESSIONS p c.args.ledger.now c.args.request.who.user c.args.request.who.session
-    (sized_of c.args.request.bounds) (lower_of c.args.request.bounds) (upper_of c.args.request.bounds) 0 0 40 =
-    (λ p h l. rw (c.requires.0, c.requires.1) at (c.limited_refusal.ensures.refused p h l)) in
-    let w : Passed SESSIONS t.head t.authorized (exclusions_of t.exclusions) t.limits c.args.ledger.now c.args.request.who.user c.args.request.who.session
-    (sized_of c.args.request.bounds) (lower_of c.args.request.bounds) (upper_of c.args.request.bounds) 0 0 40 =
-    passes _ _ _ _ _ _ _ _ _ _ _ _ _ _ _ unaimed (ap refusal_of c.in_ok-wanted.was) in
+    let w = passed_unaimed c.limited_refusal.ensures.refused c.requires.0 c.requires.1 (ap refusal_of c.in_ok-wanted.was) in
     let g = c.in_ok-wanted.ensures.given in
     let known = known_of t p h in
     let limits = sym h.limits_is in
@@ -99,7 +67,8 @@ returns c p lower upper h e =
     let r = w.ready p known limits lower upper e in
     shows-told p _ _ _ _ _ _ _ _ _ _ _ r (w.quiet p known limits k refl refl) (omega arith) (g.lower-is ∙ e.lower-is g.lengths)
     (g.upper_is ∙ e.upper_is g.lengths)
-    (c.found_for.ensures p (told SESSIONS p c.args.ledger.now k)
+    (found_on p _ _ _ _ _ _ _ _
+    (c.found_for.ensures p (told SESSIONS p c.args.ledger.now k) c.args.ledger.now
     (searched_of p _ _ _ _ _ _ _ _ k refl known h.granted_is h.below_is (c.roles_left-free.ensures p _ known limits) r.first)
-    (own_of p _ _ _ _ _ known r.first.below c.roles_of-own.ensures.0 c.roles_of-own.ensures.1))
+    (own_of p _ _ _ _ _ known r.first.below c.roles_of-own.ensures.0 c.roles_of-own.ensures.1) c.line_of-l.ensures) c.line_of-l.ensures)
     c.told.ensures

@@ -3,12 +3,13 @@
 use mathlib.Core.Path.{ap, ◌∙◌}
 use borrow.Author.Rules.{rules}
 use Rattle.reasons.specs.Numbers.{refusal_of}
-use Rattle.calls_image.proofs.Images.{blank-fresh, held_range, held_roles, held_permissions}
+use Rattle.calls_image.proofs.Images.{held_range, held_roles, held_permissions}
+use Rattle.tables.proofs.Fills.{blank_fresh}
 use Rattle.calls_session.proofs.Steps.{tells-refused, tells_by}
 use Rattle.calls_session.proofs.ask_clauses.Goals as goal
 
 pub read-outcome-requires : goal.read-outcome-requires
-read-outcome-requires c = search (rules, blank-fresh)
+read-outcome-requires c = search (rules, blank_fresh)
 
 pub returns-in_default : goal.returns-in_default
 returns-in_default c = tells-refused _ _ _ _ c.in_default.ensures.refused (c.refused.ensures ∙ ap refusal_of c.in_default.is) _

@@ -3,12 +3,12 @@
 use mathlib.Core.Path.{ap, ◌∙◌}
 use borrow.Author.Rules.{rules}
 use Rattle.reasons.specs.Numbers.{refusal_of}
-use Rattle.calls_image.proofs.Images.{blank-fresh}
+use Rattle.tables.proofs.Fills.{blank_fresh}
 use Rattle.calls_session.proofs.Steps.{answers_refused, answers_by}
 use Rattle.calls_session.proofs.ask_roles.Goals as goal
 
 pub read-outcome-requires : goal.read-outcome-requires
-read-outcome-requires c = search (rules, blank-fresh)
+read-outcome-requires c = search (rules, blank_fresh)
 
 pub returns-in_default : goal.returns-in_default
 returns-in_default c = answers_refused _ _ _ _ c.in_default.ensures.refused (c.refused.ensures ∙ ap refusal_of c.in_default.is) _

@@ -6,4 +6,4 @@ use Rattle.image_reader.proofs.PlaceLaws.{found_after}
 use Rattle.image_reader.proofs.entry_after.Goals as goal
 
 pub returns : goal.returns
-returns c = c.next.ensures.steps.0 ∙ ap (found_at c.args.image.now) c.place_after-at.ensures ∙ found_after c.args.image.now c.args.place
+returns c = c.next.ensures.steps.0 ∙ ap (found_at c.args.image.now) c.place_after.ensures ∙ found_after c.args.image.now c.args.place

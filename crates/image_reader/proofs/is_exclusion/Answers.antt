@@ -10,10 +10,10 @@ pub returns-in_default : goal.returns-in_default
 unfolding is_exclusion
 returns-in_default c = rw c.in_default.is refl
 
-pub returns-in_default-e : goal.returns-in_default-e
+pub returns-in_default-matches : goal.returns-in_default-matches
 unfolding is_exclusion excludes
-returns-in_default-e c = rw c.in-Some.is (search (rules, no_exclusion))
+returns-in_default-matches c = rw c.in-Some.is (search (rules, no_exclusion))
 
-pub returns : goal.returns
+pub returns-in-Exclude : goal.returns-in-Exclude
 unfolding is_exclusion excludes
-returns c = rw (c.in-Some.is, c.in-Exclude.is)
+returns-in-Exclude c = rw (c.in-Some.is, c.in-Exclude.is)

@@ -15,7 +15,7 @@ unfolding empty_session
 loop-s-preserved c r =
     let n : length c.args.sessions ≡ SESSIONS = omega arith in
     let i = c.loop-s.invariant r in
-    let q = c.add-all.ensures r (omega (arith, i.1, c.requires r)) in
+    let q = c.with-all.ensures r (omega (arith, i.1, c.requires r)) in
     let h = holding-next r c.args.sessions empty_session c.loop-s.s-index (omega arith) in (
       omega (arith, q, h, i.0),
       omega (arith, q, i.1, one-most (has (get_or c.args.sessions c.loop-s.s-index empty_session).active r)),

@@ -9,5 +9,5 @@ use Rattle.moves_line.proofs.sessions_in.Given as goal
 
 abbrev pub invariant-loop-k : goal.invariant-loop-k
 invariant-loop-k l =
-    (length l.sessions ≡ SESSIONS) × (take l.k l.sessions ≡ read_sessions l.k (drop 16 l.bytes))
+    (length l.sessions ≡ SESSIONS) × (take l.k l.sessions ≡ read_sessions l.k (drop 16 l.line.bytes.now))
     × (drop l.k l.sessions ≡ replicate (SESSIONS - l.k) empty_session)

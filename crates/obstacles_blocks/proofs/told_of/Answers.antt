@@ -4,4 +4,4 @@ use Rattle.obstacles_blocks.proofs.Tells.{told_blocks}
 use Rattle.obstacles_blocks.proofs.told_of.Goals as goal
 
 pub returns : goal.returns
-returns c l k h = told_blocks c.args.row l k _ _ c.exclusion_of-exclusion.ensures h
+returns c l k h = told_blocks c.args.exclusion l k _ h

@@ -15,7 +15,7 @@ permission_step-role_step-requires t c =
 
 pub permission_step-returns : goal.permission_step-returns
 permission_step-returns t c lacking =
-    goes_on (task_of c.args.query.now) _ _ _ c.requires.ready c.args.turned.now _ _ c.inter-tries.result _ c.in-Some.ensures c.requires.carriers
+    goes_on (task_of c.args.query.now) _ _ _ c.requires.ready c.args.turned.now _ _ c.inter-tries.result _ c.in-Some.ensures.found c.requires.carriers
     c.inter-tries.ensures c.role_step.ensures
 
 pub role_step-loop-k-init : goal.role_step-loop-k-init
@@ -36,7 +36,7 @@ role_step-loop-k-preserved-then-no_worse t c =
     (gives_up (task_of c.args.query.now) _ _ _ _ _
     (ready_more (task_of c.args.query.now) _ _ _ c.requires.0.ready _ _ _ _ s.lowest.small c.with-more.ensures c.perm_union-sum.ensures refl
     c.reduced_met.ensures c.if-not-reduced_met.false)
-    c.key_of-key.ensures c.no_worse.ensures _ c.requires.0.modest c.if-no_worse.true)
+    c.rank_of-better.ensures c.no_worse.ensures _ c.requires.0.modest c.if-no_worse.true)
 
 pub role_step-loop-k-preserved-then-perm_within : goal.role_step-loop-k-preserved-then-perm_within
 role_step-loop-k-preserved-then-perm_within t c =
@@ -46,10 +46,10 @@ role_step-loop-k-preserved-then-perm_within t c =
     (reaches (task_of c.args.query.now) _ _ _ _ _
     (ready_more (task_of c.args.query.now) _ _ _ c.requires.0.ready _ _ _ _ s.lowest.small c.with-more.ensures c.perm_union-sum.ensures refl
     c.reduced_met.ensures c.if-not-reduced_met.false)
-    c.key_of-key.ensures c.no_worse.ensures _ c.requires.0.modest c.if-no_worse.false _ c.perm_within.ensures c.if-perm_within.true)
+    c.rank_of-better.ensures c.no_worse.ensures _ c.requires.0.modest c.if-no_worse.false _ c.perm_within.ensures c.if-perm_within.true)
 
-pub role_step-permission_step-next-requires : goal.role_step-permission_step-next-requires
-role_step-permission_step-next-requires t c =
+pub role_step-permission_step-found-requires : goal.role_step-permission_step-found-requires
+role_step-permission_step-found-requires t c =
     let s = c.in-Some.ensures.steps in
     let inv = c.loop-k.invariant in
     let on = inv.inside c.in-Some.k s.lowest.member in (
@@ -73,7 +73,7 @@ role_step-loop-k-preserved t c =
     let s = c.in-Some.ensures.steps in
     trying_on (task_of c.args.query.now) (met_less c.args.query.now.exclusions.now) _ _ _ _ _ _ _ c.loop-k.invariant _ _ _ _ _
     s.lowest.member s.rest c.without-less.ensures c.with-more.ensures c.reduced_met.ensures _
-    (c.permission_step-next.ensures (sym c.perm_within.ensures ∙ c.if-perm_within.false))
+    (c.permission_step-found.ensures (sym c.perm_within.ensures ∙ c.if-perm_within.false))
 
 pub role_step-returns : goal.role_step-returns
 role_step-returns t c = trying_end _ _ _ _ _ _ _ _ c.loop-k.invariant c.in-None.ensures.steps.0

@@ -7,11 +7,11 @@ use Rattle.search_steps.proofs.first_step.Goals as goal
 
 pub returns-then-no_worse : goal.returns-then-no_worse
 returns-then-no_worse c =
-    gives_up _ _ _ _ _ _ c.requires.ready c.key_of-key.ensures c.no_worse.ensures _ c.requires.modest c.if-no_worse.true
+    gives_up _ _ _ _ _ _ c.requires.ready c.rank_of-better.ensures c.no_worse.ensures _ c.requires.modest c.if-no_worse.true
 
 pub returns-then-perm_within : goal.returns-then-perm_within
 returns-then-perm_within c =
-    reaches _ _ _ _ _ _ c.requires.ready c.key_of-key.ensures c.no_worse.ensures _ c.requires.modest c.if-no_worse.false _ c.perm_within.ensures
+    reaches _ _ _ _ _ _ c.requires.ready c.rank_of-better.ensures c.no_worse.ensures _ c.requires.modest c.if-no_worse.false _ c.perm_within.ensures
     c.if-perm_within.true
 
 pub returns : goal.returns

@@ -10,4 +10,4 @@ splits : (p : ℕ) → p < 256 → Splits p (p / 2 ^ 6) (p - p / 2 ^ 6 * 64)
 splits p l = record { whole = omega arith; inside = omega arith; small = omega arith }
 
 pub returns : goal.returns
-returns c = value_put _ _ _ _ c.four_words.ensures (splits c.args.p.0 c.requires)
+returns c = value_put _ _ _ _ c.four_words.ensures (splits c.args.p.0 (omega arith))

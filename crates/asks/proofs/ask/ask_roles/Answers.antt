@@ -7,10 +7,8 @@ use Rattle.std.proofs.lemmas.Result.{err_from_is_err_and}
 use Rattle.model.specs.Line.{SESSIONS}
 use Rattle.model.specs.Session.{is_ask}
 use Rattle.model.specs.Run.{told}
-use Rattle.exclusion_rows.specs.Table.{exclusions_of}
 use Rattle.sessions.proofs.Reasons.{plain_code}
-use Rattle.asks_request.specs.Refusals.{sized_of, lower_of, upper_of}
-use Rattle.asks_request.proofs.Requests.{limited-of, coded, Passed, passed as passes}
+use Rattle.asks_request.proofs.Requests.{limited-of, coded, passed as passes}
 use Rattle.asks.proofs.Asks.{call, ask_refused_lem, answers_searched}
 use Rattle.asks.proofs.Rows.{known_of, searched_of}
 use Rattle.asks.proofs.ask.ask_roles.Goals as goal
@@ -24,18 +22,12 @@ returns-in_err-wanted c p lower upper h e =
 
 pub roles_left-own-requires : goal.roles_left-own-requires
 roles_left-own-requires c =
-    let t = c.args.tables.now in
-    let w : Passed SESSIONS t.head t.authorized (exclusions_of t.exclusions) t.limits c.args.ledger.now c.args.request.who.user c.args.request.who.session
-    (sized_of c.args.request.bounds) (lower_of c.args.request.bounds) (upper_of c.args.request.bounds) c.args.request.first c.args.request.second
-    (length c.args.answer.now) = passes _ _ _ _ _ _ _ _ _ _ _ _ _ _ _ c.in_ok-wanted.ensures.refused refl in
+    let w = passes _ _ _ _ _ _ _ _ _ _ _ _ _ _ _ c.in_ok-wanted.ensures.refused refl in
     search rules
 
 pub put_best-requires : goal.put_best-requires
 put_best-requires c =
-    let t = c.args.tables.now in
-    let w : Passed SESSIONS t.head t.authorized (exclusions_of t.exclusions) t.limits c.args.ledger.now c.args.request.who.user c.args.request.who.session
-    (sized_of c.args.request.bounds) (lower_of c.args.request.bounds) (upper_of c.args.request.bounds) c.args.request.first c.args.request.second
-    (length c.args.answer.now) = passes _ _ _ _ _ _ _ _ _ _ _ _ _ _ _ c.in_ok-wanted.ensures.refused refl in
+    let w = passes _ _ _ _ _ _ _ _ _ _ _ _ _ _ _ c.in_ok-wanted.ensures.refused refl in
     search rules
 
 pub returns-in_err-put_best : goal.returns-in_err-put_best
@@ -43,9 +35,7 @@ unfolding is_ask
 returns-in_err-put_best c p lower upper h e =
     let q = err_from_is_err_and c.from_residual-in_err-put_best.result c.from_residual-in_err-put_best.ensures.1 in
     let t = c.args.tables.now in
-    let w : Passed SESSIONS t.head t.authorized (exclusions_of t.exclusions) t.limits c.args.ledger.now c.args.request.who.user c.args.request.who.session
-    (sized_of c.args.request.bounds) (lower_of c.args.request.bounds) (upper_of c.args.request.bounds) c.args.request.first c.args.request.second
-    (length c.args.answer.now) = passes _ _ _ _ _ _ _ _ _ _ _ _ _ _ _ c.in_ok-wanted.ensures.refused refl in
+    let w = passes _ _ _ _ _ _ _ _ _ _ _ _ _ _ _ c.in_ok-wanted.ensures.refused refl in
     let g = c.in_ok-wanted.ensures.given in
     let known = known_of t p h in
     let limits = sym h.limits_is in
@@ -62,9 +52,7 @@ pub returns : goal.returns
 unfolding is_ask
 returns c p lower upper h e =
     let t = c.args.tables.now in
-    let w : Passed SESSIONS t.head t.authorized (exclusions_of t.exclusions) t.limits c.args.ledger.now c.args.request.who.user c.args.request.who.session
-    (sized_of c.args.request.bounds) (lower_of c.args.request.bounds) (upper_of c.args.request.bounds) c.args.request.first c.args.request.second
-    (length c.args.answer.now) = passes _ _ _ _ _ _ _ _ _ _ _ _ _ _ _ c.in_ok-wanted.ensures.refused refl in
+    let w = passes _ _ _ _ _ _ _ _ _ _ _ _ _ _ _ c.in_ok-wanted.ensures.refused refl in
     let g = c.in_ok-wanted.ensures.given in
     let known = known_of t p h in
     let limits = sym h.limits_is in

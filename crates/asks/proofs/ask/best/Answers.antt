@@ -6,5 +6,5 @@ use Rattle.asks.proofs.ask.best.Goals as goal
 
 pub returns : goal.returns
 returns c p u x g =
-    c.solve.ensures (left_to p u x c.args.l c.args.k) c.args.l c.args.k
+    c.solve.ensures (left_to p u x c.args.at.line c.args.at.session) c.args.at.line c.args.at.session
     (rw c.list.ensures (given-of p u x _ _ _ _ _ _ c.reduce-reduced.ensures.1 g))

@@ -12,19 +12,21 @@ use Rattle.asks.proofs.ask.put_best.Goals as goal
 pub returns-in_default : goal.returns-in_default
 unfolding line_of
 returns-in_default c p x g =
-    let q : Asked p c.args.who.user x c.line_of-l.result c.args.who.session c.args.authorized (exclusions_of c.args.tables.now.exclusions)
+    let q : Asked p c.args.who.user x c.line_of.result c.args.who.session c.args.authorized (exclusions_of c.args.tables.now.exclusions)
     (rows_of c.carried-rows.result) =
-    asked_of p _ x _ _ _ _ _ _ _ _ g c.ranges.authorized.fits c.carried-rows.ensures c.line_of-l.ensures in
+    asked_of p _ x _ _ _ _ _ _ _ _ g c.ranges.authorized.fits
+    (rw (← c.grants.ensures.granted, ← c.grants.ensures.below) c.carried-rows.ensures) c.line_of.ensures in
     answers_none p _ _ _ _ _
-    (chosen_none p _ x _ _ c.line_of-l.ensures _ _ _ _ _ _ (c.best.ensures p _ x q) c.in_default.is)
+    (chosen_none p _ x _ _ c.line_of.ensures _ _ _ _ _ _ (c.best.ensures p _ x q) c.in_default.is)
 
 pub returns : goal.returns
 unfolding line_of
 returns c p x g =
-    let q : Asked p c.args.who.user x c.line_of-l.result c.args.who.session c.args.authorized (exclusions_of c.args.tables.now.exclusions)
+    let q : Asked p c.args.who.user x c.line_of.result c.args.who.session c.args.authorized (exclusions_of c.args.tables.now.exclusions)
     (rows_of c.carried-rows.result) =
-    asked_of p _ x _ _ _ _ _ _ _ _ g c.ranges.authorized.fits c.carried-rows.ensures c.line_of-l.ensures in
-    let o = chosen_some p _ x _ _ c.line_of-l.ensures _ _ _ _ _ _ (c.best.ensures p _ x q) _ c.in-Some.is in
+    asked_of p _ x _ _ _ _ _ _ _ _ g c.ranges.authorized.fits
+    (rw (← c.grants.ensures.granted, ← c.grants.ensures.below) c.carried-rows.ensures) c.line_of.ensures in
+    let o = chosen_some p _ x _ _ c.line_of.ensures _ _ _ _ _ _ (c.best.ensures p _ x q) _ c.in-Some.is in
     let v = chosen_own p _ x _ _ c.args.authorized _ _ _ _ _ g.own_is o in
     let k = c.carried_by.ensures (meaning p c.args.who.user) (carry_within p _ _ _ _ q.carry v) in
-    answers_some p _ _ _ _ _ _ _ _ _ _ _ o k c.line_of-l.ensures c.put_in.ensures c.put_line.ensures c.fill.ensures
+    answers_some p _ _ _ _ _ _ _ _ _ _ _ o k c.line_of.ensures c.put_in.ensures c.put_line.ensures c.fill.ensures

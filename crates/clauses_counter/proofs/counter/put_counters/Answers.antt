@@ -1,3 +1,4 @@
+use mathlib.Core.Path.{refl}
 use borrow.Author.Rules.{rules}
 use native.Mathlib.Omega.{arith}
 use Rattle.clauses_bytes.proofs.WritingLaws.{along_done}
@@ -12,7 +13,7 @@ loop-x-preserved c =
     let i = c.loop-x.invariant in (
       omega (arith, c.helpers-behind.ensures.1, i.0),
       search rules,
-      exclusion_goes _ _ _ _ _ _ _ c.put_counter-next.ensures i.2 (search rules) c.wide-n.ensures.0 c.helpers-behind.ensures.0,
+      exclusion_goes _ _ _ _ _ _ _ _ c.list-x-items.ensures c.put_counter-next.ensures i.2 (search rules) refl c.helpers-behind.ensures.0,
     )
 
 pub returns : goal.returns

@@ -12,4 +12,4 @@ use Rattle.clauses_hard.proofs.carries.put_carried.Given as goal
 abbrev pub invariant-loop-q : goal.invariant-loop-q
 invariant-loop-q l =
     (length l.out ≡ length l.initial.out)
-    × Puts l.initial.out l.at (lines_of l.w (list_to l.q (λ k. carried_one l.roles (rows_of l.rows) k ∷ []))) l.out l.next
+    × Puts l.initial.out l.at (lines_of l.w (list_to l.q (λ k. carried_one l.variables.roles (rows_of l.rows) k ∷ []))) l.out l.next

@@ -5,4 +5,4 @@ use Rattle.clauses_hard.proofs.carries.put_carried_one.Goals as goal
 
 pub returns : goal.returns
 returns c =
-    line_more _ _ _ c.put_end.ensures c.put_roles-c.ensures c.put_literal-b.ensures c.put_packed-a.ensures
+    line_more _ _ _ c.put_end.ensures c.put_roles-c.ensures (rw c.permission.ensures at c.put_literal-b.ensures) c.put_packed-a.ensures

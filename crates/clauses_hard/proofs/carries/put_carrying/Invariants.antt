@@ -11,4 +11,5 @@ use Rattle.clauses_hard.proofs.carries.put_carrying.Given as goal
 abbrev pub invariant-loop-r : goal.invariant-loop-r
 invariant-loop-r l =
     (length l.out ≡ length l.initial.out)
-    × Puts l.initial.out l.at (lines_of l.w (list_to l.r (λ k. carrying_row l.roles l.permissions (rows_of l.rows k) (role_variable k)))) l.out l.next
+    × Puts l.initial.out l.at
+    (lines_of l.w (list_to l.r (λ k. carrying_row l.variables.roles l.variables.permissions (rows_of l.rows k) (role_variable k)))) l.out l.next

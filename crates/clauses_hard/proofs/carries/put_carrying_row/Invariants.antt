@@ -10,7 +10,8 @@ use Rattle.clauses_hard.proofs.carries.put_carrying_row.Given as goal
 
 abbrev pub invariant-loop-q : goal.invariant-loop-q
 invariant-loop-q l =
-    (length l.out ≡ length l.initial.out) × Walked l.w (value l.row) l.permissions (λ k. gives l.x (l.roles + k + 1)) l.initial.out l.at l.q l.out l.next
+    (length l.out ≡ length l.initial.out)
+    × Walked l.w (value l.row) l.variables.permissions (λ k. gives l.x (l.variables.roles + k + 1)) l.initial.out l.at l.q l.out l.next
 
 abbrev pub decreases-loop-q : goal.decreases-loop-q
-decreases-loop-q l = l.permissions - l.q
+decreases-loop-q l = l.variables.permissions - l.q

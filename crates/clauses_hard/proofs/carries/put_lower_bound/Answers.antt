@@ -7,7 +7,8 @@ pub loop-q-init : goal.loop-q-init
 loop-q-init c = search (rules, walk_starts)
 
 pub loop-q-preserved : goal.loop-q-preserved
-loop-q-preserved c = search (rules, walk_goes)
+loop-q-preserved c =
+    let p = rw c.permission.ensures at c.put_must-next.ensures in search (rules, p, walk_goes)
 
 pub returns : goal.returns
 returns c = unfold lower_bound_to lower in walk_ends _ c.loop-q-test.false c.loop-q.invariant.1

@@ -13,7 +13,7 @@ loop-r-preserved c =
     let i = c.loop-r.invariant in (
       roles_small _ _ _ _ i.0 t.lowest t.rest,
       search rules,
-      roles_goes _ _ _ _ i.0 t.lowest t.rest c.put_literal-next.ensures i.2,
+      roles_goes _ _ _ _ i.0 t.lowest t.rest (rw c.role_variable.ensures at c.put_literal-next.ensures) i.2,
     )
 
 pub returns : goal.returns

@@ -10,5 +10,6 @@ use Rattle.clauses_hard.proofs.carries.put_roles.Given as goal
 
 abbrev pub invariant-loop-r : goal.invariant-loop-r
 invariant-loop-r l =
-    (l.r-iterator.left < 2 ^ l.roles) × (length l.out ≡ length l.initial.out)
-    × Along l.initial.out l.at (literals_text (roles_in l.roles l.set)) (literals_text (roles_in l.roles l.r-iterator.left)) l.out l.next
+    (l.r-iterator.left < 2 ^ l.fn.variables.roles) × (length l.out ≡ length l.initial.out)
+    × Along l.initial.out l.at (literals_text (roles_in l.fn.variables.roles l.set))
+    (literals_text (roles_in l.fn.variables.roles l.r-iterator.left)) l.out l.next

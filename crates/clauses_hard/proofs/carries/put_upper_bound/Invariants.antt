@@ -12,4 +12,4 @@ use Rattle.clauses_hard.proofs.carries.put_upper_bound.Given as goal
 abbrev pub invariant-loop-q : goal.invariant-loop-q
 invariant-loop-q l =
     (length l.out ≡ length l.initial.out)
-    × Puts l.initial.out l.at (lines_of l.w (list_to l.q (λ k. upper_of l.roles (value l.upper) k))) l.out l.next
+    × Puts l.initial.out l.at (lines_of l.w (list_to l.q (λ k. upper_of l.variables.roles (value l.upper) k))) l.out l.next

@@ -1,10 +1,7 @@
 use native.Mathlib.Omega.{arith}
 use borrow.Author.Rules.{rules}
-use Rattle.clauses_hard.proofs.MemberLaws.{between_none, between_word, next_found, next-none}
+use Rattle.clauses_hard.proofs.MemberLaws.{between_word, next_found}
 use Rattle.clauses_hard.proofs.members.next_member.Goals as goal
-
-pub loop-at-init : goal.loop-at-init
-loop-at-init c = search (rules, between_none)
 
 pub returns-then-left-ne0 : goal.returns-then-left-ne0
 returns-then-left-ne0 c =
@@ -14,6 +11,3 @@ returns-then-left-ne0 c =
 
 pub loop-at-preserved : goal.loop-at-preserved
 loop-at-preserved c = search (rules, between_word)
-
-pub returns : goal.returns
-returns c = search (rules, next-none)

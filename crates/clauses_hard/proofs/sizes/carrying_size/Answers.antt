@@ -10,7 +10,7 @@ loop-row-init c = search (rules, sum-start)
 
 pub loop-row-preserved : goal.loop-row-preserved
 loop-row-preserved c =
-    let few : c.args.roles ≤ length c.args.rows.now = omega (arith, c.told-rows, c.requires.0) in
+    let few : c.args.variables.roles ≤ length c.args.rows.now = omega (arith, c.told-rows, c.args.variables.few_roles) in
     (sum-next _ _ _ _ c.loop-row.invariant.0 (row_taken _ _ _ _ _ few (search rules) c.permissions_below-total.ensures.0), search rules)
 
 pub returns : goal.returns

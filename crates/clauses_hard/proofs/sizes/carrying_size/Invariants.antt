@@ -9,4 +9,4 @@ use Rattle.clauses_hard.proofs.sizes.carrying_size.Given as goal
 
 abbrev pub invariant-loop-row : goal.invariant-loop-row
 invariant-loop-row l =
-    (l.total ≡ sum_to (λ k. count l.permissions (rows_of l.rows k)) l.row-index) × (l.total ≤ 256 * l.row-index)
+    (l.total ≡ sum_to (λ k. count l.variables.permissions (rows_of l.rows k)) l.row-index) × (l.total ≤ 256 * l.row-index)

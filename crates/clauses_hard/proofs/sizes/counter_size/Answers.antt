@@ -1,6 +1,5 @@
 -- `clauses_hard::sizes::counter_size` meets its contract.
 -- Assumes nothing.
-use borrow.Author.Rules.{rules}
 use mathlib.Core.Path.{ap, ◌∙◌}
 use Prim.Native.Nat.{ℕ}
 use native.Mathlib.Omega.{arith}
@@ -9,7 +8,7 @@ use Rattle.clauses_counter.proofs.CounterLaws.{count-le}
 use Rattle.clauses_hard.proofs.sizes.counter_size.Goals as goal
 
 pub tally-requires : goal.tally-requires
-tally-requires c = (omega (arith, c.size.ensures, count-le c.args.members), search rules)
+tally-requires c = omega (arith, c.size.ensures, count-le c.args.members)
 
 pub returns : goal.returns
 unfolding counter_size

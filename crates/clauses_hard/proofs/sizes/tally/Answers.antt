@@ -2,17 +2,11 @@
 -- Assumes nothing.
 use borrow.Author.Rules.{rules}
 use native.Mathlib.Omega.{arith}
-use Rattle.clauses_hard.proofs.SizeLaws.{tally_none, tally_some, rows-small, rows_fit}
+use Rattle.clauses_hard.proofs.SizeLaws.{tally_none, tally_some, rows-small}
 use Rattle.clauses_hard.proofs.sizes.tally.Goals as goal
 
 pub returns-then-m-lt1 : goal.returns-then-m-lt1
 returns-then-m-lt1 c = search (rules, tally_none)
-
-pub overflow_mul-result : goal.overflow_mul-result
-overflow_mul-result c = search (rules, rows_fit)
-
-pub overflow_add-result : goal.overflow_add-result
-overflow_add-result c = record { fits = omega (arith, rows-small c.args.m c.row_size.result (search rules) c.row_size.ensures.1) }
 
 pub returns : goal.returns
 returns c = (

@@ -12,4 +12,4 @@ use Rattle.clauses_soft.proofs.soft.put_wanting_permissions.Given as goal
 abbrev pub invariant-loop-q : goal.invariant-loop-q
 invariant-loop-q l =
     (length l.out ≡ length l.initial.out)
-    × Puts l.initial.out l.at (clauses_text (list_to l.q (λ k. wanting (number_of l.aim) (l.roles + 1) (l.roles + k + 1)))) l.out l.next
+    × Puts l.initial.out l.at (clauses_text (list_to l.q (λ k. wanting (number_of l.aim) (l.variables.roles + 1) (l.variables.roles + k + 1)))) l.out l.next

@@ -9,9 +9,9 @@ loop-r-init c = search (rules, rows_start)
 
 pub loop-r-preserved : goal.loop-r-preserved
 loop-r-preserved c =
-    rows_next (values c.args.granted.now) c.args.below.now c.args.table.now c.loop-r.r c.perm_union_at-row.result c.loop-r.table
+    rows_next (values c.args.grants.now.granted.now) c.args.grants.now.below.now c.args.table.now c.loop-r.r c.perm_union_at-row.result c.loop-r.table
     c.put_numbers.new.s (search rules) (search rules)
-    (c.perm_union_at-row.ensures ∙ ap (union_at (values c.args.granted.now)) c.reach.ensures) c.loop-r.invariant
+    (c.perm_union_at-row.ensures ∙ ap (union_at (values c.args.grants.now.granted.now)) c.reach.ensures) c.loop-r.invariant
     c.put_numbers.ensures
 
 pub returns : goal.returns

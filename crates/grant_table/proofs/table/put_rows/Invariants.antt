@@ -6,4 +6,4 @@ use Rattle.grant_table.proofs.TableCallProof.{rows_to}
 use Rattle.grant_table.proofs.table.put_rows.Given as goal
 
 abbrev pub invariant-loop-r : goal.invariant-loop-r
-invariant-loop-r l = l.table ≡ rows_to (values l.granted) l.below l.initial.table l.r
+invariant-loop-r l = l.table ≡ rows_to (values l.grants.granted.now) l.grants.below.now l.initial.table l.r

@@ -16,7 +16,7 @@ loop-i-init c = (search rules, λ j h. absurd (omega arith))
 pub loop-i-preserved : goal.loop-i-preserved
 loop-i-preserved c = (
   search rules,
-  fill_next (λ i. number_at c.args.source.now (c.args.from + c.args.step * i)) c.loop-i.out c.loop-i.i c.get_u64.result
+  fill_next (λ i. number_at c.args.source.now (c.args.from + c.args.step * i)) c.loop-i.number-items c.loop-i.i c.get_u64.result
       (omega arith) c.loop-i.invariant.1 c.get_u64.ensures,
 )
 

@@ -5,4 +5,4 @@ use Rattle.octets.specs.Splice.{number_at}
 use Rattle.grant_table_turned.proofs.bytes.numbers.Given as goal
 
 abbrev pub invariant-loop-i : goal.invariant-loop-i
-invariant-loop-i l = (length l.out ≡ 64) × ((j : ℕ) → j < l.i → get_or l.out j 0 ≡ number_at l.source (l.from + l.step * j))
+invariant-loop-i l = (length l.number-items ≡ 64) × ((j : ℕ) → j < l.i → get_or l.number-items j 0 ≡ number_at l.source (l.from + l.step * j))

@@ -1,16 +1,25 @@
 -- `grant_table_turned::bytes::unturn_bytes` meets its contract.
 -- Assumes nothing.
+use Rattle.std.proofs.Common.{ap, ◌∙◌}
 use Rattle.std.proofs.lemmas.Result.{err_from_is_err_and}
-use Rattle.grant_table_turned.proofs.CallProof.{source_size, target_size, unturn_19, unturn_done}
+use Rattle.grant_table_turned.specs.Turned.{unturned}
+use Rattle.grant_table_turned.proofs.CallProof.{fits, source_unfit, target_unfit, room_reason, unturn_19, unturn_done}
 use Rattle.grant_table_turned.proofs.bytes.unturn_bytes.Goals as goal
 
-pub returns-in_err-sized : goal.returns-in_err-sized
-returns-in_err-sized c =
+pub returns-in_err-columns : goal.returns-in_err-columns
+returns-in_err-columns c =
     let e = err_from_is_err_and c.from_residual.result c.from_residual.ensures.1 in
-    rw (e.1, e.2, c.in_err-sized.ensures.1) (unturn_19 _ _ c.in_err-sized.ensures.0)
+    let unfit = rw c.in_err-columns.ensures.ok_part at c.as_array.ensures.cases in
+    rw (e.1, e.2, room_reason _ _ c.in_err-columns.ensures.value) (unturn_19 _ _ (source_unfit _ _ unfit))
 
-pub unturn-requires : goal.unturn-requires
-unturn-requires c = (source_size _ _ c.in_ok-sized.ensures, target_size _ _ c.in_ok-sized.ensures)
+pub returns-in_err-rows : goal.returns-in_err-rows
+returns-in_err-rows c =
+    let e = err_from_is_err_and c.from_residual-in_err-rows.result c.from_residual-in_err-rows.ensures.1 in
+    let unfit = rw c.in_err-rows.ensures.ok_part at c.as_mut_array.ensures.cases in
+    rw (e.1, e.2, room_reason _ _ c.in_err-rows.ensures.value) (unturn_19 _ _ (target_unfit _ _ unfit))
 
 pub returns : goal.returns
-returns c = unturn_done _ _ c.in_ok-sized.ensures _ c.unturn.ensures
+returns c =
+    let source = rw c.in_ok-columns.ensures.ok_part at c.as_array.ensures.cases in
+    let target = rw c.in_ok-rows.ensures.ok_part at c.as_mut_array.ensures.cases in
+    unturn_done _ _ (fits _ _ source.long target.long) _ (c.unturn.ensures ∙ ap unturned source.same)

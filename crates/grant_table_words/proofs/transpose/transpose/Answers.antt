@@ -4,23 +4,23 @@ use borrow.Author.Rules.{rules}
 use Rattle.grant_table_words.proofs.Transposes.{marks_32, marks_16, marks_8, marks-4, marks-2, marks_1, transposed}
 use Rattle.grant_table_words.proofs.transpose.transpose.Goals as goal
 
-pub exchange-requires : goal.exchange-requires
-exchange-requires c = search (rules, marks_32)
+pub invariant_of-exchange-clause-marked : goal.invariant_of-exchange-clause-marked
+invariant_of-exchange-clause-marked c = marks_32
 
-pub exchange-requires-2 : goal.exchange-requires-2
-exchange-requires-2 c = search (rules, marks_16)
+pub invariant_of-exchange-2-clause-marked : goal.invariant_of-exchange-2-clause-marked
+invariant_of-exchange-2-clause-marked c = marks_16
 
-pub exchange-requires-3 : goal.exchange-requires-3
-exchange-requires-3 c = search (rules, marks_8)
+pub invariant_of-exchange-3-clause-marked : goal.invariant_of-exchange-3-clause-marked
+invariant_of-exchange-3-clause-marked c = marks_8
 
-pub exchange-requires-4 : goal.exchange-requires-4
-exchange-requires-4 c = search (rules, marks-4)
+pub invariant_of-exchange-4-clause-marked : goal.invariant_of-exchange-4-clause-marked
+invariant_of-exchange-4-clause-marked c = marks-4
 
-pub exchange-requires-5 : goal.exchange-requires-5
-exchange-requires-5 c = search (rules, marks-2)
+pub invariant_of-exchange-5-clause-marked : goal.invariant_of-exchange-5-clause-marked
+invariant_of-exchange-5-clause-marked c = marks-2
 
-pub exchange-requires-6 : goal.exchange-requires-6
-exchange-requires-6 c = search (rules, marks_1)
+pub invariant_of-exchange-6-clause-marked : goal.invariant_of-exchange-6-clause-marked
+invariant_of-exchange-6-clause-marked c = marks_1
 
 pub returns : goal.returns
 returns c = search (rules, transposed)

@@ -1,6 +1,6 @@
-use Rattle.std.proofs.Common.{◌≡◌, ◌+◌, ◌<◌, refl, ◌∙◌, arith}
+use Rattle.std.proofs.Common.{◌≡◌, ◌+◌, ◌<◌, refl, ◌∙◌, arith, rules}
 use Rattle.std.proofs.lemmas.Result.{err_from_is_err_and}
-use Rattle.model.specs.Image.{assigning}
+use Rattle.model.specs.Image.{assigning, start}
 use Rattle.model.specs.Policy.{ordering}
 use Rattle.model_laws.proofs.Accepted.{not_accepted}
 use Rattle.image_words.proofs.Folds.{fold_next}
@@ -8,6 +8,10 @@ use Rattle.image_words.proofs.Scans.{before_last, stops, goes}
 use Rattle.reasons.proofs.Small.{number_of-numbered}
 use Rattle.image.proofs.Last.{last_scan, last_entry, fold_last}
 use Rattle.image.proofs.check.check_words.Goals as goal
+
+pub loop-at-init : goal.loop-at-init
+unfolding start
+loop-at-init c = let e : c.default-t.result ≡ start = search rules in rw e (omega arith, omega (arith, c.requires), refl, refl, refl)
 
 pub returns-in_err-left : goal.returns-in_err-left
 returns-in_err-left c =

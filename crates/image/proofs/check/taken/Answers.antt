@@ -1,16 +1,19 @@
 -- `image::check::taken` meets its contract.
 -- Assumes nothing.
-use Rattle.std.proofs.Common.{rules}
+use Rattle.std.proofs.Common.{◌≡◌, false, refl, rules}
+use Rattle.std.proofs.lemmas.Result.{err_from_is_err_and}
 use Rattle.model.specs.Tests.{pick}
-use Rattle.model.specs.Image.{assigning, entry_fault, in_range, repeats, crowds}
+use Rattle.model.specs.Image.{wrong_kind, assigning, entry_fault, in_range, repeats, crowds}
 use Rattle.model.specs.Policy.{ordering}
 use Rattle.image_words.specs.Bounds.{Small}
-use Rattle.image.proofs.Turns.{took, mistook}
+use Rattle.reasons.proofs.Small.{number_of-numbered}
+use Rattle.image.proofs.Turns.{kind_right, took, mistook}
 use Rattle.image.proofs.check.taken.Goals as goal
 
-pub returns-then-wrong_kind : goal.returns-then-wrong_kind
-unfolding Small assigning ordering entry_fault in_range repeats crowds pick
-returns-then-wrong_kind c = search (rules, mistook)
+pub returns-in_err-kind_fault : goal.returns-in_err-kind_fault
+returns-in_err-kind_fault c =
+    let p = err_from_is_err_and c.from_residual.result c.from_residual.ensures.1 in
+    rw (p.1, p.2) (mistook c.in_err-kind_fault.ensures (number_of-numbered c.in_err-kind_fault.field-0.0).some)
 
 pub take_assignment-requires : goal.take_assignment-requires
 unfolding Small assigning ordering entry_fault in_range repeats crowds pick
@@ -26,32 +29,48 @@ member_fault-requires c = rw c.in-Member.is at c.requires
 
 pub returns-in-Assignment : goal.returns-in-Assignment
 unfolding Small assigning ordering entry_fault in_range repeats crowds pick
-returns-in-Assignment c = search (rules, took, c.take_assignment.ensures.0, c.take_assignment.ensures.1)
+returns-in-Assignment c =
+    let k : wrong_kind false c.args.t.due c.args.w.entry ≡ false = kind_right _ _ c.in_ok-kind_fault.ensures refl in
+    search (rules, took, c.take_assignment.ensures.0, c.take_assignment.ensures.1)
 
 pub returns-in-Grant : goal.returns-in-Grant
 unfolding Small assigning ordering entry_fault in_range repeats crowds pick
-returns-in-Grant c = search (rules, took, ← c.grant_fault.ensures)
+returns-in-Grant c =
+    let k : wrong_kind false c.args.t.due c.args.w.entry ≡ false = kind_right _ _ c.in_ok-kind_fault.ensures refl in
+    search (rules, took, ← c.grant_fault.ensures)
 
 pub returns-in-Senior : goal.returns-in-Senior
 unfolding Small assigning ordering entry_fault in_range repeats crowds pick
-returns-in-Senior c = search (rules, took, c.take_senior.ensures.0, c.take_senior.ensures.1)
+returns-in-Senior c =
+    let k : wrong_kind false c.args.t.due c.args.w.entry ≡ false = kind_right _ _ c.in_ok-kind_fault.ensures refl in
+    search (rules, took, c.take_senior.ensures.0, c.take_senior.ensures.1)
 
 pub returns-in-Exclude : goal.returns-in-Exclude
 unfolding Small assigning ordering entry_fault in_range repeats crowds pick
-returns-in-Exclude c = search (rules, took, ← c.exclusion_fault.ensures)
+returns-in-Exclude c =
+    let k : wrong_kind false c.args.t.due c.args.w.entry ≡ false = kind_right _ _ c.in_ok-kind_fault.ensures refl in
+    search (rules, took, ← c.exclusion_fault.ensures)
 
 pub returns-in-Member : goal.returns-in-Member
 unfolding Small assigning ordering entry_fault in_range repeats crowds pick
-returns-in-Member c = search (rules, took, ← c.member_fault.ensures)
+returns-in-Member c =
+    let k : wrong_kind false c.args.t.due c.args.w.entry ≡ false = kind_right _ _ c.in_ok-kind_fault.ensures refl in
+    search (rules, took, ← c.member_fault.ensures)
 
 pub returns-in-Limit : goal.returns-in-Limit
 unfolding Small assigning ordering entry_fault in_range repeats crowds pick
-returns-in-Limit c = search (rules, took, ← c.limit_fault.ensures)
+returns-in-Limit c =
+    let k : wrong_kind false c.args.t.due c.args.w.entry ≡ false = kind_right _ _ c.in_ok-kind_fault.ensures refl in
+    search (rules, took, ← c.limit_fault.ensures)
 
 pub returns-in-End : goal.returns-in-End
 unfolding Small assigning ordering entry_fault in_range repeats crowds pick
-returns-in-End c = search (rules, took)
+returns-in-End c =
+    let k : wrong_kind false c.args.t.due c.args.w.entry ≡ false = kind_right _ _ c.in_ok-kind_fault.ensures refl in
+    search (rules, took)
 
 pub returns-in-Unknown : goal.returns-in-Unknown
 unfolding Small assigning ordering entry_fault in_range repeats crowds pick
-returns-in-Unknown c = search (rules, took)
+returns-in-Unknown c =
+    let k : wrong_kind false c.args.t.due c.args.w.entry ≡ false = kind_right _ _ c.in_ok-kind_fault.ensures refl in
+    search (rules, took)

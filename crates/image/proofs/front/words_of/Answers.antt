@@ -12,13 +12,13 @@ pub returns-then-len-gt-MOST_BYTES-clause-front : goal.returns-then-len-gt-MOST_
 returns-then-len-gt-MOST_BYTES-clause-front c =
     front_refused _ 1 (λ z. omega arith) (long_length _ c.if-len-ne0.false (omega arith) c.if-len-gt-MOST_BYTES.true)
 
-pub returns-then-head_right-clause-front : goal.returns-then-head_right-clause-front
-returns-then-head_right-clause-front c =
-    front_right _ c.if-len-ne0.false (omega arith) c.if-len-gt-MOST_BYTES.false
-    (ap head_right (sym c.word_at.ensures) ∙ sym c.head_right.ensures ∙ c.if-head_right.true)
+pub returns-in_default-clause-front : goal.returns-in_default-clause-front
+returns-in_default-clause-front c =
+    front_refused _ 2 (λ z. omega arith)
+    (wrong_head _ c.if-len-ne0.false (omega arith) c.if-len-gt-MOST_BYTES.false
+    (ap head_right (sym c.word_at.ensures) ∙ c.in_default.ensures))
 
 pub returns-clause-front : goal.returns-clause-front
 returns-clause-front c =
-    front_refused _ 2 (λ z. omega arith)
-    (wrong_head _ c.if-len-ne0.false (omega arith) c.if-len-gt-MOST_BYTES.false
-    (ap head_right (sym c.word_at.ensures) ∙ sym c.head_right.ensures ∙ c.if-head_right.false))
+    front_right _ c.if-len-ne0.false (omega arith) c.if-len-gt-MOST_BYTES.false
+    (ap head_right (sym c.word_at.ensures) ∙ c.in-Some.ensures.0)

@@ -3,11 +3,10 @@
 use mathlib.Core.Path.{◌≡◌}
 use lib.ListN.{drop}
 use Rattle.model.specs.Tests.{all}
-use Rattle.exclusion_rows.specs.Rows.{exclusion_of}
 use Rattle.exclusion_rows.specs.Table.{exclusions_of}
 use Rattle.ledger.specs.Held.{few_in}
 use Rattle.ledger.proofs.ByHistory.{few}
 use Rattle.ledger.proofs.plainly.few_in.Given as goal
 
-abbrev pub invariant-loop-row : goal.invariant-loop-row
-invariant-loop-row l = all (λ row. few l.set (exclusion_of row)) (drop l.row-index l.row-items) ≡ few_in l.set (exclusions_of l.xs)
+abbrev pub invariant-loop-x : goal.invariant-loop-x
+invariant-loop-x l = all (few l.set) (drop l.x-index l.x-items) ≡ few_in l.set (exclusions_of l.xs)

@@ -6,12 +6,10 @@ use lib.ListN.{drop}
 use Rattle.model.specs.Tests.{all}
 use Rattle.model.specs.Policy.{Meaning}
 use Rattle.model.specs.Line.{exclusions_met}
-use Rattle.exclusion_rows.specs.Rows.{exclusion_of}
 use Rattle.exclusion_rows.specs.Table.{exclusions_of}
 use Rattle.ledger.specs.Held.{met_at, named_by, Listed}
 use Rattle.ledger.proofs.sound.exclusions_met.Given as goal
 
-abbrev pub invariant-loop-row : goal.invariant-loop-row
-invariant-loop-row l =
-    (l.all ≡ named_by l.l)
-    × ((m : Meaning) → Listed (exclusions_of l.xs) m → all (λ row. met_at l.l (exclusion_of row)) (drop l.row-index l.row-items) ≡ exclusions_met m l.l)
+abbrev pub invariant-loop-x : goal.invariant-loop-x
+invariant-loop-x l =
+    (l.all ≡ named_by l.l) × ((m : Meaning) → Listed (exclusions_of l.xs) m → all (met_at l.l) (drop l.x-index l.x-items) ≡ exclusions_met m l.l)

@@ -20,4 +20,4 @@ loop-s-preserved c =
     all-next _ empty_session _ c.loop-s.s-index (omega arith) c.met_at.ensures c.if-not-met_at.false ∙ c.loop-s.invariant
 
 pub returns : goal.returns
-returns c = all_end _ empty_session _ c.loop-s.s-index (omega arith) ∙ c.loop-s.invariant
+returns c = all_end _ _ c.loop-s.s-index (omega arith) ∙ c.loop-s.invariant

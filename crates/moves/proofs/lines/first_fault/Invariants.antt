@@ -12,4 +12,4 @@ use Rattle.moves.proofs.lines.first_fault.Given as goal
 abbrev pub invariant-loop-u : goal.invariant-loop-u
 invariant-loop-u l =
     (p : Policy) → Known l.tables.head l.tables.authorized (exclusions_of l.tables.exclusions) p
-    → move_answer l.from l.to p l.old l.u (l.u-end - l.u) ≡ move_answer l.from l.to p l.old 0 l.u-end
+    → move_answer l.old.sessions l.to p l.old.bytes.now l.u (l.u-end - l.u) ≡ move_answer l.old.sessions l.to p l.old.bytes.now 0 l.u-end

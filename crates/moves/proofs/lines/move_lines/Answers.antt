@@ -32,19 +32,12 @@ returns-then-new-line_size c p h =
     let e = ap (λ (x : Head). x.users) h.head_is in
     gives-reason _ _ c.from-then-new-line_size.ensures _ _ (move19 _ _ p _ _ (cc) (λ q. c.if-new-line_size.true (cc)))
 
-pub first_fault-requires : goal.first_fault-requires
-first_fault-requires c =
-    ((cc), c.requires.0, c.requires.1)
-
 pub returns-in_err-first_fault : goal.returns-in_err-first_fault
 returns-in_err-first_fault c p h =
     let e = ap (λ (x : Head). x.users) h.head_is in
     let q = err_from_is_err_and c.from_residual.result c.from_residual.ensures.1 in
     rw (q.1, q.2)
     (move_faulty _ _ p _ _ (cc) (cc) _ _ e (c.in_err-first_fault.ensures p h) (coded c.in_err-first_fault.field-0.0))
-
-pub put_lines-requires : goal.put_lines-requires
-put_lines-requires c = ((cc), (cc))
 
 pub returns : goal.returns
 returns c p h =

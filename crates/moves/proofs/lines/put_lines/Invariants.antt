@@ -6,4 +6,4 @@ use Rattle.octets.specs.Splice.{splice}
 use Rattle.moves.proofs.lines.put_lines.Given as goal
 
 abbrev pub invariant-loop-u : goal.invariant-loop-u
-invariant-loop-u l = l.new ≡ splice l.initial.new 0 (resized_lines l.from l.to l.old 0 l.u)
+invariant-loop-u l = l.new ≡ splice l.initial.new 0 (resized_lines l.old.sessions l.to l.old.bytes.now 0 l.u)

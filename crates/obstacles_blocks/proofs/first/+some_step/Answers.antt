@@ -13,12 +13,12 @@ use Rattle.obstacles_blocks.proofs.first.+some_step.Goals as goal
 
 pub returns-in_default : goal.returns-in_default
 returns-in_default t c =
-    found_chosen (task_of c.args.query.now) _ _ c.requires.0 _ (none_said _ _ c.missing.result c.missing.ensures c.in_default.not-Some)
+    found_chosen (task_of c.args.query.now) _ _ c.requires.0 _ (none_said _ _ c.missing.result c.missing.ensures.found c.in_default.not-Some)
 
 pub loop-k-init : goal.loop-k-init
 loop-k-init t c =
     rw (c.into_iter-k-iterator.ensures.into_iter_gives, c.members-k-items.ensures)
-    (passing_start (task_of c.args.query.now) _ _ c.requires.0 c.args.turned.now _ _ _ c.in-Some.ensures c.requires.1 c.inter-tries.ensures)
+    (passing_start (task_of c.args.query.now) _ _ c.requires.0 c.args.turned.now _ _ _ c.in-Some.ensures.found c.requires.1 c.inter-tries.ensures)
 
 pub loop-k-preserved-then-not-reduced_met : goal.loop-k-preserved-then-not-reduced_met
 loop-k-preserved-then-not-reduced_met t c =

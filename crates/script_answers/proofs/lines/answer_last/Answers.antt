@@ -4,18 +4,15 @@ use borrow.Author.Rules.{rules}
 use Prim.Native.Nat.{◌≤◌}
 use native.Mathlib.Omega.{arith}
 use lib.ListN.{length}
-use Rattle.script_input.proofs.Steps.{counts}
+use Rattle.script_text.proofs.TextLaws.{written-more}
 use Rattle.script_answers.proofs.Steps.{last_answered}
 use Rattle.script_answers.proofs.lines.answer_last.Goals as goal
 
-pub slice_bounds-respond-end : goal.slice_bounds-respond-end
-slice_bounds-respond-end c =
-    counts c.args.kept c.args.line.now (search rules)
-
 pub returns : goal.returns
 returns c =
-    let n : c.respond.result ≤ length c.args.out.now = omega (arith, c.respond.ensures.1) in (
-      omega (arith, c.respond.ensures.1, c.respond.auto),
-      last_answered c.args.image.now c.args.line.now c.args.ledger.now c.args.out.now c.args.kept c.args.calls _ _ (search rules) (search rules)
-          (search rules) n c.respond.ensures.0,
+    let w = c.respond.ensures.0 in
+    let n : c.respond.new.text.at ≤ length c.args.text.now.out.now = omega (arith, c.respond.ensures.1, c.requires.0) in (
+      record { same_buffer = w.same_buffer; size = w.size; room = omega (arith, n, w.size) },
+      last_answered c.args.image.now c.args.ledger.now c.args.calls _ _ c.args.line.now _ c.bytes-bytes.ensures.0 (search rules)
+          (written-more (omega (arith, c.requires.0)) n w),
     )

@@ -54,4 +54,5 @@ returns c p h eg ej =
     let o = session_open SESSIONS c.line_of-l.result c.args.who.session c.in_ok-session_refusal.ensures in
     let x = c.explain-explained.ensures in
     explain0 _ p _ _ _ _ (pd.ready p h) o.below (rw (← c.line_of-l.ensures) o.opened) (rw h.head_is c.if-tables-permission.false) _ _ _ _
-    c.line_of-l.ensures eg ej (ap returned_by c.ok_or.ensures.value ∙ told_by _ _ c.from-2.ensures x.1 ∙ ap told x.0)
+    c.line_of-l.ensures eg ej
+    (ap returned_by c.ok_or.ensures.value ∙ told_by _ _ c.from-2.ensures x.1 ∙ ap told (rw (← c.grants.ensures.granted, ← c.grants.ensures.below) x.0))

@@ -51,4 +51,5 @@ returns c p h eg ej =
     let pd = passed_by c.args.tables.now c.args.ledger.now c.args.who.user c.in_ok-first_refusal.ensures in
     let o = session_open SESSIONS c.line_of-l.result c.args.who.session c.in_ok-session_refusal.ensures in
     show0 _ p _ _ _ _ (pd.ready p h) o.below (rw (← c.line_of-l.ensures) o.opened)
-    c.if-answer-ne40.false _ _ _ _ _ c.line_of-l.ensures eg ej c.carried_by-permissions.ensures c.fill.ensures
+    c.if-answer-ne40.false _ _ _ _ _ c.line_of-l.ensures eg ej
+    (rw (← c.grants.ensures.granted, ← c.grants.ensures.below) c.carried_by-permissions.ensures) c.fill.ensures

@@ -1,7 +1,7 @@
 -- The figures of an exclusion.
 -- Assumes nothing.
 use native.Mathlib.Omega.{arith}
-use Rattle.script_text.proofs.TextLaws.{puts_as}
+use Rattle.script_text.proofs.TextLaws.{writes_as}
 use Rattle.survey_exclusions.proofs.ExclusionLaws.{exclusion_is}
 use Rattle.survey_exclusions.proofs.exclusions.put_exclusion.Goals as goal
 
@@ -12,4 +12,4 @@ allowed-sets-requires c =
 pub returns : goal.returns
 returns c =
     let x = exclusion_is c.args.x _ _ _ c.number_of-which.ensures c.size-size.ensures c.allowed-sets.ensures in
-    (puts_as x c.put_four.ensures.0, c.put_four.ensures.1)
+    (writes_as x c.put_four.ensures.0, c.put_four.ensures.1)

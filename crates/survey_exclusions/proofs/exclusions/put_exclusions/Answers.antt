@@ -14,12 +14,12 @@ exclusion_at-requires c =
     let h = walk_more c.args.image.now w (omega (arith, e.0, e.1)) in
     (omega arith, place_inside c.args.image.now w h e.0, omega arith)
 
-pub put_exclusion-next-requires : goal.put_exclusion-next-requires
-put_exclusion-next-requires c =
+pub put_exclusion-requires : goal.put_exclusion-requires
+put_exclusion-requires c =
     let w = c.loop-at.invariant.3 in
     let e = c.in-Some.ensures in
     let h = walk_more c.args.image.now w (omega (arith, e.0, e.1)) in (
-      omega (arith, h, c.loop-at.invariant.2, c.loop-at.auto.out, c.requires.0, c.requires.1),
+      omega (arith, h, c.loop-at.invariant.2, w.lines.size, c.requires.0, c.requires.1),
       fits_here c.args.image.now w h e.0 refl c.exclusion_at.ensures c.requires.2,
     )
 
@@ -37,8 +37,8 @@ loop-at-preserved c =
     let h = walk_more c.args.image.now w (omega (arith, e.0, e.1)) in (
       c.loop-at.invariant.0 + 1,
       omega (arith, h),
-      omega (arith, c.put_exclusion-next.ensures.1, c.loop-at.invariant.2),
-      walk-next c.args.image.now w h e.0 refl c.exclusion_at.ensures c.put_exclusion-next.ensures.0,
+      omega (arith, c.put_exclusion.ensures.1, c.loop-at.invariant.2),
+      walk-next c.args.image.now w h e.0 refl c.exclusion_at.ensures c.put_exclusion.ensures.0,
     )
 
 pub returns : goal.returns

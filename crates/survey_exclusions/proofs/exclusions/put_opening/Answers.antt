@@ -2,22 +2,25 @@
 -- Assumes nothing.
 use mathlib.Core.Path.{sym, ap, ◌∙◌}
 use Prim.Native.Nat.{ℕ}
+use native.Mathlib.Omega.{arith}
 use Rattle.model.specs.declared.Checked.TheVariants.{Refused}
 use Rattle.model_laws.proofs.Judgements.{accepted_in_range}
+use Rattle.script_text.proofs.TextLaws.{writes_as}
 use Rattle.survey_exclusions.proofs.ExclusionLaws.{opens_accepted, opens-refused}
 use Rattle.survey_exclusions.proofs.Fit.{figures_fit}
 use Rattle.survey_exclusions.proofs.exclusions.put_opening.Goals as goal
 
-pub put_exclusions-filled-requires : goal.put_exclusions-filled-requires
-put_exclusions-filled-requires c =
+pub put_exclusions-requires : goal.put_exclusions-requires
+put_exclusions-requires c =
     let accepted = sym c.in-Ok.ensures in
     (c.requires, (accepted_in_range _ _ accepted).few_exclusions, figures_fit _ _ accepted)
 
 pub returns-in-Ok : goal.returns-in-Ok
 returns-in-Ok c =
-    opens_accepted _ _ c.args.out.now _ _ (sym c.in-Ok.ensures) c.requires c.put_exclusions-filled.ensures.0 c.put_exclusions-filled.ensures.1
+    let opens = opens_accepted _ _ (sym c.in-Ok.ensures) in
+    (writes_as opens.0 c.put_exclusions.ensures.0, c.put_exclusions.ensures.1, opens.1)
 
 pub returns-in-Err : goal.returns-in-Err
 returns-in-Err c =
-    opens-refused _ _ _ c.args.out.now _ _ (sym c.in-Err.ensures ∙ ap (λ (n : ℕ). Refused n c.in-Err.refusal.extra) (sym c.number.ensures)) c.requires
-    c.put_two-filled.ensures.0 c.put_two-filled.ensures.1
+    let opens = opens-refused _ _ _ (sym c.in-Err.ensures ∙ ap (λ (n : ℕ). Refused n c.in-Err.refusal.extra) (sym c.from.ensures)) in
+    (writes_as opens.0 c.put_two.ensures.0, omega (arith, c.put_two.ensures.1), opens.1)

@@ -6,18 +6,18 @@ use Rattle.tables.proofs.read.gather.Goals as goal
 
 pub read_words-requires : goal.read_words-requires
 read_words-requires c =
-    let k = c.in_ok-words.ensures in rw k.words.1 (k.front.least refl)
+    let k = c.in_ok-front.ensures in rw k.words.1 (k.front.least refl)
 
 pub invariant_of-tables : goal.invariant_of-tables
 invariant_of-tables c =
-    let k = c.in_ok-words.ensures in
-    let e = simp (k.words.0, k.words.1, c.head_of.ensures, c.word-w.ensures, c.requires.assigned_none) at c.in_ok-head.ensures.0 in
+    let k = c.in_ok-front.ensures in
+    let e = simp (k.words.0, k.words.1, k.head, c.word.ensures, c.requires.assigned_none) at c.in_ok-head.ensures.0 in
     record { fits = (head_fits c.args.image.now c.in_ok-head.head (sym (e ∙ k.front.scanned refl))).0 }
 
 pub returns : goal.returns
 returns c =
-    let k = c.in_ok-words.ensures in
-    let e = simp (k.words.0, k.words.1, c.head_of.ensures, c.word-w.ensures, c.requires.assigned_none) at c.in_ok-head.ensures.0 in
+    let k = c.in_ok-front.ensures in
+    let e = simp (k.words.0, k.words.1, k.head, c.word.ensures, c.requires.assigned_none) at c.in_ok-head.ensures.0 in
     let all = rw (k.words.0, k.words.1) at (c.in_ok-head.ensures.1 _ refl) in (
       e ∙ k.front.scanned refl,
       λ g z.

@@ -1,7 +1,7 @@
 -- `tables::read::read` meets its contract.
 -- Assumes nothing.
 use Rattle.std.proofs.Common.{◌≡◌, Err, refl, rules}
-use Rattle.tables.proofs.Fills.{tables_fit, tables_refused, tables_accepted, tables_hold}
+use Rattle.tables.proofs.Fills.{tables_fit, tables_refused, tables_accepted, tables_own, tables_hold}
 use Rattle.tables.proofs.read.read.Goals as goal
 
 pub settled-requires : goal.settled-requires
@@ -35,3 +35,12 @@ returns-clause-accepted c = (
   tables_accepted _ _ c.gather-words.ensures.0 _ c.gather-words.ensures.1 _ _ _ c.judged.ensures _ c.in_ok-judged.was,
   tables_hold _ _ c.gather-words.ensures.0 _ c.gather-words.ensures.1 _ _ _ c.judged.ensures _ c.in_ok-judged.was _ refl refl refl refl refl refl,
 )
+
+pub returns-then-settled-clause-own : goal.returns-then-settled-clause-own
+returns-then-settled-clause-own c =
+    let fit = tables_fit _ _ c.gather-words.ensures.0 _ c.gather-words.ensures.1 in
+    tables_own _ _ c.gather-words.ensures.0 _ c.gather-words.ensures.1 _ _ _ (λ p q. c.settled.ensures c.if-settled.true p _ fit q) _
+    c.in_ok-words.was
+
+pub returns-clause-own : goal.returns-clause-own
+returns-clause-own c = tables_own _ _ c.gather-words.ensures.0 _ c.gather-words.ensures.1 _ _ _ c.judged.ensures _ c.in_ok-judged.was

@@ -20,7 +20,8 @@ pub loop-at-init : goal.loop-at-init
 unfolding start
 loop-at-init c =
     let none = none_noted 32 c.args.image.now.count (omega (arith, c.requires)) in
-    rw c.fresh-t.ensures
+    let e : c.default-t.result ≡ start = search rules in
+    rw e
     (record {
       onward = omega arith;
       inside = omega (arith, c.requires);
@@ -36,7 +37,7 @@ loop-at-init c =
     })
 
 pub pass-here-requires : goal.pass-here-requires
-pass-here-requires c = c.members-joined.ensures.inside _ (omega arith) c.loop-at.invariant.inside
+pass-here-requires c = c.members-joined.ensures.inside _ (omega arith) (omega (arith, c.loop-at.invariant.inside))
 
 pub loop-at-preserved-then-end-here : goal.loop-at-preserved-then-end-here
 unfolding assigning granting ordering limiting
@@ -46,7 +47,7 @@ loop-at-preserved-then-end-here c =
     let p = c.pass-here.ensures in
     record {
       onward = omega (arith, p.passed.onward, m.onward, i.onward);
-      inside = p.inside;
+      inside = p.passed.inside _ (omega arith) (m.inside _ (omega arith) i.inside);
       scanned = p.passed.scanned c.members-joined.result.scan refl ∙ m.scanned _ _ refl ∙ i.scanned;
       few = rw m.exclusions_same i.few;
       size = i.size;

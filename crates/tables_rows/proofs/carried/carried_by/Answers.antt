@@ -10,4 +10,4 @@ use Rattle.tables_rows.proofs.carried.carried_by.Goals as goal
 pub returns : goal.returns
 unfolding carried_of
 returns c =
-    c.perm_union_at.ensures ∙ ap (union_at (values c.args.granted.now)) c.reached_by-reached.ensures ∙ sym (union_at_unions _ _ _)
+    c.perm_union_at.ensures ∙ ap (union_at (values c.args.grants.now.granted.now)) c.reached_by-reached.ensures ∙ sym (union_at_unions _ _ _)

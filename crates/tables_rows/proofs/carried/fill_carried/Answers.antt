@@ -12,7 +12,7 @@ pub loop-k-preserved : goal.loop-k-preserved
 loop-k-preserved c =
     let t = c.in-Some.ensures.steps in
     made_next _ _ _ _ _ _ _ c.loop-k.invariant t.lowest t.rest _
-    (c.perm_union_at.ensures ∙ ap (union_at (values c.args.granted.now)) c.reach.ensures)
+    (c.perm_union_at.ensures ∙ ap (union_at (values c.args.grants.now.granted.now)) c.reach.ensures)
 
 pub returns : goal.returns
 returns c = made_all _ _ _ _ _ c.in-None.ensures.steps.0 c.loop-k.invariant

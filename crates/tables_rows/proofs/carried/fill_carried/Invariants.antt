@@ -7,4 +7,4 @@ use Rattle.tables_rows.proofs.Carrying.{Made}
 use Rattle.tables_rows.proofs.carried.fill_carried.Given as goal
 
 abbrev pub invariant-loop-k : goal.invariant-loop-k
-invariant-loop-k l = Made (values l.granted) (with_selves l.below) l.wanted l.k-iterator.left l.out
+invariant-loop-k l = Made (values l.grants.granted.now) (with_selves l.grants.below.now) l.wanted l.k-iterator.left l.out

@@ -13,8 +13,8 @@ use Rattle.tables_rows.proofs.explain.explain.Goals as goal
 pub returns : goal.returns
 returns c = (
   c.first_carrier.ensures.0
-      ∙ ap (λ (x : ℕ). explanation (granter_by (with_selves c.args.below.now) (has x)) c.args.set) c.holders.ensures
+      ∙ ap (λ (x : ℕ). explanation (granter_by (with_selves c.args.grants.now.below.now) (has x)) c.args.set) c.holders.ensures
       ∙ ap (λ (name : ℕ → Option ℕ). explanation name c.args.set)
-      (λ i r. granter_same (with_selves c.args.below.now) (values c.args.granted.now) c.args.p.0 r i),
+      (λ i r. granter_same (with_selves c.args.grants.now.below.now) (values c.args.grants.now.granted.now) c.args.p.0 r i),
   c.first_carrier.ensures.1,
 )

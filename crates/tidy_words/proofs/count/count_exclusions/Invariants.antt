@@ -5,7 +5,6 @@ use Rattle.std.proofs.Common.{◌≡◌, ◌+◌, ◌*◌, ◌≤◌, length}
 use Rattle.tidy_words.proofs.Turns.{listed}
 use Rattle.tidy_words.proofs.count.count_exclusions.Given as goal
 
-abbrev pub invariant-loop-row : goal.invariant-loop-row
-invariant-loop-row l =
-    (l.m ≤ 4294967296 * l.row-index) × (l.row-index ≤ 32)
-    × (l.m + length (listed l.xs.rows l.xs.count l.row-index) ≡ length (listed l.xs.rows l.xs.count 0))
+abbrev pub invariant-loop-x : goal.invariant-loop-x
+invariant-loop-x l =
+    (l.m ≤ 4294967296 * l.x-index) × (l.x-index ≤ 32) × (l.m + length (listed l.x-items l.x-index) ≡ length (listed l.x-items 0))

@@ -5,4 +5,4 @@ use Rattle.image_usual.proofs.taking.ArrayArrayU64464TakesGrants.take.Goals as g
 
 pub returns : goal.returns
 unfolding granting
-returns c = c.wide_put.ensures
+returns c = c.perm_put.ensures

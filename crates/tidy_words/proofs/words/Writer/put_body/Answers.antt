@@ -15,7 +15,7 @@ put_table-requires c =
     let t = c.args.tables.now in
     let head = goes_next (goes_start c.args.self.now _ c.requires.1) (head_first _ _ _ _ _ _ c.head_word.ensures) c.put_word.ensures in
     let four = first_of (groups_four t.authorized t.granted t.below _ t.limits) in
-    (c.requires.0.users, omega arith, rw (same_rows t.authorized) c.requires.0.assigned_fits, goes_room head four)
+    (c.requires.0.users, omega arith, omega arith, rw (same_rows t.authorized) c.requires.0.assigned_fits, goes_room head four)
 
 pub put_table-requires-2 : goal.put_table-requires-2
 unfolding values
@@ -23,7 +23,7 @@ put_table-requires-2 c =
     let t = c.args.tables.now in
     let head = goes_next (goes_start c.args.self.now _ c.requires.1) (head_first _ _ _ _ _ _ c.head_word.ensures) c.put_word.ensures in
     let a = goes_next head (first_of (groups_four t.authorized t.granted t.below _ t.limits)) c.put_table.ensures in
-    (c.requires.0.roles, omega arith, c.requires.0.granted_fits, goes_room a (next_of _ _))
+    (c.requires.0.roles, omega arith, omega arith, c.requires.0.granted_fits, goes_room a (next_of _ _))
 
 pub put_table-requires-3 : goal.put_table-requires-3
 put_table-requires-3 c =
@@ -31,7 +31,7 @@ put_table-requires-3 c =
     let head = goes_next (goes_start c.args.self.now _ c.requires.1) (head_first _ _ _ _ _ _ c.head_word.ensures) c.put_word.ensures in
     let a = goes_next head (first_of (groups_four t.authorized t.granted t.below _ t.limits)) c.put_table.ensures in
     let g = goes_next a (next_of _ _) c.put_table-2.ensures in
-    (c.requires.0.roles, omega arith, rw (same_rows t.below) c.requires.0.juniors_fits, goes_room g (next_of _ _))
+    (c.requires.0.roles, omega arith, omega arith, rw (same_rows t.below) c.requires.0.juniors_fits, goes_room g (next_of _ _))
 
 pub put_rest-requires : goal.put_rest-requires
 put_rest-requires c =

@@ -5,6 +5,5 @@ use Rattle.tidy_words.proofs.Turns.{listed}
 use Rattle.tidy_words.proofs.Writing.{Goes}
 use Rattle.tidy_words.proofs.words.Writer.put_exclusions.Given as goal
 
-abbrev pub invariant-loop-row : goal.invariant-loop-row
-invariant-loop-row l =
-    Goes l.initial.self (listed l.xs.rows l.xs.count 0) l.self (listed l.xs.rows l.xs.count l.row-index)
+abbrev pub invariant-loop-x : goal.invariant-loop-x
+invariant-loop-x l = Goes l.initial.self (listed l.x-items 0) l.self (listed l.x-items l.x-index)

@@ -6,7 +6,7 @@ use Rattle.tidy_words.proofs.Turns.{within_first, none_left, row_next, table_end
 use Rattle.tidy_words.proofs.words.Writer.put_table.Goals as goal
 
 pub loop-i-init : goal.loop-i-init
-loop-i-init g c = goes_start _ _ c.requires.3
+loop-i-init g c = goes_start _ _ c.requires.4
 
 pub overflow_add-first : goal.overflow_add-first
 overflow_add-first g c =
@@ -37,6 +37,6 @@ loop-i-preserved g c =
 pub returns : goal.returns
 returns g c =
     let rows = c.args.rows.now in
-    let s = c.requires.2.size in
+    let s = c.requires.3.size in
     let t = none_left rows c.args.n c.loop-i.i (omega (arith, length-map rows g.S.Counted.as_set)) c.loop-i-test.false in
-    goes_end c.loop-i.invariant (table_end _ g.S.Counted.top (map g.S.Counted.as_set rows) _ c.loop-i.i c.requires.2 t)
+    goes_end c.loop-i.invariant (table_end _ g.S.Counted.top (map g.S.Counted.as_set rows) _ c.loop-i.i c.requires.3 t)

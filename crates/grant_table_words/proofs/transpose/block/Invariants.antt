@@ -1,9 +1,0 @@
--- `grant_table_words::transpose::block` meets its contract. The loop's invariant: the rows below k, and those j
--- further, are exchanged.
--- Assumes nothing.
-use Rattle.std.proofs.Common.{◌+◌, ◌≤◌}
-use Rattle.grant_table_words.specs.Stages.{Blocked}
-use Rattle.grant_table_words.proofs.transpose.block.Given as goal
-
-abbrev pub invariant-loop-k : goal.invariant-loop-k
-invariant-loop-k l = (l.k ≤ l.from + l.j) × (Blocked l.j l.m l.from l.k l.a l.initial.out l.out)

@@ -1,8 +1,0 @@
--- `grant_table_words::transpose::high_row` meets its contract.
--- Assumes nothing.
-use Rattle.std.proofs.Common.{rules}
-use Rattle.grant_table_words.proofs.Exchanges.{high_is}
-use Rattle.grant_table_words.proofs.transpose.high_row.Goals as goal
-
-pub returns : goal.returns
-returns c = search (rules, high_is)

@@ -1,7 +1,0 @@
--- `limits_counts::none` meets its contract.
--- Assumes nothing.
-use Rattle.limits_counts.proofs.Planes.{none_counted}
-use Rattle.limits_counts.proofs.none.Goals as goal
-
-pub returns : goal.returns
-returns c r = none_counted r

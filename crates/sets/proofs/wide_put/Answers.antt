@@ -1,7 +1,0 @@
--- `sets::wide_put` meets its contract.
--- Assumes nothing.
-use Rattle.sets.proofs.Unions.{row_put}
-use Rattle.sets.proofs.wide_put.Goals as goal
-
-pub returns : goal.returns
-returns c = row_put c.args.rows.now _ c.args.p.0 _ c.row_put.ensures
