@@ -559,7 +559,9 @@ class Long(OnStore):
 
     def test_ctrl_c_ends_a_verify_and_it_tells_how_far_it_came(self):
         environment = {**os.environ, "NUTRAMEZA_STORE": self.name, "NUTRAMEZA_NAMES": WARD}
-        began = subprocess.Popen([*COMMAND, "store", "verify", NAME], env=environment, stdout=subprocess.PIPE, stderr=subprocess.PIPE, text=True)
+        # A shell starts what it puts in the background with Ctrl-C ignored, and so would this process.
+        began = subprocess.Popen([*COMMAND, "store", "verify", NAME], env=environment, stdout=subprocess.PIPE, stderr=subprocess.PIPE, text=True,
+                                 preexec_fn=lambda: signal.signal(signal.SIGINT, signal.SIG_DFL))
         while began.poll() is None and not blocks_ctrl_c(began.pid):
             time.sleep(0.001)
         began.send_signal(signal.SIGINT)
