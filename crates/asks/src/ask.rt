@@ -7,7 +7,7 @@ ghost use Rattle.model.specs.Choice.{choose};
 ghost use Rattle.model.specs.Run.{step_on, ask_by, line_of};
 ghost use Rattle.sets.specs.Words.{value, values};
 ghost use Rattle.query.specs.Carry.{rows_of};
-ghost use Rattle.query_rank.specs.Objectives.{number_of};
+ghost use Rattle.query_rank.specs.Objectives.{number_of, Stands};
 ghost use Rattle.search.specs.Answer.{answered};
 ghost use Rattle.reasons.specs.Numbers.{fault_of, refusal_of};
 ghost use Rattle.exclusion_rows.specs.Table.{exclusions_of};
@@ -30,7 +30,7 @@ use sessions::answer::fill;
 use sessions::given::UserSession;
 
 // The best admissible role set for a session of a line that meets every exclusion, by the rows of the roles that the
-// user may activate.
+// user may activate; the best by each two numbers that stand for the objectives.
 pub fn best(
     rows: &[[u64; 4]; 64],
     authorized: u64,
@@ -38,10 +38,12 @@ pub fn best(
     at: LineSession,
     wanted: Wanted,
 ) -> Option<u64>
-    ensures { (p : Policy) (u : ℕ) (x : Others)
+    ensures { (p : Policy) (u : ℕ) (x : Others) (first second : ℕ)
+        → Stands wanted.first first
+        → Stands wanted.second second
         → Asked p u x at.line at.session authorized (exclusions_of xs.now) (rows_of rows.now)
         → answered result ≡ choose (left_to p u x at.line at.session) at.line at.session (value wanted.bounds.lower)
-        (value wanted.bounds.upper) (number_of wanted.first) (number_of wanted.second) }
+        (value wanted.bounds.upper) first second }
 {
     let reduced = reduce(xs, at);
     let lower = wanted.bounds.lower;

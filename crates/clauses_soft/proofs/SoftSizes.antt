@@ -9,7 +9,10 @@ use lib.ListN.{length, length-append}
 use Rattle.model.specs.Clauses.{Clause, list_to, must, must_not, wanting, weight_of, top}
 use Rattle.model_clauses.proofs.ClauseLaws.{length_singles}
 use Rattle.model_clauses.proofs.DimacsSizes.{weight_append}
+use Rattle.query_rank.specs.declared.objective.Objective.{Objective}
+use Rattle.query_rank.specs.Objectives.{number_of, Stands}
 use Rattle.clauses_soft.specs.Soft.{wanting_permissions, wanting_roles, where_aimed, soft_by}
+use Rattle.clauses_soft.proofs.WantLaws.{permissions_standing, roles_standing}
 
 module _ (w : ℕ) (x : ℕ → ℕ) where
   empty : (n : ℕ) → list_to n (λ i. wanting 0 w (x i)) ≡ []
@@ -52,3 +55,16 @@ soft_top R P a b m n e f =
     rw (e, f)
     (sym (ap (λ (n : ℕ). n + 1) (weight_append (list_to P (λ q. wanting a (R + 1) (R + q + 1))) (list_to R (λ r. wanting b 1 (r + 1)))
     ∙ rw (wanting_weight (R + 1) (λ q. R + q + 1) a P, wanting_weight 1 (λ r. r + 1) b R, mul-one R))))
+
+-- ---- by each two numbers that stand for the objectives
+soft_standing : (o q : Objective) (R P a b : ℕ) → Stands o a → Stands q b → soft_by R P (number_of o) (number_of q) ≡ soft_by R P a b
+unfolding soft_by
+soft_standing o q R P a b h k = rw (permissions_standing o R P a h, roles_standing q R b k) refl
+
+pub length_standing : (o q : Objective) (R P a b m n : ℕ) → Stands o a → Stands q b → m ≡ where_aimed (number_of o) P → n ≡ where_aimed (number_of q) R
+    → m + n ≡ length (soft_by R P a b)
+length_standing o q R P a b m n h k e f = soft_length R P (number_of o) (number_of q) m n e f ∙ ap length (soft_standing o q R P a b h k)
+
+pub top_standing : (o q : Objective) (R P a b m n : ℕ) → Stands o a → Stands q b → m ≡ where_aimed (number_of o) (P * (R + 1))
+    → n ≡ where_aimed (number_of q) R → m + n + 1 ≡ top (soft_by R P a b)
+top_standing o q R P a b m n h k e f = soft_top R P (number_of o) (number_of q) m n e f ∙ ap top (soft_standing o q R P a b h k)

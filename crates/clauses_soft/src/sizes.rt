@@ -1,7 +1,7 @@
 // How many soft clauses an ask has, and the weight of a hard clause.
-ghost use Rattle.std.specs.Prelude.{◌≡◌, ◌≤◌, length};
+ghost use Rattle.std.specs.Prelude.{◌≡◌, ◌≤◌, ℕ, length};
 ghost use Rattle.model.specs.Clauses.{top};
-ghost use Rattle.query_rank.specs.Objectives.{number_of};
+ghost use Rattle.query_rank.specs.Objectives.{number_of, Stands};
 ghost use Rattle.clauses_soft.specs.Soft.{where_aimed as where_aimed_of, soft_by};
 
 use clauses_lines::variables::Variables;
@@ -18,18 +18,21 @@ fn where_aimed(aim: Objective, n: usize) -> usize
     }
 }
 
-// How many soft clauses there are.
-#[tactic(auto, using(crate::proofs::SoftSizes::soft_length))]
+// How many soft clauses there are, by each two numbers that stand for the objectives.
+#[tactic(auto, using(crate::proofs::SoftSizes::length_standing))]
 pub fn soft_size(first: Objective, second: Objective, variables: Variables) -> usize
-    ensures { (result ≡ length (soft_by variables.roles variables.permissions (number_of first) (number_of second))) × (result ≤ 320) }
+    ensures { ((a b : ℕ) → Stands first a → Stands second b → result ≡ length (soft_by variables.roles variables.permissions a b))
+        × (result ≤ 320) }
 {
     where_aimed(first, variables.permissions) + where_aimed(second, variables.roles)
 }
 
-// The weight of a hard clause: the top of the head line, above all soft ones together.
-#[tactic(auto, using(crate::proofs::SoftSizes::soft_top, crate::proofs::SoftSizes::weights_small))]
+// The weight of a hard clause: the top of the head line, above all soft ones together, by each two numbers that stand
+// for the objectives.
+#[tactic(auto, using(crate::proofs::SoftSizes::top_standing, crate::proofs::SoftSizes::weights_small))]
 pub fn top_weight(first: Objective, second: Objective, variables: Variables) -> usize
-    ensures { (result ≡ top (soft_by variables.roles variables.permissions (number_of first) (number_of second))) × (result ≤ 16705) }
+    ensures { ((a b : ℕ) → Stands first a → Stands second b → result ≡ top (soft_by variables.roles variables.permissions a b))
+        × (result ≤ 16705) }
 {
     let weight = variables.roles + 1;
     where_aimed(first, variables.permissions * weight) + where_aimed(second, variables.roles) + 1

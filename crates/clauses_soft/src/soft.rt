@@ -1,6 +1,7 @@
 // The soft clauses of the objectives.
+ghost use Rattle.std.specs.Prelude.{ℕ};
 ghost use Rattle.model.specs.Dimacs.{clauses_text};
-ghost use Rattle.query_rank.specs.Objectives.{number_of};
+ghost use Rattle.query_rank.specs.Objectives.{number_of, Stands};
 ghost use Rattle.clauses_bytes.specs.Putting.{Puts};
 ghost use Rattle.clauses_lines.specs.Lines.{lines_of};
 ghost use Rattle.clauses_soft.specs.Soft.{wanted, wanting_permissions, wanting_roles};
@@ -25,14 +26,15 @@ fn put_wanting(out: &mut [u8], at: usize, aim: Objective, w: usize, x: usize) ->
     }
 }
 
-// Puts what the first objective wants of the permissions.
+// Puts what the first objective wants of the permissions, by each number that stands for it.
 pub fn put_wanting_permissions(
     out: &mut [u8],
     at: usize,
     aim: Objective,
     variables: Variables,
 ) -> usize
-    ensures { Puts out.old at (clauses_text (wanting_permissions variables.roles variables.permissions (number_of aim))) out.new result }
+    ensures { (a : ℕ) → Stands aim a
+        → Puts out.old at (clauses_text (wanting_permissions variables.roles variables.permissions a)) out.new result }
 {
     let w = packed(variables.roles + 1);
     let mut next = at;
@@ -43,10 +45,10 @@ pub fn put_wanting_permissions(
     next
 }
 
-// Puts what the second objective wants of the roles. Beside the permissions' it has another definition, weight and
-// variable, which leaves one line that both would share.
+// Puts what the second objective wants of the roles, by each number that stands for it. Beside the permissions' it has
+// another definition, weight and variable, which leaves one line that both would share.
 pub fn put_wanting_roles(out: &mut [u8], at: usize, aim: Objective, variables: Variables) -> usize
-    ensures { Puts out.old at (clauses_text (wanting_roles variables.roles (number_of aim))) out.new result }
+    ensures { (a : ℕ) → Stands aim a → Puts out.old at (clauses_text (wanting_roles variables.roles a)) out.new result }
 {
     let w = packed(1);
     let mut next = at;

@@ -27,7 +27,11 @@ abbrev pub hard_for : Question → List (List ℕ) → List ReducedExclusion →
 hard_for q rows xs =
     hard_by q.variables.roles q.variables.permissions q.authorized (rows_of rows) (value q.lower) (value q.upper) (masks_of xs) (ns_of xs) (length xs)
 
-abbrev pub text_for : Question → List (List ℕ) → List ReducedExclusion → List ℕ
-text_for q rows xs =
+-- the text, with these numbers for the objectives, and with the objectives' own
+abbrev pub text_with : ℕ → ℕ → Question → List (List ℕ) → List ReducedExclusion → List ℕ
+text_with a b q rows xs =
     text_by q.variables.roles q.variables.permissions q.authorized (rows_of rows) (value q.lower) (value q.upper) (masks_of xs) (ns_of xs) (length xs)
-    (number_of q.first) (number_of q.second)
+    a b
+
+abbrev pub text_for : Question → List (List ℕ) → List ReducedExclusion → List ℕ
+text_for q = text_with (number_of q.first) (number_of q.second) q

@@ -1,12 +1,12 @@
 // The head, all clauses, and the whole text of an ask.
-ghost use Rattle.std.specs.Prelude.{◌∷◌, ◌+◌, ◌≤◌, length};
+ghost use Rattle.std.specs.Prelude.{◌∷◌, ◌+◌, ◌≤◌, ℕ, length};
 ghost use Rattle.model.specs.Dimacs.{ascii, decimal, head_text, clauses_text};
 ghost use Rattle.clauses_bytes.specs.Putting.{Puts};
 ghost use Rattle.clauses_lines.specs.Lines.{lines_of};
-ghost use Rattle.query_rank.specs.Objectives.{number_of};
+ghost use Rattle.query_rank.specs.Objectives.{Stands};
 ghost use Rattle.query_reduced.specs.Reduction.{listed};
 ghost use Rattle.clauses_soft.specs.Soft.{soft_by};
-ghost use Rattle.clauses_text.specs.Whole.{hard_for, text_for};
+ghost use Rattle.clauses_text.specs.Whole.{hard_for, text_with};
 
 use clauses_bytes::bytes::{packed, put, put_all, put_long};
 use clauses_counter::counter::put_counters;
@@ -73,9 +73,10 @@ fn put_hard(
     put_counters(out, e, w, variables.last_plain(), exclusions)
 }
 
-// Puts the soft clauses.
+// Puts the soft clauses, by each two numbers that stand for the objectives.
 fn put_soft(out: &mut [u8], at: usize, q: Question) -> usize
-    ensures { Puts out.old at (clauses_text (soft_by q.variables.roles q.variables.permissions (number_of q.first) (number_of q.second))) out.new result }
+    ensures { (a b : ℕ) → Stands q.first a → Stands q.second b
+        → Puts out.old at (clauses_text (soft_by q.variables.roles q.variables.permissions a b)) out.new result }
 {
     let a = put_wanting_permissions(out, at, q.first, q.variables);
     put_wanting_roles(out, a, q.second, q.variables)
@@ -83,7 +84,7 @@ fn put_soft(out: &mut [u8], at: usize, q: Question) -> usize
 
 // ---- the text
 
-// Puts the whole text.
+// Puts the whole text, by each two numbers that stand for the objectives.
 pub fn put_text(
     out: &mut [u8],
     at: usize,
@@ -91,7 +92,8 @@ pub fn put_text(
     q: Question,
     exclusions: &Reduced,
 ) -> usize
-    ensures { Puts out.old at (text_for q rows.now (listed exclusions.now)) out.new result }
+    ensures { (a b : ℕ) → Stands q.first a → Stands q.second b
+        → Puts out.old at (text_with a b q rows.now (listed exclusions.now)) out.new result }
 {
     let variables = q.variables;
     let first = q.first;

@@ -21,6 +21,7 @@ use Rattle.query_rank.specs.declared.objective.Objective.{Objective}
 use Rattle.query_rank.specs.declared.objective.Objective.TheVariants.{Any, Fewest, Most}
 use Rattle.query_rank.specs.Objectives.{number_of}
 use Rattle.query_rank.specs.Ranks.{least_of, key_by, rank, rank_at, Between, LeastCost, LeastKey, Settled}
+use Rattle.query_rank.proofs.Numbers.{key_standing}
 
 between_sub : (chosen free s : ℕ) → Between chosen free s → Sub s (union chosen free)
 between_sub chosen free s b i m = go (b.most i m)
@@ -46,12 +47,18 @@ module _ (job : Job) (chosen free carried top : ℕ) where
 
   -- the lower bound has a permission outside top
   pub settled_short : (a : Best) (w : Bool) → w ≡ within (value job.lower) top → w ≡ false → Settled job chosen free carried top a
-  settled_short a w e f s c b lo hi m =
+  settled_short a w e f _ _ _ _ s c b lo hi m =
       not_both (within (value job.lower) top)
       (sub_within (value job.lower) top (λ i h. hi i (within_sub (value job.lower) c m i h))) (sym e ∙ f)
 
   -- the best so far is no worse than the least key with the lowest set number
   pub settled-rank : (a : Best) (key : ℕ) (w : Bool) → LeastKey job chosen free carried top key → w ≡ leb (rank_at a) (rank key chosen) → w ≡ true
       → Settled job chosen free carried top a
-  settled-rank a key w least e f s c b lo hi m =
-      omega (arith, leb-true (rank_at a) (rank key chosen) (sym e ∙ f), least s c b lo hi, sub-le chosen s b.least)
+  settled-rank a key w least e f x y h k s c b lo hi m =
+      omega (
+        arith,
+        leb-true (rank_at a) (rank key chosen) (sym e ∙ f),
+        least s c b lo hi,
+        sub-le chosen s b.least,
+        key_standing job.first job.second x y h k c s,
+      )

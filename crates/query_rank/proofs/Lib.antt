@@ -1,3 +1,4 @@
 -- The laws behind the rank of role sets.
+pub mod Numbers
 pub mod Ranks
 pub mod Bounds

@@ -16,8 +16,8 @@ use Rattle.query_rank.specs.declared.Best.{Best}
 use Rattle.query_rank.specs.declared.Job.{Job}
 use Rattle.query_rank.specs.declared.objective.Objective.{Objective}
 use Rattle.query_rank.specs.declared.objective.Objective.TheVariants.{Any, Fewest, Most}
-use Rattle.query_rank.specs.Objectives.{number_of}
-use Rattle.query_rank.specs.Ranks.{least_of, Costs, key_by, key_for, rank, rank_at, Judged}
+use Rattle.query_rank.specs.Objectives.{number_of, Stands}
+use Rattle.query_rank.specs.Ranks.{least_of, Costs, key_by, rank, rank_at, Judged, Ranked}
 
 -- ---- what an objective makes of a count
 pub cost_least : (o : Objective) (few n : ℕ) → n ≤ 256 → (o ≡ Fewest → few ≡ n) → Costs (number_of o) n (least_of o few n)
@@ -35,27 +35,26 @@ key_joins a b c s x y p q = rw (p.same, q.same)
 module _ (job : Job) (chosen carried : ℕ) (a : Best) where
   -- they lack some of the lower bound
   pub judged_short : (w : Bool) → w ≡ within (value job.lower) carried → w ≡ false → Judged job chosen carried a a
-  judged_short w e f =
+  judged_short w e f _ _ _ _ =
       record { old = le_refl (rank_at a); new = inl refl; least = λ m. not_both (within (value job.lower) carried) m (sym e ∙ f) }
 
-  module _ (next : Best) (b : Bool) (ranked : next ≡ record { key = key_for job carried chosen; roles = chosen })
-      (compared : b ≡ leb (rank_at a) (rank_at next)) where
-    same : rank_at next ≡ rank (key_for job carried chosen) chosen
-    same = ap rank_at ranked
+  module _ (next : Best) (b : Bool) (ranked : Ranked job chosen carried next) (compared : b ≡ leb (rank_at a) (rank_at next)) where
+    same : (m n : ℕ) → Stands job.first m → Stands job.second n → rank_at next ≡ rank (key_by m n carried chosen) chosen
+    same m n h k = ap rank_at (ranked m n h k)
 
     -- the best so far is no worse
     pub judged_worse : b ≡ true → Judged job chosen carried a a
-    judged_worse f =
+    judged_worse f m n h k =
         record {
           old = le_refl (rank_at a);
           new = inl refl;
-          least = λ _. subst (λ (k : ℕ). rank_at a ≤ k) same (leb-true (rank_at a) (rank_at next) (sym compared ∙ f));
+          least = λ _. subst (λ (x : ℕ). rank_at a ≤ x) (same m n h k) (leb-true (rank_at a) (rank_at next) (sym compared ∙ f));
         }
 
     pub judged-best : b ≡ false → (w : Bool) → w ≡ within (value job.lower) carried → w ≡ true → Judged job chosen carried a next
-    judged-best f w e g =
+    judged-best f w e g m n h k =
         record {
           old = le_of_lt (leb-false (rank_at a) (rank_at next) (sym compared ∙ f));
-          new = inr (sym e ∙ g, ranked);
-          least = λ _. subst (λ (k : ℕ). rank_at next ≤ k) same (le_refl (rank_at next));
+          new = inr (sym e ∙ g, ranked m n h k);
+          least = λ _. subst (λ (x : ℕ). rank_at next ≤ x) (same m n h k) (le_refl (rank_at next));
         }

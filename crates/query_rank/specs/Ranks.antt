@@ -9,7 +9,7 @@ use Rattle.query_rank.specs.declared.Job.{Job}
 use Rattle.query.specs.Carry.{Sub}
 use Rattle.query_rank.specs.declared.objective.Objective.{Objective}
 use Rattle.query_rank.specs.declared.objective.Objective.TheVariants.{Any, Fewest, Most}
-use Rattle.query_rank.specs.Objectives.{number_of}
+use Rattle.query_rank.specs.Objectives.{number_of, Stands}
 
 -- what an objective makes at least of counts from `few` to `many`
 abbrev pub least_of : Objective → ℕ → ℕ → ℕ
@@ -44,11 +44,21 @@ pub record Between (chosen free s : ℕ) : Type 0 where
 
 -- ---- the chosen roles judged, which carry the permissions `carried`
 
--- r is a, or the chosen roles where they carry the lower bound: the better
-pub record Judged (job : Job) (chosen carried : ℕ) (a r : Best) : Type 0 where
+-- r is a, or the chosen roles where they carry the lower bound: the better, with the key k of the chosen roles
+pub record JudgedBy (k lower chosen carried : ℕ) (a r : Best) : Type 0 where
   pub old : rank_at r ≤ rank_at a
-  pub new : (r ≡ a) ⊎ ((within (value job.lower) carried ≡ true) × (r ≡ record { key = key_for job carried chosen; roles = chosen }))
-  pub least : within (value job.lower) carried ≡ true → rank_at r ≤ rank (key_for job carried chosen) chosen
+  pub new : (r ≡ a) ⊎ ((within lower carried ≡ true) × (r ≡ record { key = k; roles = chosen }))
+  pub least : within lower carried ≡ true → rank_at r ≤ rank k chosen
+
+-- by each two numbers that stand for the objectives
+abbrev pub Judged : Job → ℕ → ℕ → Best → Best → Type 0
+Judged job chosen carried a r =
+    (m n : ℕ) → Stands job.first m → Stands job.second n → JudgedBy (key_by m n carried chosen) (value job.lower) chosen carried a r
+
+-- r is the chosen roles with their key, by each two numbers that stand for the objectives
+abbrev pub Ranked : Job → ℕ → ℕ → Best → Type 0
+Ranked job chosen carried r =
+    (m n : ℕ) → Stands job.first m → Stands job.second n → r ≡ record { key = key_by m n carried chosen; roles = chosen }
 
 -- ---- what no set between can better
 
@@ -62,8 +72,10 @@ pub record LeastCost (d objective a b r : ℕ) : Type 0 where
 abbrev pub LeastKey : Job → ℕ → ℕ → ℕ → ℕ → ℕ → Type 0
 LeastKey job chosen free carried top r = (s c : ℕ) → Between chosen free s → Sub carried c → Sub c top → r ≤ key_for job c s
 
--- no set between that carries the lower bound, the permissions `carried` and none outside `top` ranks before a
+-- by each two numbers that stand for the objectives: no set between that carries the lower bound, the permissions
+-- `carried` and none outside `top` ranks before a
 abbrev pub Settled : Job → ℕ → ℕ → ℕ → ℕ → Best → Type 0
 Settled job chosen free carried top a =
-    (s c : ℕ) → Between chosen free s → Sub carried c → Sub c top → within (value job.lower) c ≡ true
-    → rank_at a ≤ rank (key_for job c s) s
+    (m n : ℕ) → Stands job.first m → Stands job.second n
+    → (s c : ℕ) → Between chosen free s → Sub carried c → Sub c top → within (value job.lower) c ≡ true
+    → rank_at a ≤ rank (key_by m n c s) s

@@ -7,7 +7,7 @@ ghost use Rattle.model.specs.Sets.{union as union_of, count};
 ghost use Rattle.sets.specs.Words.{value};
 ghost use Rattle.query_rank.specs.declared.objective.Objective.TheVariants.{Fewest as FewestOf};
 ghost use Rattle.query_rank.specs.Objectives.{number_of};
-ghost use Rattle.query_rank.specs.Ranks.{least_of, Costs, key_for, rank_at, Judged, Settled};
+ghost use Rattle.query_rank.specs.Ranks.{least_of, Costs, rank_at, Judged, Ranked, Settled};
 
 pub mod objective; // objective.rt: what is asked of how many permissions are carried, and of how many roles are chosen
 
@@ -74,7 +74,7 @@ fn cost<S: Counted>(objective: Objective, set: S) -> u32
 
 // The chosen roles with their key, where they carry these permissions.
 pub fn rank_of(job: Job, chosen: u64, carried: [u64; 4]) -> Best
-    ensures { result ≡ record { key = key_for job (value carried) chosen; roles = chosen } }
+    ensures { Ranked job chosen (value carried) result }
 {
     let first = cost(job.first, carried) as u64;
     let second = cost(job.second, chosen) as u64;

@@ -1,5 +1,5 @@
 // An objective: what is asked of a number.
-ghost use Rattle.query_rank.specs.Objectives.{Reads};
+ghost use Rattle.query_rank.specs.Objectives.{Reads, Stands};
 
 use reasons::Reason;
 
@@ -23,6 +23,19 @@ impl TryFrom<u64> for Objective {
             1 => Ok(Objective::Fewest),
             2 => Ok(Objective::Most),
             _ => Err(Reason::Aim),
+        }
+    }
+}
+
+// The objective that a number stands for: every number from 2 up is the most.
+impl From<u8> for Objective {
+    ghost from_gives = { λ n o. Stands o n };
+
+    fn from(number: u8) -> Objective {
+        match number {
+            0 => Objective::Any,
+            1 => Objective::Fewest,
+            _ => Objective::Most,
         }
     }
 }

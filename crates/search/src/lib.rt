@@ -7,9 +7,9 @@ ghost use Rattle.model.specs.Policy.{Meaning};
 ghost use Rattle.model.specs.Choice.{choose};
 ghost use Rattle.sets.specs.Words.{value};
 ghost use Rattle.query_reduced.specs.Met.{reduced_met as reduced_met_of};
-ghost use Rattle.query_rank.specs.Objectives.{number_of};
+ghost use Rattle.query_rank.specs.Objectives.{Stands};
 ghost use Rattle.query.specs.Carry.{rows_of};
-ghost use Rattle.search_steps.specs.Search.{task_of, Found};
+ghost use Rattle.search_steps.specs.Search.{FoundFor};
 ghost use Rattle.search.specs.Answer.{answered, answer_of, no_best, Given};
 
 use query::carriers::join_carriers;
@@ -33,7 +33,7 @@ fn answer(best: Best) -> Option<u64>
 // is the most.
 fn best_of(query: &Query, free: u64) -> Best
     requires { reduced_met_of query.now.exclusions.now 0 ≡ true }
-    ensures { Found (task_of query.now) 0 free no_best result }
+    ensures { FoundFor query.now 0 free no_best result }
 {
     let none = Best {
         key: NONE,
@@ -54,12 +54,13 @@ fn best_of(query: &Query, free: u64) -> Best
 }
 
 // The best admissible role set, of the roles that the user may activate: at least the lower bound, nothing outside the
-// upper, and each exclusion met.
+// upper, and each exclusion met; the best by each two numbers that stand for the objectives.
 pub fn solve(query: &Query, upper: [u64; 4], authorized: u64) -> Option<u64>
-    ensures { (m : Meaning) (l : Line) (k : ℕ)
+    ensures { (m : Meaning) (l : Line) (k first second : ℕ)
+        → Stands query.now.job.first first
+        → Stands query.now.job.second second
         → Given m l k authorized (rows_of query.now.rows.now) (reduced_met_of query.now.exclusions.now)
-        → answered result ≡ choose m l k (value query.now.job.lower) (value upper) (number_of query.now.job.first)
-        (number_of query.now.job.second) }
+        → answered result ≡ choose m l k (value query.now.job.lower) (value upper) first second }
 {
     if !reduced_met(query.exclusions, 0) {
         return None;

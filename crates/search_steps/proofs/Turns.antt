@@ -4,6 +4,7 @@
 use mathlib.Core.Path.{◌≡◌, sym, ap, subst, ◌∙◌}
 use mathlib.Core.Bool.{Bool, true, false, ◌&&◌}
 use mathlib.Core.List.{List}
+use mathlib.Core.Logic.{◌⊎◌, inl, inr}
 use Prim.Native.Nat.{ℕ, ◌+◌, ◌-◌, ◌^◌, ◌≤◌, ◌<◌}
 use native.Mathlib.Nat.{le_of_lt}
 use native.Mathlib.Omega.{arith}
@@ -17,11 +18,12 @@ use Rattle.sets.specs.Members.{without, Lowest}
 use Rattle.sets.proofs.Taken.{count-without}
 use Rattle.query_rank.specs.declared.Best.{Best}
 use Rattle.query.specs.Carry.{rows_of, Turned, Sub, Keeps, Missing, Reaches}
-use Rattle.query_rank.specs.Ranks.{key_by, rank_at, Judged, Settled}
+use Rattle.query_rank.specs.Ranks.{key_by, rank, rank_at, Judged, Settled}
+use Rattle.query_rank.proofs.Numbers.{stands, key_standing}
 use Rattle.query.proofs.Members.{sub_count}
 use Rattle.query.proofs.Turned.{inter_keeps, keeps_turned}
 use Rattle.search_steps.specs.declared.Query.{Query}
-use Rattle.search_steps.specs.Search.{Task, task_of, carries, serves, rank_of, Ready, Modest, Found, Tried}
+use Rattle.search_steps.specs.Search.{Task, task_by, task_of, carries, serves, key_of, rank_of, Ready, Modest, Served, Found, Tried, FoundFor}
 use Rattle.search_steps.proofs.Between.{fewer-within}
 use Rattle.search_steps.proofs.Carried.{carried_sub, carried-with, Carried-none, top-bound}
 use Rattle.search_steps.proofs.Returns.{best_at, given_up, reached, taken_up, tried_none, tried_on, tried_off, both_ways, one_way, none_better, leaf}
@@ -117,7 +119,7 @@ barred_sub tries free role rest less h m er el = rw (er, el) (fewer-within tries
 pub judges : (q : Query) (chosen free carried : ℕ) (a r : Best) → Ready (task_of q) chosen carried → free ≡ 0 → Judged q.job chosen carried a r
     → Found (task_of q) chosen free a r
 judges q chosen free carried a r ready none judged =
-    let j = subst (λ (c : ℕ). Judged q.job chosen c a r) ready.carry judged in
+    let j = subst (λ (c : ℕ). Judged q.job chosen c a r) ready.carry judged _ _ (stands q.job.first) (stands q.job.second) in
     subst (λ (f : ℕ). Found (task_of q) chosen f a r) (sym none) (leaf (task_of q) chosen a r ready.met j.old j.new j.least)
 
 -- no set between is better than the best so far, by what the free roles carry from the lowest on
@@ -129,10 +131,23 @@ unfolding serves carries
 cuts_off q reach chosen free carried role top a b ready reaches low et settled e =
     let t = task_of q in
     let row = rows_of q.rows.now in
-    none_better t chosen free a (λ s between m. settled e s (carries t s) between
+    none_better t chosen free a (λ s between m. settled e t.first t.second (stands q.job.first) (stands q.job.second) s (carries t s) between
     (λ p k. carried_sub row 64 chosen s between.least p (ap (λ (x : ℕ). has x p) (sym ready.carry) ∙ k))
     (λ p k. ap (λ (x : ℕ). has x p) et ∙ top-bound row (rows_of reach) chosen free carried role reaches low ready.carry s between p k)
     (and_l (within t.lower (carries t s)) (t.met s) m))
+
+-- what is the best by the objectives' own numbers is so by each that stands for them
+pub found_for : (q : Query) (chosen free : ℕ) (a r : Best) → Found (task_of q) chosen free a r → FoundFor q chosen free a r
+unfolding serves carries
+found_for q chosen free a r f m n h k =
+    record { old = f.old; new = go f.new; least = λ s b v. subst (λ (x : ℕ). rank_at r ≤ rank x s) (same s) (f.least s b v) }
+  where
+    same : (s : ℕ) → key_of (task_of q) s ≡ key_of (task_by m n q) s
+    same s = key_standing q.job.first q.job.second m n h k (carries (task_of q) s) s
+
+    go : (r ≡ a) ⊎ Served (task_of q) chosen free r → (r ≡ a) ⊎ Served (task_by m n q) chosen free r
+    go (inl e) = inl e
+    go (inr v) = inr (record { between = v.between; serving = v.serving; keyed = v.keyed ∙ same r.roles })
 
 -- ---- what falls: the permissions still wanted and the roles still free
 

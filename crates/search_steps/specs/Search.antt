@@ -6,7 +6,7 @@ use Rattle.sets.specs.Words.{value}
 use Rattle.query_rank.specs.declared.Best.{Best}
 use Rattle.query_reduced.specs.Met.{reduced_met}
 use Rattle.query.specs.Carry.{rows_of, Turned}
-use Rattle.query_rank.specs.Objectives.{number_of}
+use Rattle.query_rank.specs.Objectives.{number_of, Stands}
 use Rattle.query_rank.specs.Ranks.{key_by, rank, rank_at, Between}
 use Rattle.search_steps.specs.declared.Query.{Query}
 use Rattle.query_rank.specs.declared.Node.{Node}
@@ -22,15 +22,20 @@ pub record Task : Type 0 where
   pub first : ℕ
   pub second : ℕ
 
-abbrev pub task_of : Query → Task
-task_of q =
+-- a query's task, with these numbers for its objectives
+abbrev pub task_by : ℕ → ℕ → Query → Task
+task_by a b q =
     record {
       row = rows_of q.rows.now;
       lower = value q.job.lower;
       met = reduced_met q.exclusions.now;
-      first = number_of q.job.first;
-      second = number_of q.job.second;
+      first = a;
+      second = b;
     }
+
+-- the same with the objectives' own numbers
+abbrev pub task_of : Query → Task
+task_of q = task_by (number_of q.job.first) (number_of q.job.second) q
 
 -- the permissions that the roles of s carry
 unfoldable pub carries : Task → ℕ → ℕ
@@ -85,3 +90,7 @@ pub record Tried (t : Task) (tries chosen free : ℕ) (a r : Best) : Type 0 wher
   pub old : rank_at r ≤ rank_at a
   pub new : (r ≡ a) ⊎ Served t chosen free r
   pub least : (s i : ℕ) → Between chosen free s → serves t s ≡ true → has tries i ≡ true → has s i ≡ true → rank_at r ≤ rank_of t s
+
+-- by each two numbers that stand for the objectives: r is the best of a and of the sets between that serve
+abbrev pub FoundFor : Query → ℕ → ℕ → Best → Best → Type 0
+FoundFor q chosen free a r = (m n : ℕ) → Stands q.job.first m → Stands q.job.second n → Found (task_by m n q) chosen free a r

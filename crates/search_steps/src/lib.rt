@@ -6,7 +6,7 @@ ghost use Rattle.std.specs.Prelude.{◌≡◌, false};
 ghost use Rattle.model.specs.Sets.{within};
 ghost use Rattle.sets.specs.Words.{value};
 ghost use Rattle.query.specs.Carry.{rows_of, Sub, Reaches};
-ghost use Rattle.search_steps.specs.Search.{task_of, Ready, Steps, Found, Tried};
+ghost use Rattle.search_steps.specs.Search.{task_of, Ready, Steps, Found, Tried, FoundFor};
 
 use model::Role;
 use query::carry::missing;
@@ -94,7 +94,7 @@ pub fn first_step(query: &Query, node: Node, best: Best, turned: &[u64; 256]) ->
 pub fn subset_step(query: &Query, reach: &[[u64; 4]; 64], node: Node, best: Best) -> Best
     requires { (Ready (task_of query.now) node.chosen (value node.carried))
         × (Reaches (rows_of query.now.rows.now) (rows_of reach.now) node.free) }
-    ensures { Found (task_of query.now) node.chosen node.free best result }
+    ensures { FoundFor query.now node.chosen node.free best result }
 {
     let permissions = fewest(query.job.first, node.carried);
     let roles = fewest(query.job.second, node.chosen);

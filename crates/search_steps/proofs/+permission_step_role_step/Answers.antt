@@ -2,6 +2,7 @@
 -- Assumes nothing.
 use Rattle.std.proofs.Common.{arith, ◌∙◌, refl, sym}
 use Rattle.sets.specs.Words.{value}
+use Rattle.query_rank.proofs.Numbers.{stands}
 use Rattle.search_steps.specs.Search.{task_of}
 use Rattle.query_reduced.proofs.MetLaws.{met_less}
 use Rattle.query.proofs.Turned.{turned_sub}
@@ -36,7 +37,7 @@ role_step-loop-k-preserved-then-no_worse t c =
     (gives_up (task_of c.args.query.now) _ _ _ _ _
     (ready_more (task_of c.args.query.now) _ _ _ c.requires.0.ready _ _ _ _ s.lowest.small c.with-more.ensures c.perm_union-sum.ensures refl
     c.reduced_met.ensures c.if-not-reduced_met.false)
-    c.rank_of-better.ensures c.no_worse.ensures _ c.requires.0.modest c.if-no_worse.true)
+    (c.rank_of-better.ensures _ _ (stands _) (stands _)) c.no_worse.ensures _ c.requires.0.modest c.if-no_worse.true)
 
 pub role_step-loop-k-preserved-then-perm_within : goal.role_step-loop-k-preserved-then-perm_within
 role_step-loop-k-preserved-then-perm_within t c =
@@ -46,7 +47,8 @@ role_step-loop-k-preserved-then-perm_within t c =
     (reaches (task_of c.args.query.now) _ _ _ _ _
     (ready_more (task_of c.args.query.now) _ _ _ c.requires.0.ready _ _ _ _ s.lowest.small c.with-more.ensures c.perm_union-sum.ensures refl
     c.reduced_met.ensures c.if-not-reduced_met.false)
-    c.rank_of-better.ensures c.no_worse.ensures _ c.requires.0.modest c.if-no_worse.false _ c.perm_within.ensures c.if-perm_within.true)
+    (c.rank_of-better.ensures _ _ (stands _) (stands _)) c.no_worse.ensures _ c.requires.0.modest c.if-no_worse.false _
+    c.perm_within.ensures c.if-perm_within.true)
 
 pub role_step-permission_step-found-requires : goal.role_step-permission_step-found-requires
 role_step-permission_step-found-requires t c =

@@ -4,6 +4,7 @@ use Rattle.model.specs.Policy.{meaning}
 use Rattle.model.specs.Run.{line_of}
 use Rattle.exclusion_rows.specs.Table.{exclusions_of}
 use Rattle.query.specs.Carry.{rows_of}
+use Rattle.query_rank.proofs.Numbers.{stands}
 use Rattle.asks.specs.Asks.{Asked}
 use Rattle.asks.proofs.Asks.{answers_none, answers_some}
 use Rattle.asks.proofs.Rows.{asked_of, chosen_none, chosen_some, chosen_own, carry_within}
@@ -17,7 +18,7 @@ returns-in_default c p x g =
     asked_of p _ x _ _ _ _ _ _ _ _ g c.ranges.authorized.fits
     (rw (← c.grants.ensures.granted, ← c.grants.ensures.below) c.carried-rows.ensures) c.line_of.ensures in
     answers_none p _ _ _ _ _
-    (chosen_none p _ x _ _ c.line_of.ensures _ _ _ _ _ _ (c.best.ensures p _ x q) c.in_default.is)
+    (chosen_none p _ x _ _ c.line_of.ensures _ _ _ _ _ _ (c.best.ensures p _ x _ _ (stands _) (stands _) q) c.in_default.is)
 
 pub returns : goal.returns
 unfolding line_of
@@ -26,7 +27,7 @@ returns c p x g =
     (rows_of c.carried-rows.result) =
     asked_of p _ x _ _ _ _ _ _ _ _ g c.ranges.authorized.fits
     (rw (← c.grants.ensures.granted, ← c.grants.ensures.below) c.carried-rows.ensures) c.line_of.ensures in
-    let o = chosen_some p _ x _ _ c.line_of.ensures _ _ _ _ _ _ (c.best.ensures p _ x q) _ c.in-Some.is in
+    let o = chosen_some p _ x _ _ c.line_of.ensures _ _ _ _ _ _ (c.best.ensures p _ x _ _ (stands _) (stands _) q) _ c.in-Some.is in
     let v = chosen_own p _ x _ _ c.args.authorized _ _ _ _ _ g.own_is o in
     let k = c.carried_by.ensures (meaning p c.args.who.user) (carry_within p _ _ _ _ q.carry v) in
     answers_some p _ _ _ _ _ _ _ _ _ _ _ o k c.line_of.ensures c.put_in.ensures c.put_line.ensures c.fill.ensures

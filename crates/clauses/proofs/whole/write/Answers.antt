@@ -5,8 +5,9 @@ use Rattle.clauses.proofs.WrittenLaws.{written, unwritten}
 use Rattle.clauses.proofs.whole.write.Goals as goal
 
 pub returns-then-out-size : goal.returns-then-out-size
-returns-then-out-size c = λ small. unwritten _ _ (omega (arith, small)) ((c.needed-size.ensures small).too_long c.if-out-size.true) c.if-out-size.true
+returns-then-out-size c a b h k =
+    λ small. unwritten _ _ (omega (arith, small)) ((c.needed-size.ensures a b h k small).too_long c.if-out-size.true) c.if-out-size.true
 
 pub returns : goal.returns
-returns c =
-    λ small. written _ _ (omega (arith, small)) c.put_text.ensures ((c.needed-size.ensures small).fits c.if-out-size.false)
+returns c a b h k =
+    λ small. written _ _ (omega (arith, small)) (c.put_text.ensures a b h k) ((c.needed-size.ensures a b h k small).fits c.if-out-size.false)
