@@ -2,3 +2,4 @@
 pub mod Closing
 pub mod Naming
 pub mod Filling
+pub mod Lowest

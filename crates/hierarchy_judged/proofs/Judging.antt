@@ -9,7 +9,8 @@ use native.Mathlib.Decide.{dec_lt}
 use native.Mathlib.Omega.{arith}
 use lib.ListN.{get_or}
 use Rattle.model.specs.declared.Head.{Head}
-use Rattle.model.specs.declared.Checked.TheVariants.{Accepted}
+use Rattle.model.specs.declared.Checked.{Checked}
+use Rattle.model.specs.declared.Checked.TheVariants.{Accepted, Refused}
 use Rattle.reasons.specs.declared.Reason.TheVariants.{Loop, Reach}
 use Rattle.reasons.specs.declared.Refusal.{Refusal}
 use Rattle.reasons.specs.Numbers.{checked_of}
@@ -21,7 +22,7 @@ use Rattle.model_laws.proofs.Bools.{not_both}
 use Rattle.model_laws.proofs.LowestLaws.{lowest_is}
 use Rattle.model_laws.proofs.UnionLaws.{has_none}
 use Rattle.hierarchy.proofs.Closing.{passed_over}
-use Rattle.hierarchy_judged.specs.Loops.{Fit, Gives, Judged}
+use Rattle.hierarchy_judged.specs.Loops.{Fit, Gives, Passed, Judged, Stands, Comes}
 use Rattle.hierarchy_judged.specs.Reach.{reach_at, wide_at, Authorizes}
 use Rattle.hierarchy_judged.proofs.Lowest.{below_none}
 use Rattle.hierarchy_judged.proofs.Reaching.{flat_alone}
@@ -128,3 +129,77 @@ module _ (p : Policy) (h : Head) (assigned juniors : List ℕ) (g : Gives p h as
       subst (λ (x : Result Head Refusal). Judged p c x assigned juniors) (sym e)
       (judged_ordered p h assigned juniors juniors g (flat_closed h.roles juniors flat) c e (below_none h.roles _ none) unfound assigned
       (flat_alone juniors h.users assigned h.roles f.roles flat f.few) refl)
+
+-- ---- an image whose words are judged, whatever says that they are refused
+
+module _ {R : Type 0} (p : Policy) (c : Result Head R) (own below : List ℕ) where
+  -- an accepted head's judgement is that of the words that accept it
+  pub words_stand : (h : Head) → c ≡ Ok h → Judged p (Ok h) (Ok h) own below → Stands p c own below
+  words_stand h e j = λ k q.
+      let z = sym e ∙ q in
+      let i : h ≡ k = cc in
+      subst (λ (x : Head). Judged p (Ok x) (Ok x) own below) i j
+
+  module _ (r : Result (Result Head Refusal) R) where
+    -- the words are refused
+    pub words_refused : (x : R) → c ≡ Err x → r ≡ Err x → Comes p c r own below
+    words_refused x e f =
+        record {
+          refused = λ y q.
+              let z = sym e ∙ q in
+              let i : x ≡ y = cc in
+              subst (λ (k : R). r ≡ Err k) i f;
+          accepted = λ h q. let z = sym e ∙ q in cc;
+        }
+
+    -- or they are accepted
+    pub words_accepted : (h : Head) (v : Result Head Refusal) → c ≡ Ok h → r ≡ Ok v → Judged p (Ok h) v own below → Comes p c r own below
+    words_accepted h v e f j =
+        record {
+          refused = λ y q. let z = sym e ∙ q in cc;
+          accepted = λ k q.
+              let z = sym e ∙ q in
+              let i : h ≡ k = cc in
+              (v, f, subst (λ (x : Head). Judged p (Ok x) v own below) i j);
+        }
+
+-- where the words' refusal is said as that by their meaning is, there is one judgement
+abbrev pub told : Result (Result Head Refusal) Refusal → Result Head Refusal
+told (Ok v) = v
+told (Err x) = Err x
+
+module _ (c : Result Head Refusal) (assigned juniors : List ℕ) where
+  pub stands_told : ((p : Policy) → Passed p c assigned juniors → Stands p c assigned juniors)
+      → (p : Policy) → Passed p c assigned juniors → Judged p c c assigned juniors
+  stands_told j p q = go c (j p q)
+    where
+      go : (x : Result Head Refusal) → Stands p x assigned juniors → Judged p x x assigned juniors
+      go (Ok h) s = s h refl
+      go (Err x) s = judged-refused p x (Err x) (Err x) assigned juniors refl refl
+
+  pub comes_told : (r : Result (Result Head Refusal) Refusal) (own below : List ℕ)
+      → ((p : Policy) → Passed p c assigned juniors → Comes p c r own below)
+      → (p : Policy) → Passed p c assigned juniors → Judged p c (told r) own below
+  comes_told r own below j p q = go c (j p q)
+    where
+      go : (x : Result Head Refusal) → Comes p x r own below → Judged p x (told r) own below
+      go (Ok h) k =
+          let a = k.accepted h refl in
+          subst (λ (y : Result Head Refusal). Judged p (Ok h) y own below) (sym (ap told a.1)) a.2
+      go (Err x) k = judged-refused p x (Err x) (told r) own below refl (ap told (k.refused x refl))
+
+-- whatever number and place the words' refusal has, what comes of them is what `judge_meaning` says
+module _ {R : Type 0} (n place : R → ℕ) where
+  abbrev pub words_as : Result Head R → Checked
+  words_as (Ok h) = Accepted h
+  words_as (Err x) = Refused (n x) (place x)
+
+  abbrev pub comes_as : Result (Result Head Refusal) R → Checked
+  comes_as (Ok v) = checked_of v
+  comes_as (Err x) = Refused (n x) (place x)
+
+  pub judged_as : (p : Policy) (c : Result Head R) (r : Result (Result Head Refusal) R) (own below : List ℕ)
+      → Comes p c r own below → comes_as r ≡ judge_meaning p (words_as c)
+  unfolding judge_meaning
+  judged_as p (Ok h) r own below j = let a = j.accepted h refl in ap comes_as a.1 ∙ a.2.verdict
+  judged_as p (Err x) r own below j = ap comes_as (j.refused x refl)

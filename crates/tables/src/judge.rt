@@ -18,5 +18,5 @@ pub fn judge(image: &[u8]) -> Result<Head, Refusal>
     if settled(words, &juniors) {
         return words;
     }
-    judged(words, &mut assigned, &mut juniors)
+    judged(words, &mut assigned, &mut juniors)?
 }

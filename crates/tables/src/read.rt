@@ -118,7 +118,7 @@ pub fn read(image: &[u8], tables: &mut PolicyTables) -> Result<(), Refusal>
         words?;
         return Ok(());
     }
-    judged(words, &mut tables.authorized, &mut tables.below)?;
+    judged(words, &mut tables.authorized, &mut tables.below)??;
     Ok(())
 }
 
@@ -137,6 +137,6 @@ pub fn read_direct(image: &[u8], tables: &mut PolicyTables) -> Result<(), Refusa
     }
     let mut own = tables.authorized;
     let mut below = tables.below;
-    judged(words, &mut own, &mut below)?;
+    judged(words, &mut own, &mut below)??;
     Ok(())
 }

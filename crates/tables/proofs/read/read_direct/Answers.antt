@@ -1,6 +1,7 @@
 -- `tables::read::read_direct` meets its contract.
 -- Assumes nothing.
-use Rattle.std.proofs.Common.{◌≡◌, Err, rules}
+use Rattle.std.proofs.Common.{◌≡◌, Err, ap, ◌∙◌, rules}
+use Rattle.hierarchy_judged.proofs.Judging.{told, stands_told, comes_told}
 use Rattle.tables.proofs.Fills.{tables_fit, tables_refused, tables_accepted, direct_read}
 use Rattle.tables.proofs.read.read_direct.Goals as goal
 
@@ -10,15 +11,16 @@ settled-requires c = λ h e. (tables_fit _ _ c.gather-words.ensures.0 _ c.gather
 pub returns-in_err-words-clause-refused : goal.returns-in_err-words-clause-refused
 returns-in_err-words-clause-refused c =
     let fit = tables_fit _ _ c.gather-words.ensures.0 _ c.gather-words.ensures.1 in
+    let stood = stands_told _ _ _ (λ p. c.settled.ensures c.if-settled.true p _ fit) in
     let e : c.from_residual.result ≡ Err c.in_err-words.field-0.0 = search rules in
-    rw e
-    (tables_refused _ _ c.gather-words.ensures.0 _ c.gather-words.ensures.1 _ _ _ (λ p q. c.settled.ensures c.if-settled.true p _ fit q) _ c.in_err-words.was)
+    rw e (tables_refused _ _ c.gather-words.ensures.0 _ c.gather-words.ensures.1 _ _ _ stood _ c.in_err-words.was)
 
 pub returns-then-settled-clause-accepted : goal.returns-then-settled-clause-accepted
 returns-then-settled-clause-accepted c =
-    let fit = tables_fit _ _ c.gather-words.ensures.0 _ c.gather-words.ensures.1 in (
-      tables_accepted _ _ c.gather-words.ensures.0 _ c.gather-words.ensures.1 _ _ _ (λ p q. c.settled.ensures c.if-settled.true p _ fit q) _ c.in_ok-words.was,
-      direct_read _ _ c.gather-words.ensures.0 _ c.gather-words.ensures.1 _ _ _ (λ p q. c.settled.ensures c.if-settled.true p _ fit q) _ c.in_ok-words.was,
+    let fit = tables_fit _ _ c.gather-words.ensures.0 _ c.gather-words.ensures.1 in
+    let stood = stands_told _ _ _ (λ p. c.settled.ensures c.if-settled.true p _ fit) in (
+      tables_accepted _ _ c.gather-words.ensures.0 _ c.gather-words.ensures.1 _ _ _ stood _ c.in_ok-words.was,
+      direct_read _ _ c.gather-words.ensures.0 _ c.gather-words.ensures.1 _ _ _ stood _ c.in_ok-words.was,
     )
 
 pub judged-requires : goal.judged-requires
@@ -26,11 +28,22 @@ judged-requires c = tables_fit _ _ c.gather-words.ensures.0 _ c.gather-words.ens
 
 pub returns-in_err-judged-clause-refused : goal.returns-in_err-judged-clause-refused
 returns-in_err-judged-clause-refused c =
+    let came = comes_told _ _ _ _ _ _ c.judged.ensures in
     let e : c.from_residual-in_err-judged.result ≡ Err c.in_err-judged.field-0.0 = search rules in
-    rw e (tables_refused _ _ c.gather-words.ensures.0 _ c.gather-words.ensures.1 _ _ _ c.judged.ensures _ c.in_err-judged.was)
+    rw e (tables_refused _ _ c.gather-words.ensures.0 _ c.gather-words.ensures.1 _ _ _ came _ (ap told c.in_err-judged.was))
+
+pub returns-in_err-branch-clause-refused : goal.returns-in_err-branch-clause-refused
+returns-in_err-branch-clause-refused c =
+    let came = comes_told _ _ _ _ _ _ c.judged.ensures in
+    let e : c.from_residual-in_err-branch.result ≡ Err c.in_err-branch.field-0.0 = search rules in
+    rw e
+    (tables_refused _ _ c.gather-words.ensures.0 _ c.gather-words.ensures.1 _ _ _ came _
+    (ap told c.in_ok-judged.was ∙ c.in_err-branch.was))
 
 pub returns-clause-accepted : goal.returns-clause-accepted
-returns-clause-accepted c = (
-  tables_accepted _ _ c.gather-words.ensures.0 _ c.gather-words.ensures.1 _ _ _ c.judged.ensures _ c.in_ok-judged.was,
-  direct_read _ _ c.gather-words.ensures.0 _ c.gather-words.ensures.1 _ _ _ c.judged.ensures _ c.in_ok-judged.was,
-)
+returns-clause-accepted c =
+    let came = comes_told _ _ _ _ _ _ c.judged.ensures in
+    let e = ap told c.in_ok-judged.was ∙ c.in_ok-branch.was in (
+      tables_accepted _ _ c.gather-words.ensures.0 _ c.gather-words.ensures.1 _ _ _ came _ e,
+      direct_read _ _ c.gather-words.ensures.0 _ c.gather-words.ensures.1 _ _ _ came _ e,
+    )
