@@ -9,21 +9,20 @@ ghost use Rattle.exclusion_rows.specs.Table.{exclusions_of};
 ghost use Rattle.ledger.specs.Held.{few_in as few_in_of, Held};
 
 use crate::bytes::{LINE, line_bytes, line_of, session_at};
-use crate::lines::LineBytes;
 use crate::sound::{session_sound, sound};
 use exclusion_rows::ExclusionTable;
 use model::SESSIONS;
-use policy_tables::PolicyTables;
 use sets::counted::Counted;
 
 // Every session of the line's bytes is sound, by its open bits and the user's history.
-fn sessions_sound_in(line: &LineBytes, opened: u64, history: u64, authorized: u64) -> bool
+fn sessions_sound_in(bytes: &[u8], sessions: u8, opened: u64, history: u64, authorized: u64) -> bool
+    requires { (length bytes.now ≡ line_size sessions) × (sessions ≤ 64) }
     ensures { (m : Meaning) (l : LineOf) → m.authorized ≡ authorized → l.opened ≡ opened → l.history ≡ history
-        → result ≡ sessions_sound m l 0 (read_sessions line.now.sessions (drop 16 line.now.bytes.now)) }
+        → result ≡ sessions_sound m l 0 (read_sessions sessions (drop 16 bytes.now)) }
 {
     // The sessions go by number: each has its bytes at an offset, and its open bit.
-    for k in 0..line.sessions as usize {
-        let s = session_at(line.bytes, 16 + 16 * k);
+    for k in 0..sessions as usize {
+        let s = session_at(bytes, 16 + 16 * k);
         if !session_sound(opened, history, k, s, authorized) {
             return false;
         }
@@ -43,38 +42,37 @@ fn few_in(set: u64, xs: &ExclusionTable) -> bool
     true
 }
 
-// The line, of a user who may activate the roles `own`, is plainly sound.
-pub fn plainly_sound(line: &LineBytes, tables: &PolicyTables, own: u64) -> bool
-    ensures { result ≡ true → (m : Meaning) → Held tables.now.head.roles own (exclusions_of tables.now.exclusions) m
-        → sound_by line.now.sessions m (read_line line.now.sessions line.now.bytes.now) ≡ true }
+// The line of so many sessions, of a user who may activate the roles `own`, is plainly sound. A line of none, or of
+// more than SESSIONS, is judged too: so it takes the bytes and the number, and no `LineBytes`.
+pub fn plainly_sound(bytes: &[u8], sessions: u8, roles: u8, own: u64, xs: &ExclusionTable) -> bool
+    requires { (length bytes.now ≡ line_size sessions) × (sessions ≤ 64) }
+    ensures { result ≡ true → (m : Meaning) → Held roles own (exclusions_of xs.now) m
+        → sound_by sessions m (read_line sessions bytes.now) ≡ true }
 {
-    let opened = octets::get_u64(line.bytes, 0);
-    let history = octets::get_u64(line.bytes, 8);
-    let formed = opened.below(line.sessions as u16) & history.below(tables.head.roles as u16);
+    let opened = octets::get_u64(bytes, 0);
+    let history = octets::get_u64(bytes, 8);
+    let formed = opened.below(sessions as u16) & history.below(roles as u16);
     if !formed {
         return false;
     }
-    if !sessions_sound_in(line, opened, history, own) {
+    if !sessions_sound_in(bytes, sessions, opened, history, own) {
         return false;
     }
-    few_in(history, &tables.exclusions)
+    few_in(history, xs)
 }
 
 // The user's line of the ledger is sound, where the user may activate the roles `own`: plainly, or by all that a line
 // is judged by. By a `Ledger` the number of sessions is unknown where a line is judged, and a call that judges 64 lines
 // takes 1.13 of the time: the user's place is a clause.
-pub fn sound_at(ledger: &[u8], user: usize, tables: &PolicyTables, own: u64) -> bool
+pub fn sound_at(ledger: &[u8], user: usize, roles: u8, own: u64, xs: &ExclusionTable) -> bool
     requires { line_size SESSIONS * user + line_size SESSIONS ≤ length ledger.now }
-    ensures { (m : Meaning) → Held tables.now.head.roles own (exclusions_of tables.now.exclusions) m
+    ensures { (m : Meaning) → Held roles own (exclusions_of xs.now) m
         → result ≡ sound_by SESSIONS m (read_line SESSIONS (line_at (line_size SESSIONS) user ledger.now)) }
 {
-    let line = LineBytes {
-        bytes: line_bytes(ledger, LINE, user),
-        sessions: SESSIONS as u8,
-    };
-    if plainly_sound(&line, tables, own) {
+    let bytes = line_bytes(ledger, LINE, user);
+    if plainly_sound(bytes, SESSIONS as u8, roles, own, xs) {
         return true;
     }
     let l = line_of(ledger, user);
-    sound(l, tables.head.roles, own, &tables.exclusions)
+    sound(l, roles, own, xs)
 }

@@ -22,7 +22,7 @@ pub fn line_sound(ledger: &[u8], tables: &PolicyTables, v: usize) -> bool
         → result ≡ sound_by SESSIONS (meaning p v) (line_of SESSIONS ledger.now v) }
 {
     let own = roles_of(&tables.authorized, v);
-    sound_at(ledger, v, tables, own)
+    sound_at(ledger, v, tables.head.roles, own, &tables.exclusions)
 }
 
 // A refusal for the line of user v, which names that user by v plus 1, where it is not the asker.

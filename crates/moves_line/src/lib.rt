@@ -66,7 +66,13 @@ fn line_sound(line: &LineBytes, tables: &PolicyTables, own: u64) -> bool
     ensures { (m : Meaning) → Antitone m → Held tables.now.head.roles own (exclusions_of tables.now.exclusions) m
         → result ≡ sound_by line.now.sessions m (read_line line.now.sessions line.now.bytes.now) }
 {
-    if plainly_sound(line, tables, own) {
+    if plainly_sound(
+        line.bytes,
+        line.sessions,
+        tables.head.roles,
+        own,
+        &tables.exclusions,
+    ) {
         return true;
     }
     let l = line_in(line);

@@ -35,7 +35,7 @@ pub fn first_refusal(ledger: &[u8], tables: &PolicyTables, user: u64) -> Result<
     }
     let u = user as usize;
     let own = roles_of(&tables.authorized, u);
-    if !sound_at(ledger, u, tables, own) {
+    if !sound_at(ledger, u, tables.head.roles, own, &tables.exclusions) {
         return Err(Reason::Line);
     }
     Ok(())

@@ -20,13 +20,15 @@ get_u64-history-requires c = omega arith
 pub returns-then-not-formed : goal.returns-then-not-formed
 returns-then-not-formed c t m h = not_both false t refl
 
+pub sessions_sound_in-requires : goal.sessions_sound_in-requires
+sessions_sound_in-requires c = c.requires
+
 pub returns-then-not-sessions_sound_in : goal.returns-then-not-sessions_sound_in
 returns-then-not-sessions_sound_in c t m h = not_both false t refl
 
 pub returns : goal.returns
 returns c t m h =
-    plain-line c.args.line.now.sessions c.args.tables.now.head.roles c.args.own (exclusions_of c.args.tables.now.exclusions)
-    c.args.line.now.bytes.now c.get_u64-opened.ensures
+    plain-line c.args.sessions c.args.roles c.args.own (exclusions_of c.args.xs.now) c.args.bytes.now c.get_u64-opened.ensures
     c.get_u64-history.ensures
     c.below.ensures c.below-2.ensures c.if-not-formed.false c.sessions_sound_in.ensures
     c.if-not-sessions_sound_in.false c.few_in.ensures t m h

@@ -11,10 +11,10 @@ use Rattle.ledger.proofs.plainly.sessions_sound_in.Given as goal
 
 abbrev pub invariant-loop-k : goal.invariant-loop-k
 invariant-loop-k l =
-    (l.k ≤ l.line.sessions)
+    (l.k ≤ l.sessions)
     × ((m : Meaning) (w : Line) → m.authorized ≡ l.authorized → w.opened ≡ l.opened → w.history ≡ l.history
-    → sessions_sound m w l.k (drop l.k (read_sessions l.line.sessions (drop 16 l.line.bytes.now)))
-    ≡ sessions_sound m w 0 (read_sessions l.line.sessions (drop 16 l.line.bytes.now)))
+    → sessions_sound m w l.k (drop l.k (read_sessions l.sessions (drop 16 l.bytes)))
+    ≡ sessions_sound m w 0 (read_sessions l.sessions (drop 16 l.bytes)))
 
 abbrev pub decreases-loop-k : goal.decreases-loop-k
-decreases-loop-k l = l.line.sessions - l.k
+decreases-loop-k l = l.sessions - l.k
