@@ -101,7 +101,7 @@ pub fn set_packed(out: &mut [u8], at: usize, p: usize) -> usize
 }
 
 // Puts the bytes of a number byte by byte, at most k and one more.
-fn put_each(out: &mut [u8], at: usize, k: usize, p: usize) -> usize
+pub fn put_each(out: &mut [u8], at: usize, k: usize, p: usize) -> usize
     ensures { Puts out.old at (packed_to k p) out.new result }
 {
     let next = put(out, at, low_byte(p));

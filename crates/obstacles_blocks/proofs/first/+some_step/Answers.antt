@@ -1,6 +1,6 @@
 -- `obstacles_blocks::first::some_step` meets its contract.
 -- Assumes nothing.
-use Rattle.std.proofs.Common.{arith, refl}
+use Rattle.std.proofs.Common.{rules, arith, refl}
 use Rattle.sets.specs.Words.{value}
 use Rattle.query.specs.Carry.{rows_of}
 use Rattle.search_steps.specs.Search.{task_of}
@@ -54,7 +54,7 @@ pub loop-k-preserved : goal.loop-k-preserved
 loop-k-preserved t c =
     let s = c.in-Some-k.ensures.steps in
     passing_on (task_of c.args.query.now) _ _ _ _ c.loop-k.invariant _ _ _ _ s.lowest.member s.rest c.without-less.ensures c.with-more.ensures
-    _ c.some_step.ensures c.if-some_step.false
+    _ c.some_step.ensures (search rules)
 
 pub returns : goal.returns
 returns t c = passing_end _ _ _ _ _ c.loop-k.invariant c.in-None.ensures.steps.0
