@@ -1,13 +1,22 @@
 -- A line goes on by a byte that is kept, or ends at a newline.
 -- Assumes nothing.
 use mathlib.Core.Path.{◌≡◌, refl, sym, ap, ◌∙◌}
-use mathlib.Core.List.{List, [], ◌∷◌, ◌++◌}
-use Prim.Native.Nat.{ℕ, zero, suc, ◌+◌, ◌*◌, ◌≤◌, ◌<◌}
+use mathlib.Core.Bool.{Bool, true, false, not, cond}
+use mathlib.Core.List.{List, [], ◌∷◌, ◌++◌, append-nil, append_assoc}
+use Prim.Native.Nat.{ℕ, zero, suc, ◌+◌, ◌-◌, ◌*◌, min, ◌≤◌, ◌<◌}
 use native.Mathlib.Numerals.{add-one}
 use native.Mathlib.Omega.{arith}
-use lib.ListN.{length, get_or, set, take, drop, replicate, length-replicate}
-use lib.Seq.{length-take-le, take-suc-set, drop-cons}
-use borrow.Author.Tests.{lt-ltb, le-ltb, eq-eqb, ne_eqb}
+use lib.Dec.{eqb, ltb}
+use lib.ListN.{length, get_or, set, take, drop, replicate, length-append, length-drop, length-replicate}
+use lib.Seq.{length-take-le, take_all, get_or-take, get_or-drop, take-append-le, take-append-add, append_snoc, drop-drop, take-suc-set, drop-cons}
+use borrow.Author.Tests.{lt-ltb, le-ltb, ltb-true, ltb-false, eq-eqb, ne_eqb, eqb-true, eqb-false}
+use borrow.Rule.Slice.PartMut.{put_mid}
+use Rattle.std.proofs.Common.{Option, Some, None}
+use Rattle.std.specs.List.{position_or_len}
+use Rattle.std.specs.Option.{unwrap_or}
+use Rattle.std.proofs.lemmas.List.{take_min, take-append-drop}
+use Rattle.std.proofs.lemmas.Slice.{take-put_mid}
+use Rattle.std.proofs.lemmas.List.Sums.{prefix_len-le-length, fails_before_first, passes_at_first}
 use Rattle.model.specs.declared.Head.{Head}
 use Rattle.model.specs.declared.Checked.{Checked}
 use Rattle.model.specs.declared.Checked.TheVariants.{Accepted, Refused}
@@ -16,8 +25,9 @@ use Rattle.model.specs.Line.{SESSIONS, line_size}
 use Rattle.model_laws.proofs.Judgements.{accepted-head, accepted_in_range}
 use Rattle.model_script.specs.Script.{first_ledger}
 use Rattle.script_input.specs.Kept.{keeping, last_line, lines_from}
+use Rattle.script_input.specs.Buffers.{keeping_all, Gathers}
 
--- ---- a byte kept
+-- ---- bytes kept
 
 -- a line of fewer than 174 bytes gets it, a longer one stays as it is
 pub keeping-one : (line : List ℕ) (c : ℕ) → length line < 174 → keeping line c ≡ line ++ (c ∷ [])
@@ -39,7 +49,52 @@ kept_none l k c e m h =
     let n : length (take k l) ≡ k = length-take-le k l (omega arith) in
     sym (keeping_none (take k l) c (omega arith))
 
+-- bytes that are kept one after the other are the first 174 of the longer line
+keeping_more : (line : List ℕ) (c : ℕ) (cs : List ℕ) → take 174 (keeping line c ++ cs) ≡ take 174 (line ++ (c ∷ cs))
+keeping_more line c cs = go (ltb (length line) 174) refl
+  where
+    go : (b : Bool) → ltb (length line) 174 ≡ b → take 174 (keeping line c ++ cs) ≡ take 174 (line ++ (c ∷ cs))
+    go true e = ap (take 174) (ap (λ x. x ++ cs) (keeping-one line c (ltb-true _ _ e)) ∙ append_snoc line c cs)
+    go false e =
+        let h : 174 ≤ length line = ltb-false _ _ e in
+        ap (λ x. take 174 (x ++ cs)) (keeping_none line c h) ∙ take-append-le 174 line cs h ∙ sym (take-append-le 174 line (c ∷ cs) h)
+
+keeping-most : (line : List ℕ) (c : ℕ) → length line ≤ 174 → length (keeping line c) ≤ 174
+keeping-most line c m = go (ltb (length line) 174) refl
+  where
+    go : (b : Bool) → ltb (length line) 174 ≡ b → length (keeping line c) ≤ 174
+    go true e =
+        let h : length line < 174 = ltb-true _ _ e in
+        rw (keeping-one line c h) (omega (arith, length-append line (c ∷ [])))
+    go false e = rw (keeping_none line c (ltb-false _ _ e)) m
+
+keeping_first : (line cs : List ℕ) → length line ≤ 174 → keeping_all line cs ≡ take 174 (line ++ cs)
+unfolding keeping_all
+keeping_first line [] m = sym (ap (take 174) (append-nil line) ∙ take_all 174 line m)
+keeping_first line (c ∷ cs) m = keeping_first (keeping line c) cs (keeping-most line c m) ∙ keeping_more line c cs
+
+-- of them only as many have room as are missing at the 174
+room : (line cs : List ℕ) (n : ℕ) → length line ≤ 174 → n ≡ min (length cs) (174 - length line) → take 174 (line ++ cs) ≡ line ++ take n cs
+room line cs n m e =
+    let t : 174 ≡ length line + (174 - length line) = omega arith in
+    let f : n ≡ min (174 - length line) (length cs) = omega (arith, e) in
+    ap (λ x. take x (line ++ cs)) t ∙ take-append-add line cs (174 - length line)
+    ∙ ap (λ x. line ++ x) (sym (ap (λ x. take x cs) f ∙ take_min (174 - length line) cs))
+
+-- the same in the first bytes of a buffer: as many as there is room for are written
+pub kept_all : (l : List ℕ) (k n : ℕ) (bytes part : List ℕ) → length l ≡ 174 → k ≤ 174 → n ≡ min (length bytes) (174 - k)
+    → part ≡ take n bytes → take (k + n) (put_mid k (k + n - k) l part) ≡ keeping_all (take k l) bytes
+kept_all l k n bytes part e m h p =
+    let f : length (take k l) ≡ k = length-take-le k l (omega arith) in
+    let r : length part ≡ n = ap length p ∙ length-take-le n bytes (omega (arith, h)) in
+    take-put_mid k (k + n - k) l part (k + n) (omega (arith, r)) (omega arith)
+    ∙ ap (λ x. take k l ++ x) p
+    ∙ sym (keeping_first (take k l) bytes (omega (arith, f)) ∙ room (take k l) bytes n (omega (arith, f)) (rw f h))
+
 -- ---- a byte of a chunk
+
+abbrev pub is_newline : ℕ → Bool
+is_newline c = eqb c 10
 
 -- a newline ends the line, any other byte makes it longer
 pub by_newline : (line : List ℕ) (c : ℕ) (cs : List ℕ) → c ≡ 10 → lines_from line (c ∷ cs) ≡ line ∷ lines_from [] cs
@@ -50,18 +105,59 @@ pub by_other : (line : List ℕ) (c : ℕ) (cs : List ℕ) → (c ≡ 10 → ⊥
 unfolding lines_from
 by_other line c cs d = rw (ne_eqb c 10 d, lines_from)
 
+-- bytes of which none is a newline are kept
+lines_kept : (line cs more : List ℕ) → ((k : ℕ) → k < length cs → get_or cs k 0 ≡ 10 → ⊥)
+    → lines_from line (cs ++ more) ≡ lines_from (keeping_all line cs) more
+unfolding keeping_all
+lines_kept line [] more d = refl
+lines_kept line (c ∷ cs) more d =
+    by_other line c (cs ++ more) (d 0 (omega arith)) ∙ lines_kept (keeping line c) cs more (λ k h. d (suc k) (omega arith))
+
 -- the next byte of a chunk, and what is behind it
 at_byte : (chunk : List ℕ) (i : ℕ) (more : List ℕ) → i < length chunk → drop i chunk ++ more ≡ get_or chunk i 0 ∷ (drop (i + 1) chunk ++ more)
 at_byte chunk i more h = rw (add-one i, drop-cons chunk i 0 h)
 
--- a byte that is no newline is kept
-pub goes_on : (chunk : List ℕ) (i : ℕ) (line longer : List ℕ) → i < length chunk → (get_or chunk i 0 ≡ 10 → ⊥)
-    → longer ≡ keeping line (get_or chunk i 0) → (more : List ℕ)
-    → lines_from line (drop i chunk ++ more) ≡ lines_from longer (drop (i + 1) chunk ++ more)
-goes_on chunk i line longer h d e more =
-    ap (lines_from line) (at_byte chunk i more h)
-    ∙ by_other line (get_or chunk i 0) (drop (i + 1) chunk ++ more) d
-    ∙ ap (λ x. lines_from x (drop (i + 1) chunk ++ more)) (sym e)
+-- bytes that are no newline are kept
+pub goes_on : (chunk : List ℕ) (i n : ℕ) (line longer : List ℕ) → n ≤ length (drop i chunk)
+    → ((k : ℕ) → k < n → get_or (drop i chunk) k 0 ≡ 10 → ⊥) → longer ≡ keeping_all line (take n (drop i chunk)) → (more : List ℕ)
+    → lines_from line (drop i chunk ++ more) ≡ lines_from longer (drop (i + n) chunk ++ more)
+goes_on chunk i n line longer h d e more =
+    let rest = drop i chunk in
+    let f : length (take n rest) ≡ n = length-take-le n rest h in
+    ap (λ x. lines_from line (x ++ more)) (sym (take-append-drop n rest))
+    ∙ ap (lines_from line) (append_assoc (take n rest) (drop n rest) more)
+    ∙ lines_kept line (take n rest) (drop n rest ++ more) (λ k l. let b : k < n = omega (arith, l, f) in rw (get_or-take n rest k 0 b) (d k b))
+    ∙ rw (← e, drop-drop n i chunk) refl
+
+-- where the first newline stands, or how many bytes there are
+pub newline_place : (xs : List ℕ) (n : ℕ) (r : Option ℕ)
+    → r ≡ cond (ltb (position_or_len is_newline xs) (length xs)) (Some (position_or_len is_newline xs)) None → n ≡ unwrap_or r (length xs)
+    → n ≡ position_or_len is_newline xs
+newline_place xs n r e u = go (ltb p (length xs)) refl
+  where
+    p : ℕ
+    p = position_or_len is_newline xs
+
+    go : (b : Bool) → ltb p (length xs) ≡ b → n ≡ p
+    go true t = u ∙ rw (e, t) refl
+    go false t = u ∙ rw (e, t) (omega (arith, ltb-false _ _ t, prefix_len-le-length (λ c. not (is_newline c)) xs))
+
+-- bytes as far as the first newline, or the end of the chunk, are gathered
+pub gathered : (chunk : List ℕ) (i n : ℕ) (line longer : List ℕ) → i ≤ length chunk
+    → n ≡ position_or_len is_newline (drop i chunk) → longer ≡ keeping_all line (take n (drop i chunk))
+    → Gathers chunk i line longer (i + n)
+gathered chunk i n line longer h e k =
+    let rest = drop i chunk in
+    let f : length rest ≡ length chunk - i = length-drop i chunk in
+    let m : n ≤ length rest = rw e (prefix_len-le-length (λ c. not (is_newline c)) rest) in
+    record {
+      onward = omega arith;
+      inside = omega (arith, m, f, h);
+      newline = λ l.
+          let b : n < length rest = omega (arith, l, f, h) in
+          rw (← get_or-drop i chunk n 0) (eqb-true _ _ (rw e (passes_at_first is_newline rest 0 (rw (← e) b))));
+      same = goes_on chunk i n line longer m (λ j l. eqb-false _ _ (fails_before_first is_newline rest j 0 (rw (← e) l))) k;
+    }
 
 -- a newline of a chunk ends the line
 pub ends : (chunk : List ℕ) (i : ℕ) (line more : List ℕ) → i < length chunk → get_or chunk i 0 ≡ 10

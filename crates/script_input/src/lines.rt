@@ -4,7 +4,7 @@ ghost use Rattle.model.specs.Judgement.{judge};
 ghost use Rattle.model.specs.Line.{SESSIONS};
 ghost use Rattle.model_script.specs.Script.{first_ledger};
 ghost use Rattle.script_input.specs.Kept.{keeping};
-ghost use Rattle.script_input.specs.Buffers.{Gathers};
+ghost use Rattle.script_input.specs.Buffers.{keeping_all, Gathers};
 
 use ledger::bytes::LINE;
 use std::marker::Model;
@@ -81,14 +81,18 @@ impl BegunLine {
         requires { next ≤ length chunk.now }
         ensures { Gathers chunk.now next self.old self.new result }
     {
-        // The bytes are walked by index: where the newline stands is the answer.
-        for i in next..chunk.len() {
-            let c = chunk[i];
-            if c == b'\n' {
-                return i;
-            }
-            self.keep(c);
-        }
-        chunk.len()
+        let rest = &chunk[next..];
+        let count = rest.iter().position(|c| *c == b'\n').unwrap_or(rest.len());
+        self.keep_all(&rest[..count]);
+        next + count
+    }
+
+    // Keeps the bytes, as many as there is room for.
+    fn keep_all(&mut self, bytes: &[u8])
+        ensures { self.new ≡ keeping_all self.old bytes.now }
+    {
+        let more = bytes.len().min(174 - self.kept);
+        self.buffer[self.kept..self.kept + more].copy_from_slice(&bytes[..more]);
+        self.kept += more;
     }
 }

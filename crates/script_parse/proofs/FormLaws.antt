@@ -1,11 +1,10 @@
--- The call that words are, read word by word behind the keyword.
+-- The call that words are, by how many stand behind the keyword.
 -- Assumes nothing.
-use mathlib.Core.Path.{◌≡◌, refl, sym}
+use mathlib.Core.Path.{◌≡◌, refl, sym, ap, ◌∙◌}
 use mathlib.Core.Bool.{Bool, true, false, ◌&&◌, true≢false}
 use mathlib.Core.Option as maths
 use mathlib.Core.List.{List, [], ◌∷◌}
 use Prim.Native.Nat.{ℕ}
-use lib.ListN.{drop}
 use Rattle.std.proofs.Common.{Option, Some, None}
 use Rattle.std.specs.Option.{option_and_then, is_some}
 use Rattle.std.proofs.lemmas.Slice.Eq.{IsBytesEq, compares_Decides}
@@ -16,7 +15,7 @@ use Rattle.script_numerals.specs.Numbers.{number_of, bound_of}
 use Rattle.script_lines.specs.Cutting.{nothing_left}
 use Rattle.script_parse.specs.declared.Call.{Call}
 use Rattle.script_parse.specs.declared.Call.TheVariants.{Open, Close, Show, ShortAsk, Ask}
-use Rattle.script_parse.specs.Reading.{first_number, first_bound, two_numbers, called, call_in}
+use Rattle.script_parse.specs.Reading.{first_number, two_numbers, called, call_in}
 
 and-true : (b : Bool) → (b && true) ≡ b
 and-true true = refl
@@ -58,40 +57,51 @@ pick-false x y = refl
 
 ruleset choices = (and-true, and-false, pick-same, pick-true, pick-false, pick-and, read_on, call_in-pick)
 
--- what is read behind `open`, `close`, `show` and `ask`
-abbrev pub opened : List (List ℕ) → Option Call
-opened ws = option_and_then (λ u. option_and_then (λ _. Some (Open u)) (nothing_left (drop 1 ws))) (first_number ws)
+-- whether a word is left
+pub none_left : (ws : List (List ℕ)) → true ≡ is_some (nothing_left ws) → ws ≡ []
+unfolding nothing_left
+none_left [] e = refl
+none_left (w ∷ ws) e = absurd (true≢false e)
 
+pub some_left : (ws : List (List ℕ)) → false ≡ is_some (nothing_left ws) → ws ≡ [] → ⊥
+unfolding nothing_left
+some_left ws e z = true≢false (sym (e ∙ ap (λ x. is_some (nothing_left x)) z))
+
+-- what is read behind `close` and `show`
 abbrev pub closed : List (List ℕ) → Option Call
 closed ws = option_and_then (λ p. Some (Close p.0 p.1)) (two_numbers ws)
 
 abbrev pub shown : List (List ℕ) → Option Call
 shown ws = option_and_then (λ p. Some (Show p.0 p.1)) (two_numbers ws)
 
-abbrev pub aimed : ℕ → ℕ → List ℕ → List ℕ → List (List ℕ) → Option Call
-aimed u k l h ws =
-    option_and_then (λ a. option_and_then (λ b. option_and_then (λ _. Some (Ask u k l h a b)) (nothing_left (drop 1 (drop 1 ws)))) (first_number (drop 1 ws)))
-    (first_number ws)
+-- two numbers are as many words, and each word is one
+pub two_of_one : (a : List ℕ) → two_numbers (a ∷ []) ≡ None
+unfolding two_numbers first_number number_of
+two_of_one a = simp choices
 
-abbrev pub asked_within : ℕ → ℕ → List ℕ → List ℕ → List (List ℕ) → Option Call
-asked_within u k l h [] = Some (ShortAsk u k l h)
-asked_within u k l h (w ∷ ws) = aimed u k l h (w ∷ ws)
+pub two_of_two :
+    (a b : List ℕ) → two_numbers (a ∷ b ∷ []) ≡ option_and_then (λ u. option_and_then (λ k. Some (u, k)) (number_of b)) (number_of a)
+unfolding two_numbers first_number nothing_left
+two_of_two a b = refl
 
-abbrev pub asked : List (List ℕ) → Option Call
-asked ws =
-    option_and_then
-    (λ u. option_and_then
-    (λ k. option_and_then
-    (λ l. option_and_then (λ h. asked_within u k l h (drop 1 (drop 1 (drop 1 (drop 1 ws))))) (first_bound (drop 1 (drop 1 (drop 1 ws)))))
-    (first_bound (drop 1 (drop 1 ws))))
-    (first_number (drop 1 ws)))
-    (first_number ws)
+pub two_of_more : (a b : List ℕ) (ws : List (List ℕ)) → false ≡ is_some (nothing_left ws) → two_numbers (a ∷ b ∷ ws) ≡ None
+unfolding two_numbers first_number number_of nothing_left
+two_of_more a b [] e = absurd (true≢false (sym e))
+two_of_more a b (w ∷ ws) e = simp choices
 
-pub open_is : (ws : List (List ℕ)) → call_of (ascii "open" ∷ ws) ≡ call_in (opened ws)
-unfolding ascii call_of suits matches open_form close_form show_form short_ask_form ask_form same_list call_in called first_number number_of nothing_left
-open_is [] = simp choices
-open_is (a ∷ []) = simp choices
-open_is (a ∷ b ∷ ws) = simp choices
+-- behind `open` stands one word, a number
+pub open_of_none : call_of (ascii "open" ∷ []) ≡ maths.none
+unfolding ascii call_of suits matches open_form close_form show_form short_ask_form ask_form same_list
+open_of_none = simp choices
+
+pub open_of_one : (a : List ℕ) → call_of (ascii "open" ∷ a ∷ []) ≡ call_in (option_and_then (λ u. Some (Open u)) (number_of a))
+unfolding ascii call_of suits matches open_form close_form show_form short_ask_form ask_form same_list call_in called number_of
+open_of_one a = simp choices
+
+pub open_of_more : (a : List ℕ) (ws : List (List ℕ)) → false ≡ is_some (nothing_left ws) → call_of (ascii "open" ∷ a ∷ ws) ≡ maths.none
+unfolding ascii call_of suits matches open_form close_form show_form short_ask_form ask_form same_list nothing_left
+open_of_more a [] e = absurd (true≢false (sym e))
+open_of_more a (w ∷ ws) e = simp choices
 
 pub close_is : (ws : List (List ℕ)) → call_of (ascii "close" ∷ ws) ≡ call_in (closed ws)
 unfolding ascii call_of suits matches open_form close_form show_form short_ask_form ask_form
@@ -109,29 +119,54 @@ show_is (a ∷ []) = simp choices
 show_is (a ∷ b ∷ []) = simp choices
 show_is (a ∷ b ∷ c ∷ ws) = simp choices
 
-pub ask_is : (ws : List (List ℕ)) → call_of (ascii "ask" ∷ ws) ≡ call_in (asked ws)
-unfolding ascii call_of suits matches open_form close_form show_form short_ask_form ask_form
-    same_list call_in called first_number first_bound number_of bound_of nothing_left
-ask_is [] = simp choices
-ask_is (a ∷ []) = simp choices
-ask_is (a ∷ b ∷ []) = simp choices
-ask_is (a ∷ b ∷ c ∷ []) = simp choices
-ask_is (a ∷ b ∷ c ∷ d ∷ []) = simp choices
-ask_is (a ∷ b ∷ c ∷ d ∷ e ∷ []) = simp choices
-ask_is (a ∷ b ∷ c ∷ d ∷ e ∷ f ∷ []) = simp choices
-ask_is (a ∷ b ∷ c ∷ d ∷ e ∷ f ∷ g ∷ ws) = simp choices
+-- behind `ask` stand four words or six, and each is a number or a bound
+pub ask_of_none : call_of (ascii "ask" ∷ []) ≡ maths.none
+unfolding ascii call_of suits matches open_form close_form show_form short_ask_form ask_form same_list
+ask_of_none = simp choices
 
--- the objectives are read where a word is left
-module _ (u k : ℕ) (l h : List ℕ) where
-  pub objectives_left_out : (ws : List (List ℕ)) → true ≡ is_some (nothing_left ws) → asked_within u k l h ws ≡ Some (ShortAsk u k l h)
-  unfolding nothing_left
-  objectives_left_out [] e = refl
-  objectives_left_out (w ∷ ws) e = absurd (true≢false e)
+pub ask_of_one : (a : List ℕ) → call_of (ascii "ask" ∷ a ∷ []) ≡ maths.none
+unfolding ascii call_of suits matches open_form close_form show_form short_ask_form ask_form same_list
+ask_of_one a = simp choices
 
-  pub objectives_read : (ws : List (List ℕ)) → false ≡ is_some (nothing_left ws) → asked_within u k l h ws ≡ aimed u k l h ws
-  unfolding nothing_left
-  objectives_read [] e = absurd (true≢false (sym e))
-  objectives_read (w ∷ ws) e = refl
+pub ask_of_two : (a b : List ℕ) → call_of (ascii "ask" ∷ a ∷ b ∷ []) ≡ maths.none
+unfolding ascii call_of suits matches open_form close_form show_form short_ask_form ask_form same_list
+ask_of_two a b = simp choices
+
+pub ask_of_three : (a b c : List ℕ) → call_of (ascii "ask" ∷ a ∷ b ∷ c ∷ []) ≡ maths.none
+unfolding ascii call_of suits matches open_form close_form show_form short_ask_form ask_form same_list
+ask_of_three a b c = simp choices
+
+pub ask_of_four :
+    (a b c d : List ℕ)
+    → call_of (ascii "ask" ∷ a ∷ b ∷ c ∷ d ∷ [])
+    ≡ call_in (option_and_then
+    (λ u. option_and_then (λ k. option_and_then (λ l. option_and_then (λ h. Some (ShortAsk u k l h)) (bound_of d)) (bound_of c)) (number_of b))
+    (number_of a))
+unfolding ascii call_of suits matches open_form close_form show_form short_ask_form ask_form same_list call_in called number_of bound_of
+ask_of_four a b c d = simp choices
+
+pub ask_of_five : (a b c d e : List ℕ) → call_of (ascii "ask" ∷ a ∷ b ∷ c ∷ d ∷ e ∷ []) ≡ maths.none
+unfolding ascii call_of suits matches open_form close_form show_form short_ask_form ask_form same_list
+ask_of_five a b c d e = simp choices
+
+abbrev pub aimed : ℕ → ℕ → List ℕ → List ℕ → List ℕ → List ℕ → Option Call
+aimed u k l h e f = option_and_then (λ m. option_and_then (λ n. Some (Ask u k l h m n)) (number_of f)) (number_of e)
+
+pub ask_of_six :
+    (a b c d e f : List ℕ)
+    → call_of (ascii "ask" ∷ a ∷ b ∷ c ∷ d ∷ e ∷ f ∷ [])
+    ≡ call_in (option_and_then
+    (λ u. option_and_then (λ k. option_and_then (λ l. option_and_then (λ h. aimed u k l h e f) (bound_of d)) (bound_of c)) (number_of b))
+    (number_of a))
+unfolding ascii call_of suits matches open_form close_form show_form short_ask_form ask_form same_list call_in called number_of bound_of
+ask_of_six a b c d e f = simp choices
+
+pub ask_of_more :
+    (a b c d e f : List ℕ) (ws : List (List ℕ)) → false ≡ is_some (nothing_left ws)
+    → call_of (ascii "ask" ∷ a ∷ b ∷ c ∷ d ∷ e ∷ f ∷ ws) ≡ maths.none
+unfolding ascii call_of suits matches open_form close_form show_form short_ask_form ask_form same_list nothing_left
+ask_of_more a b c d e f [] z = absurd (true≢false (sym z))
+ask_of_more a b c d e f (w ∷ ws) z = simp choices
 
 same : IsBytesEq same_list
 unfolding same_list

@@ -5,19 +5,15 @@ use Rattle.std.specs.Prelude.{List, [], ◌∷◌, ℕ, Option, Some, None, drop
 use Rattle.std.specs.Option.{option_and_then}
 use Rattle.model.specs.Run as model
 use Rattle.model_script.specs.Script.{room}
-use Rattle.script_numerals.specs.Numbers.{number_of, bound_of}
+use Rattle.script_numerals.specs.Numbers.{number_of}
 use Rattle.script_lines.specs.Cutting.{nothing_left}
 use Rattle.script_parse.specs.declared.Call.{Call}
 use Rattle.script_parse.specs.declared.Call.TheVariants.{Open, Close, Show, ShortAsk, Ask}
 
--- the first of the words as a number, and as a bound
+-- the first of the words as a number
 unfoldable pub first_number : List (List ℕ) → Option ℕ
 first_number [] = None
 first_number (w ∷ ws) = number_of w
-
-unfoldable pub first_bound : List (List ℕ) → Option (List ℕ)
-first_bound [] = None
-first_bound (w ∷ ws) = bound_of w
 
 -- the words are two numbers
 unfoldable pub two_numbers : List (List ℕ) → Option (ℕ × ℕ)

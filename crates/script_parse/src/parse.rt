@@ -1,46 +1,33 @@
-// The call that a line is. Each function but the last reads words up to the end of the line.
-ghost use Rattle.std.specs.Prelude.{◌≡◌, ◌∷◌, drop};
+// The call that a line is. Each function that takes `words` reads them up to the end of the line; no word is read as a
+// number or a bound before the line is known to have as many words as its form.
+ghost use Rattle.std.specs.Prelude.{◌≡◌, [], ◌∷◌};
 ghost use Rattle.model_script.specs.Script.{ascii, call_of, parse as parse_of};
 ghost use Rattle.script_lines.specs.Cutting.{words_left};
-ghost use Rattle.script_parse.specs.Reading.{first_number, first_bound, two_numbers, call_in};
+ghost use Rattle.script_parse.specs.Reading.{two_numbers, call_in};
 
 use crate::Call;
 use script_lines::lines::Words;
 use script_numerals::numerals::{decimal, hexadecimal};
 
-// The next word read as a number.
-fn number(words: &mut Words) -> Option<u64>
-    ensures read { result ≡ first_number (words_left words.old) }
-    ensures left { words_left words.new ≡ drop 1 (words_left words.old) }
-{
-    decimal(words.next()?)
-}
-
-// The next word read as a bound.
-fn bound(words: &mut Words) -> Option<[u8; 32]>
-    ensures read { result ≡ first_bound (words_left words.old) }
-    ensures left { words_left words.new ≡ drop 1 (words_left words.old) }
-{
-    hexadecimal(words.next()?)
-}
-
 // A user and a session, and no more words.
 fn user_and_session(words: &mut Words) -> Option<(u64, u64)>
     ensures { result ≡ two_numbers (words_left words.old) }
 {
-    let user = number(words)?;
-    let session = number(words)?;
+    let user = words.next()?;
+    let session = words.next()?;
     words.end()?;
-    Some((user, session))
+    Some((decimal(user)?, decimal(session)?))
 }
 
 // What stands behind `open`.
 fn open(words: &mut Words) -> Option<Call>
     ensures { call_in result ≡ call_of (ascii "open" ∷ words_left words.old) }
 {
-    let user = number(words)?;
+    let user = words.next()?;
     words.end()?;
-    Some(Call::Open { user })
+    Some(Call::Open {
+        user: decimal(user)?,
+    })
 }
 
 // What stands behind `close`.
@@ -59,32 +46,39 @@ fn show(words: &mut Words) -> Option<Call>
     Some(Call::Show { user, session })
 }
 
+// The words behind `ask` where the objectives are left out.
+fn short_ask(user: &[u8], session: &[u8], lower: &[u8], upper: &[u8]) -> Option<Call>
+    ensures { call_in result ≡ call_of (ascii "ask" ∷ user.now ∷ session.now ∷ lower.now ∷ upper.now ∷ []) }
+{
+    Some(Call::ShortAsk {
+        user: decimal(user)?,
+        session: decimal(session)?,
+        lower: hexadecimal(lower)?,
+        upper: hexadecimal(upper)?,
+    })
+}
+
 // What stands behind `ask`: the objectives may be left out.
 fn ask(words: &mut Words) -> Option<Call>
     ensures { call_in result ≡ call_of (ascii "ask" ∷ words_left words.old) }
 {
-    let user = number(words)?;
-    let session = number(words)?;
-    let lower = bound(words)?;
-    let upper = bound(words)?;
+    let user = words.next()?;
+    let session = words.next()?;
+    let lower = words.next()?;
+    let upper = words.next()?;
     if words.end().is_some() {
-        return Some(Call::ShortAsk {
-            user,
-            session,
-            lower,
-            upper,
-        });
+        return short_ask(user, session, lower, upper);
     }
-    let first = number(words)?;
-    let second = number(words)?;
+    let first = words.next()?;
+    let second = words.next()?;
     words.end()?;
     Some(Call::Ask {
-        user,
-        session,
-        lower,
-        upper,
-        first,
-        second,
+        user: decimal(user)?,
+        session: decimal(session)?,
+        lower: hexadecimal(lower)?,
+        upper: hexadecimal(upper)?,
+        first: decimal(first)?,
+        second: decimal(second)?,
     })
 }
 

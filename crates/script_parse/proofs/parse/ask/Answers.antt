@@ -1,126 +1,206 @@
--- The words are read one by one, and the objectives where they are not left out.
+-- The words first, and then what they are.
 -- Assumes nothing.
 use mathlib.Core.Path.{sym, ap, ◌∙◌}
 use Rattle.std.specs.Option.{is_some}
-use Rattle.script_lines.specs.Cutting.{words_left}
-use Rattle.script_parse.proofs.FormLaws.{ask_is, objectives_left_out, objectives_read}
+use Rattle.script_parse.specs.Reading.{call_in}
+use Rattle.script_parse.proofs.FormLaws.{none_left, some_left, ask_of_none, ask_of_one, ask_of_two, ask_of_three, ask_of_five, ask_of_six, ask_of_more}
 use Rattle.script_parse.proofs.parse.ask.Goals as goal
 
 pub returns-in_err-user : goal.returns-in_err-user
+unfolding call_in
 returns-in_err-user c =
-    rw c.from_residual.ensures (sym (ask_is _ ∙ rw (← c.in_err-user.ensures.read)))
+    rw (
+      c.from_residual.ensures,
+      c.in_err-user.ensures.steps.0,
+    ) (sym ask_of_none)
 
 pub returns-in_err-session : goal.returns-in_err-session
+unfolding call_in
 returns-in_err-session c =
-    rw c.from_residual-in_err-session.ensures (sym (ask_is _ ∙ rw (← c.in_ok-user.ensures.read, ← c.number.ensures.left, ← c.in_err-session.ensures.read)))
+    rw (
+      c.from_residual-in_err-session.ensures,
+      c.in_ok-user.ensures.steps,
+      c.in_err-session.ensures.steps.0,
+    ) (sym (ask_of_one _))
 
 pub returns-in_err-lower : goal.returns-in_err-lower
+unfolding call_in
 returns-in_err-lower c =
-    rw c.from_residual-in_err-lower.ensures (sym (ask_is _ ∙ rw
-    (← c.in_ok-user.ensures.read, ← c.number.ensures.left, ← c.in_ok-session.ensures.read, ← c.number-2.ensures.left, ← c.in_err-lower.ensures.read)))
+    rw (
+      c.from_residual-in_err-lower.ensures,
+      c.in_ok-user.ensures.steps,
+      c.in_ok-session.ensures.steps,
+      c.in_err-lower.ensures.steps.0,
+    ) (sym (ask_of_two _ _))
 
 pub returns-in_err-upper : goal.returns-in_err-upper
+unfolding call_in
 returns-in_err-upper c =
-    rw c.from_residual-in_err-upper.ensures (sym (ask_is _ ∙ rw (
-      ← c.in_ok-user.ensures.read,
-      ← c.number.ensures.left,
-      ← c.in_ok-session.ensures.read,
-      ← c.number-2.ensures.left,
-      ← c.in_ok-lower.ensures.read,
-      ← c.bound.ensures.left,
-      ← c.in_err-upper.ensures.read,
-    )))
+    rw (
+      c.from_residual-in_err-upper.ensures,
+      c.in_ok-user.ensures.steps,
+      c.in_ok-session.ensures.steps,
+      c.in_ok-lower.ensures.steps,
+      c.in_err-upper.ensures.steps.0,
+    ) (sym (ask_of_three _ _ _))
 
 pub returns-then-is_some : goal.returns-then-is_some
 returns-then-is_some c =
-    let e = objectives_left_out c.in_ok-user.user c.in_ok-session.session c.in_ok-lower.lower c.in_ok-upper.upper (words_left c.bound-2.new.words)
-    (c.if-is_some.ensures ∙ ap is_some c.end.ensures) in
-    sym (ask_is _ ∙ rw (
-      ← c.in_ok-user.ensures.read,
-      ← c.number.ensures.left,
-      ← c.in_ok-session.ensures.read,
-      ← c.number-2.ensures.left,
-      ← c.in_ok-lower.ensures.read,
-      ← c.bound.ensures.left,
-      ← c.in_ok-upper.ensures.read,
-      ← c.bound-2.ensures.left,
-      e,
-    ))
+    rw (
+      c.in_ok-user.ensures.steps,
+      c.in_ok-session.ensures.steps,
+      c.in_ok-lower.ensures.steps,
+      c.in_ok-upper.ensures.steps,
+      none_left _ (c.if-is_some.ensures ∙ ap is_some c.end.ensures),
+    ) c.short_ask.ensures
 
 pub returns-in_err-first : goal.returns-in_err-first
-returns-in_err-first c =
-    let e = objectives_read c.in_ok-user.user c.in_ok-session.session c.in_ok-lower.lower c.in_ok-upper.upper (words_left c.bound-2.new.words)
-    (c.if-is_some.ensures ∙ ap is_some c.end.ensures) in
-    rw c.from_residual-in_err-first.ensures (sym (ask_is _ ∙ rw (
-      ← c.in_ok-user.ensures.read,
-      ← c.number.ensures.left,
-      ← c.in_ok-session.ensures.read,
-      ← c.number-2.ensures.left,
-      ← c.in_ok-lower.ensures.read,
-      ← c.bound.ensures.left,
-      ← c.in_ok-upper.ensures.read,
-      ← c.bound-2.ensures.left,
-      e,
-      ← c.in_err-first.ensures.read,
-    )))
+returns-in_err-first c = absurd (some_left _ (c.if-is_some.ensures ∙ ap is_some c.end.ensures) c.in_err-first.ensures.steps.0)
 
 pub returns-in_err-second : goal.returns-in_err-second
+unfolding call_in
 returns-in_err-second c =
-    let e = objectives_read c.in_ok-user.user c.in_ok-session.session c.in_ok-lower.lower c.in_ok-upper.upper (words_left c.bound-2.new.words)
-    (c.if-is_some.ensures ∙ ap is_some c.end.ensures) in
-    rw c.from_residual-in_err-second.ensures (sym (ask_is _ ∙ rw (
-      ← c.in_ok-user.ensures.read,
-      ← c.number.ensures.left,
-      ← c.in_ok-session.ensures.read,
-      ← c.number-2.ensures.left,
-      ← c.in_ok-lower.ensures.read,
-      ← c.bound.ensures.left,
-      ← c.in_ok-upper.ensures.read,
-      ← c.bound-2.ensures.left,
-      e,
-      ← c.in_ok-first.ensures.read,
-      ← c.number-3.ensures.left,
-      ← c.in_err-second.ensures.read,
-    )))
-
-pub returns-in_err-end : goal.returns-in_err-end
-returns-in_err-end c =
-    let e = objectives_read c.in_ok-user.user c.in_ok-session.session c.in_ok-lower.lower c.in_ok-upper.upper (words_left c.bound-2.new.words)
-    (c.if-is_some.ensures ∙ ap is_some c.end.ensures) in
-    rw c.from_residual-in_err-end.ensures (sym (ask_is _ ∙ rw (
-      ← c.in_ok-user.ensures.read,
-      ← c.number.ensures.left,
-      ← c.in_ok-session.ensures.read,
-      ← c.number-2.ensures.left,
-      ← c.in_ok-lower.ensures.read,
-      ← c.bound.ensures.left,
-      ← c.in_ok-upper.ensures.read,
-      ← c.bound-2.ensures.left,
-      e,
-      ← c.in_ok-first.ensures.read,
-      ← c.number-3.ensures.left,
-      ← c.in_ok-second.ensures.read,
-      ← c.number-4.ensures.left,
-      ← c.in_err-end.ensures,
-    )))
+    rw (
+      c.from_residual-in_err-second.ensures,
+      c.in_ok-user.ensures.steps,
+      c.in_ok-session.ensures.steps,
+      c.in_ok-lower.ensures.steps,
+      c.in_ok-upper.ensures.steps,
+      c.in_ok-first.ensures.steps,
+      c.in_err-second.ensures.steps.0,
+    ) (sym (ask_of_five _ _ _ _ _))
 
 pub returns : goal.returns
 returns c =
-    let e = objectives_read c.in_ok-user.user c.in_ok-session.session c.in_ok-lower.lower c.in_ok-upper.upper (words_left c.bound-2.new.words)
-    (c.if-is_some.ensures ∙ ap is_some c.end.ensures) in
-    sym (ask_is _ ∙ rw (
-      ← c.in_ok-user.ensures.read,
-      ← c.number.ensures.left,
-      ← c.in_ok-session.ensures.read,
-      ← c.number-2.ensures.left,
-      ← c.in_ok-lower.ensures.read,
-      ← c.bound.ensures.left,
-      ← c.in_ok-upper.ensures.read,
-      ← c.bound-2.ensures.left,
-      e,
-      ← c.in_ok-first.ensures.read,
-      ← c.number-3.ensures.left,
-      ← c.in_ok-second.ensures.read,
-      ← c.number-4.ensures.left,
-      ← c.in_ok-end.ensures,
-    ))
+    rw (
+      c.in_ok-user.ensures.steps,
+      c.in_ok-session.ensures.steps,
+      c.in_ok-lower.ensures.steps,
+      c.in_ok-upper.ensures.steps,
+      c.in_ok-first.ensures.steps,
+      c.in_ok-second.ensures.steps,
+      none_left _ (ap is_some c.in_ok-end.ensures),
+    ) (sym (ask_of_six _ _ _ _ _ _ ∙ rw (
+      ← c.in_ok-decimal.ensures,
+      ← c.in_ok-decimal-2.ensures,
+      ← c.in_ok-hexadecimal.ensures,
+      ← c.in_ok-hexadecimal-2.ensures,
+      ← c.in_ok-decimal-3.ensures,
+      ← c.in_ok-decimal-4.ensures,
+    )))
+
+pub returns-in_err-decimal : goal.returns-in_err-decimal
+returns-in_err-decimal c =
+    rw (
+      c.from_residual-in_err-decimal.ensures,
+      c.in_ok-user.ensures.steps,
+      c.in_ok-session.ensures.steps,
+      c.in_ok-lower.ensures.steps,
+      c.in_ok-upper.ensures.steps,
+      c.in_ok-first.ensures.steps,
+      c.in_ok-second.ensures.steps,
+      none_left _ (ap is_some c.in_ok-end.ensures),
+    ) (sym (ask_of_six _ _ _ _ _ _ ∙ rw (← c.in_err-decimal.ensures)))
+
+pub returns-in_err-decimal-2 : goal.returns-in_err-decimal-2
+returns-in_err-decimal-2 c =
+    rw (
+      c.from_residual-in_err-decimal-2.ensures,
+      c.in_ok-user.ensures.steps,
+      c.in_ok-session.ensures.steps,
+      c.in_ok-lower.ensures.steps,
+      c.in_ok-upper.ensures.steps,
+      c.in_ok-first.ensures.steps,
+      c.in_ok-second.ensures.steps,
+      none_left _ (ap is_some c.in_ok-end.ensures),
+    ) (sym (ask_of_six _ _ _ _ _ _ ∙ rw (
+      ← c.in_ok-decimal.ensures,
+      ← c.in_err-decimal-2.ensures,
+    )))
+
+pub returns-in_err-hexadecimal : goal.returns-in_err-hexadecimal
+returns-in_err-hexadecimal c =
+    rw (
+      c.from_residual-in_err-hexadecimal.ensures,
+      c.in_ok-user.ensures.steps,
+      c.in_ok-session.ensures.steps,
+      c.in_ok-lower.ensures.steps,
+      c.in_ok-upper.ensures.steps,
+      c.in_ok-first.ensures.steps,
+      c.in_ok-second.ensures.steps,
+      none_left _ (ap is_some c.in_ok-end.ensures),
+    ) (sym (ask_of_six _ _ _ _ _ _ ∙ rw (
+      ← c.in_ok-decimal.ensures,
+      ← c.in_ok-decimal-2.ensures,
+      ← c.in_err-hexadecimal.ensures,
+    )))
+
+pub returns-in_err-hexadecimal-2 : goal.returns-in_err-hexadecimal-2
+returns-in_err-hexadecimal-2 c =
+    rw (
+      c.from_residual-in_err-hexadecimal-2.ensures,
+      c.in_ok-user.ensures.steps,
+      c.in_ok-session.ensures.steps,
+      c.in_ok-lower.ensures.steps,
+      c.in_ok-upper.ensures.steps,
+      c.in_ok-first.ensures.steps,
+      c.in_ok-second.ensures.steps,
+      none_left _ (ap is_some c.in_ok-end.ensures),
+    ) (sym (ask_of_six _ _ _ _ _ _ ∙ rw (
+      ← c.in_ok-decimal.ensures,
+      ← c.in_ok-decimal-2.ensures,
+      ← c.in_ok-hexadecimal.ensures,
+      ← c.in_err-hexadecimal-2.ensures,
+    )))
+
+pub returns-in_err-decimal-3 : goal.returns-in_err-decimal-3
+returns-in_err-decimal-3 c =
+    rw (
+      c.from_residual-in_err-decimal-3.ensures,
+      c.in_ok-user.ensures.steps,
+      c.in_ok-session.ensures.steps,
+      c.in_ok-lower.ensures.steps,
+      c.in_ok-upper.ensures.steps,
+      c.in_ok-first.ensures.steps,
+      c.in_ok-second.ensures.steps,
+      none_left _ (ap is_some c.in_ok-end.ensures),
+    ) (sym (ask_of_six _ _ _ _ _ _ ∙ rw (
+      ← c.in_ok-decimal.ensures,
+      ← c.in_ok-decimal-2.ensures,
+      ← c.in_ok-hexadecimal.ensures,
+      ← c.in_ok-hexadecimal-2.ensures,
+      ← c.in_err-decimal-3.ensures,
+    )))
+
+pub returns-in_err-decimal-4 : goal.returns-in_err-decimal-4
+returns-in_err-decimal-4 c =
+    rw (
+      c.from_residual-in_err-decimal-4.ensures,
+      c.in_ok-user.ensures.steps,
+      c.in_ok-session.ensures.steps,
+      c.in_ok-lower.ensures.steps,
+      c.in_ok-upper.ensures.steps,
+      c.in_ok-first.ensures.steps,
+      c.in_ok-second.ensures.steps,
+      none_left _ (ap is_some c.in_ok-end.ensures),
+    ) (sym (ask_of_six _ _ _ _ _ _ ∙ rw (
+      ← c.in_ok-decimal.ensures,
+      ← c.in_ok-decimal-2.ensures,
+      ← c.in_ok-hexadecimal.ensures,
+      ← c.in_ok-hexadecimal-2.ensures,
+      ← c.in_ok-decimal-3.ensures,
+      ← c.in_err-decimal-4.ensures,
+    )))
+
+pub returns-in_err-end : goal.returns-in_err-end
+unfolding call_in
+returns-in_err-end c =
+    rw (
+      c.from_residual-in_err-end.ensures,
+      c.in_ok-user.ensures.steps,
+      c.in_ok-session.ensures.steps,
+      c.in_ok-lower.ensures.steps,
+      c.in_ok-upper.ensures.steps,
+      c.in_ok-first.ensures.steps,
+      c.in_ok-second.ensures.steps,
+    ) (sym (ask_of_more _ _ _ _ _ _ _ (ap is_some c.in_err-end.ensures)))

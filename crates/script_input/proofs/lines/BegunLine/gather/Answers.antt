@@ -1,37 +1,23 @@
-use borrow.Author.Rules.{rules}
-use mathlib.Core.Path.{◌≡◌, refl, ◌∙◌}
-use lib.ListN.{length}
-use Rattle.script_input.proofs.Steps.{goes_on}
+-- The bytes as far as the first newline are kept, or all of them.
+-- Assumes nothing.
+use Rattle.std.proofs.Common.{rules, ap, ◌∙◌, arith, tests}
+use Prim.Native.Nat.{◌-◌}
+use mathlib.Core.Path.{◌≡◌}
+use lib.ListN.{length, take, drop, length-drop}
+use lib.Seq.{take_all}
+use Rattle.std.proofs.lemmas.Iterator.{YieldsList-from_slice}
+use Rattle.std.proofs.lemmas.Iterator.Search.{position_from_yields_List}
+use Rattle.std.specs.List.{position_or_len}
+use Rattle.script_input.specs.Buffers.{keeping_all}
+use Rattle.script_input.proofs.Steps.{is_newline, newline_place, gathered}
 use Rattle.script_input.proofs.lines.BegunLine.gather.Goals as goal
-
-pub loop-i-init : goal.loop-i-init
-loop-i-init c = (search rules, search rules, search rules, λ more. refl)
-
-pub returns-then-c-eq10 : goal.returns-then-c-eq10
-returns-then-c-eq10 c =
-    record {
-      onward = search rules;
-      inside = search rules;
-      newline = λ h. c.if-c-eq10.true;
-      same = c.loop-i.invariant.3;
-    }
-
-pub loop-i-preserved : goal.loop-i-preserved
-loop-i-preserved c = (
-  search rules,
-  search rules,
-  search rules,
-  λ more.
-      c.loop-i.invariant.3 more
-      ∙ goes_on c.args.chunk.now c.loop-i.i c.loop-i.self _ (search rules) c.if-c-eq10.false c.keep.ensures more,
-)
 
 pub returns : goal.returns
 returns c =
-    let e : c.loop-i.i ≡ length c.args.chunk.now = search rules in
-    record {
-      onward = search rules;
-      inside = search rules;
-      newline = λ h. search rules;
-      same = λ more. rw (← e) (c.loop-i.invariant.3 more);
-    }
+    let xs = take (length c.args.chunk.now - c.args.next) (drop c.args.next c.args.chunk.now) in
+    let e = position_from_yields_List is_newline _ _ c.position.result c.position.ensures.ran (YieldsList-from_slice xs c.iter.ensures.rest)
+    (λ x b q k. search (rules, tests)) in
+    let t : xs ≡ drop c.args.next c.args.chunk.now = take_all _ _ (omega (arith, length-drop c.args.next c.args.chunk.now)) in
+    gathered c.args.chunk.now c.args.next c.unwrap_or-count.result c.args.self.now c.keep_all.new.self c.requires
+    (newline_place xs _ _ e c.unwrap_or-count.ensures ∙ ap (position_or_len is_newline) t)
+    (c.keep_all.ensures ∙ ap (λ x. keeping_all c.args.self.now (take c.unwrap_or-count.result x)) t)
